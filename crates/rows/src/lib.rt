@@ -1,0 +1,2 @@
+// Row arithmetic: pixels and intermediates along a row, for bytes and for 16-bit pixels.
+pub mod numbers;
