@@ -1,0 +1,3 @@
+-- Laws, by what they are about.
+pub mod Refuse
+pub mod Limits

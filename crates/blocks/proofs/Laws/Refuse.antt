@@ -1,0 +1,66 @@
+-- What a number tells: 0, that every test is met. What a buffer holds then, and otherwise. Assumes nothing.
+use mathlib.Core.Path.{_≡_, refl, sym, ap, _∙_}
+use mathlib.Core.Bool.{Bool, true, false, _&&_}
+use mathlib.Core.List.{List, [], _∷_}
+use Prim.Native.Nat.{ℕ, zero, suc, _+_, _-_, _*_, _≤_, _<_}
+use native.Mathlib.Omega.{arith}
+use borrow.Author.Tests.{leb-true}
+use lib.Dec.{leb}
+use Rattle.rows.proofs.Laws.Fill.{and-true}
+use Rattle.blocks.specs.Refuse.{Reason, size, stride, number, table, read, written, above64, matrix, numberOf, Test, need, lowest, orSame, sizeOk, strideOk, holds}
+
+-- each test of the list is met: a product, one part for each test
+abbrev pub Met : List Test → Type 0
+Met [] = Unit {0}
+Met (t ∷ ts) = (t .meets ≡ true) × Met ts
+
+-- no reason has the number 0
+not-zero : (r : Reason) → numberOf r ≡ 0 → ⊥
+not-zero size e = omega arith
+not-zero stride e = omega arith
+not-zero number e = omega arith
+not-zero table e = omega arith
+not-zero read e = omega arith
+not-zero written e = omega arith
+not-zero above64 e = omega arith
+not-zero matrix e = omega arith
+
+first-met : (b : Bool) (r : Reason) (rest : ℕ) → need b (numberOf r) rest ≡ 0 → (b ≡ true) × (rest ≡ 0)
+unfolding need
+first-met true r rest e = (refl, e)
+first-met false r rest e = absurd (not-zero r e)
+
+-- 0 is given only where all tests are met: the one law that turns a number into what a kernel may rely on
+pub all-met : (ts : List Test) → lowest ts ≡ 0 → Met ts
+all-met [] e = tt
+all-met (t ∷ ts) e = let p = first-met (t .meets) (t .reason) (lowest ts) e in (p .0, all-met ts (p .1))
+
+-- and is given where they are
+pub met-all : (ts : List Test) → Met ts → lowest ts ≡ 0
+unfolding need
+met-all [] m = refl
+met-all (t ∷ ts) m = rw (m .0) (met-all ts (m .1))
+
+-- ---- what a test that is met tells
+pub size-met : (most n : ℕ) → sizeOk most n ≡ true → (1 ≤ n) × (n ≤ most)
+unfolding sizeOk
+size-met most n e = let p = and-true (leb 1 n) (leb n most) e in (leb-true 1 n (p .0), leb-true n most (p .1))
+
+pub stride-met : (row s : ℕ) → strideOk row s ≡ true → (row ≤ s) × (s ≤ 32768)
+unfolding strideOk
+stride-met row s e = let p = and-true (leb row s) (leb s 32768) e in (leb-true row s (p .0), leb-true s 32768 (p .1))
+
+pub holds-met : (l s w h : ℕ) → holds l s w h ≡ true → (h - 1) * s + w ≤ l
+unfolding holds
+holds-met l s w h e = leb-true ((h - 1) * s + w) l e
+
+-- ---- what a buffer holds at the end
+module _ {A : Type 0} where
+  pub done : (n : ℕ) (new old : A) → n ≡ 0 → orSame n new old ≡ new
+  unfolding orSame
+  done n new old e = rw e refl
+
+  pub refused : (n : ℕ) (new old : A) → (n ≡ 0 → ⊥) → orSame n new old ≡ old
+  unfolding orSame
+  refused zero new old h = absurd (h refl)
+  refused (suc n) new old h = refl

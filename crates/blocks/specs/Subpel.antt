@@ -1,0 +1,60 @@
+-- `put_8tap` and `prep_8tap`: the number, one for both, and the rule of a block. dl, sl, tl and el are the lengths of dst (or tmp), src, subpel and
+-- ext; depth is the outcome of the depth's test, true for bytes. Assumes nothing.
+use Prim.Native.Nat.{ℕ, _+_, _-_, _*_, min}
+use lib.Dec.{leb, eqb}
+use lib.IntN.{ℤ, pos, negsuc}
+use lib.Signed.{leZ, ltZ}
+use mathlib.Core.Bool.{Bool, _&&_, _||_}
+use mathlib.Core.List.{List, [], _∷_}
+use Rattle.rows.specs.Numbers.{up, between}
+use Rattle.rows.specs.Subpel.{Axis, axis, filterBits, put8, prep8}
+use Rattle.blocks.specs.Refuse.{size, stride, number, table, read, written, _asks_, lowest, sizeOk, blockSide, strideOk, holds, reads, wholeFilters}
+
+-- "Filter type -1 to 2"
+unfoldable pub typeOk : ℤ → Bool
+typeOk filterType = between (negsuc 0) (pos 2) filterType
+
+-- "Fractions 0 to 15 (8-tap with type -1: 0 upward)"
+unfoldable pub fractionOk : ℤ → ℤ → Bool
+fractionOk filterType f = leZ (pos 0) f && (ltZ filterType (pos 0) || leZ f (pos 15))
+
+-- "subpel 5 families of 15 filters (600 numbers)"
+unfoldable pub subpelOk : ℕ → Bool
+subpelOk tl = eqb tl 600
+
+-- "a needed filter isn't in it" can only be said of ext: filter number fraction-1, with type -1
+unfoldable pub filterIn : ℤ → ℤ → ℕ → Bool
+filterIn filterType f el = leZ (pos 0) filterType || leb (8 * up f) el
+
+-- 1 where the axis has a filter, which "fraction 0" hasn't
+abbrev pub on : ℤ → ℕ
+on f = min (up f) 1
+
+abbrev pub subpelNo : (depth : Bool) (dl dstStride sl srcOff srcStride w h : ℕ) (mx my filterType : ℤ) (tl el : ℕ) → ℕ
+subpelNo depth dl dstStride sl srcOff srcStride w h mx my filterType tl el =
+    lowest (
+    size asks sizeOk blockSide w
+    ∷ size asks sizeOk blockSide h
+    ∷ stride asks strideOk w dstStride
+    ∷ stride asks strideOk w srcStride
+    ∷ number asks depth
+    ∷ number asks typeOk filterType
+    ∷ number asks fractionOk filterType mx
+    ∷ number asks fractionOk filterType my
+    ∷ table asks subpelOk tl
+    ∷ table asks wholeFilters el
+    ∷ table asks filterIn filterType mx el
+    ∷ table asks filterIn filterType my el
+    ∷ read asks reads sl srcOff srcStride w h (3 * on mx) (4 * on mx) (3 * on my) (4 * on my)
+    ∷ written asks holds dl dstStride w h
+    ∷ []
+    )
+
+-- the rule of a block of w columns and h rows, on the pixels around a place
+unfoldable pub put8Rule : (M B : ℕ) (subpel ext : List ℤ) (mx my filterType : ℤ) (w h : ℕ) → (ℕ → ℕ → ℕ) → ℕ
+put8Rule M B subpel ext mx my filterType w h =
+    put8 M B (filterBits filterType) (axis subpel ext filterType (up mx) w) (axis subpel ext filterType (up my) h)
+
+unfoldable pub prep8Rule : (B P : ℕ) (subpel ext : List ℤ) (mx my filterType : ℤ) (w h : ℕ) → (ℕ → ℕ → ℕ) → ℤ
+prep8Rule B P subpel ext mx my filterType w h =
+    prep8 B P (filterBits filterType) (axis subpel ext filterType (up mx) w) (axis subpel ext filterType (up my) h)

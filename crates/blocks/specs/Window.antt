@@ -1,0 +1,135 @@
+-- Frames, windows and the row helper: sides, numbers, answers, and the parts that they name. Assumes nothing.
+use Prim.Native.Nat.{ℕ, zero, suc, _+_, _-_, _*_, _/_}
+use lib.Dec.{leb, eqb}
+use lib.IntN.{ℤ, pos, negsuc, natAbs, _+ℤ_, _-ℤ_}
+use lib.ListN.{length}
+use lib.Signed.{leZ, ltZ}
+use mathlib.Core.Bool.{Bool, true, false, _&&_, _||_}
+use mathlib.Core.List.{List, [], _∷_}
+use Rattle.rows.specs.Places.{pick, span, fill}
+use Rattle.rows.specs.Edge.{edge}
+use Rattle.blocks.specs.Refuse.{size, stride, number, read, written, _asks_, lowest, orSame, sizeOk, blockSide, strideOk, holds, holdsAll}
+use Rattle.blocks.specs.Edge.{placeOk}
+use Rattle.blocks.specs.Mask.{flagsOk}
+use Rattle.blocks.specs.declared.window.Frame.{Frame}
+use Rattle.blocks.specs.declared.window.Part.{Part}
+
+-- ---- the frame
+
+-- "a chroma plane's side is the luma side divided by two, rounded down, where its flag is set; a call names luma (0) or chroma (1)"
+unfoldable pub planeSide : (planeNo : ℕ) (flag : Bool) (luma : ℕ) → ℕ
+planeSide planeNo flag luma = pick (eqb planeNo 1 && flag) (luma / 2) luma
+
+abbrev pub planeW : Frame → ℕ → ℕ
+planeW f planeNo = planeSide planeNo (f .«ss_hor») (f .«luma_w»)
+
+abbrev pub planeH : Frame → ℕ → ℕ
+planeH f planeNo = planeSide planeNo (f .«ss_ver») (f .«luma_h»)
+
+-- "Luma sides 1 to 16,384"; "a side of 0 of the named plane is number 1"
+unfoldable pub frameSizesOk : Frame → ℕ → Bool
+frameSizesOk f planeNo = (sizeOk 16384 (f .«luma_w») && sizeOk 16384 (f .«luma_h»)) && (leb 1 (planeW f planeNo) && leb 1 (planeH f planeNo))
+
+-- "a call names luma (0) or chroma (1), else number 3"; "ss_ver without ss_hor"
+unfoldable pub frameNamesOk : Frame → ℕ → Bool
+frameNamesOk f planeNo = flagsOk (f .«ss_hor») (f .«ss_ver») && leb planeNo 1
+
+-- ---- the window of a block; kind is 0 copy, 1 8-tap, 2 bilinear, 3 warp
+
+-- "margins 3 before and 4 after on both axes (8-tap, warp), 0 and 1 (bilinear) or none (copy)"
+unfoldable pub before : ℕ → ℕ
+before kind = pick (eqb kind 1 || eqb kind 3) 3 0
+
+unfoldable pub after : ℕ → ℕ
+after kind = pick (eqb kind 1 || eqb kind 3) 4 (pick (eqb kind 2) 1 0)
+
+-- its sides, from the block's
+abbrev pub windowSide : (kind side : ℕ) → ℕ
+windowSide kind side = before kind + side + after kind
+
+-- its first column or row, from the block's position
+abbrev pub windowStart : (kind : ℕ) → ℤ → ℤ
+windowStart kind x = x -ℤ pos (before kind)
+
+abbrev pub windowNo : (f : Frame) (planeNo pl planeStride kind w h : ℕ) (x y : ℤ) (mode sl : ℕ) → ℕ
+windowNo f planeNo pl planeStride kind w h x y mode sl =
+    lowest (
+    size asks frameSizesOk f planeNo
+    ∷ size asks sizeOk blockSide w
+    ∷ size asks sizeOk blockSide h
+    ∷ stride asks strideOk (planeW f planeNo) planeStride
+    ∷ number asks frameNamesOk f planeNo
+    ∷ number asks leb kind 3
+    ∷ number asks placeOk x
+    ∷ number asks placeOk y
+    ∷ number asks leb mode 1
+    ∷ read asks holds pl planeStride (planeW f planeNo) (planeH f planeNo)
+    ∷ written asks holdsAll sl (windowSide kind w) (windowSide kind h)
+    ∷ []
+    )
+
+-- n columns from x on lie inside a side
+unfoldable pub inside : ℤ → (n side : ℕ) → Bool
+inside x n side = leZ (pos 0) x && leZ (x +ℤ pos n) (pos side)
+
+-- "Mode 0 is the default: if the whole window is inside the plane, the answer is a part of the lent plane"; "Mode 1 always uses scratch"
+unfoldable pub isPlanes : (f : Frame) (planeNo kind w h : ℕ) (x y : ℤ) (mode : ℕ) → Bool
+isPlanes f planeNo kind w h x y mode =
+    eqb mode 0
+    && (inside (windowStart kind x) (windowSide kind w) (planeW f planeNo) && inside (windowStart kind y) (windowSide kind h) (planeH f planeNo))
+
+-- how many places h rows of w at the stride s take: "begins at the window's first pixel and ends after its last"
+abbrev pub partLen : (s w h : ℕ) → ℕ
+partLen s w h = (h - 1) * s + w
+
+-- "One call answers number, buffer (1 plane, 2 scratch), place and stride"; "Scratch has the window's width as stride"
+unfoldable pub windowAt : (planes : Bool) (planeStride ww wh : ℕ) (x y : ℤ) → Part
+windowAt true planeStride ww wh x y =
+    record { number = 0; buffer = 1; place = natAbs y * planeStride + natAbs x; stride = planeStride; len = partLen planeStride ww wh }
+windowAt false planeStride ww wh x y = record { number = 0; buffer = 2; place = 0; stride = ww; len = partLen ww ww wh }
+
+-- refused: the number and zeros
+abbrev pub noPart : ℕ → Part
+noPart verdict = record { number = verdict; buffer = 0; place = 0; stride = 0; len = 0 }
+
+unfoldable pub windowOf : (f : Frame) (planeNo pl planeStride kind w h : ℕ) (x y : ℤ) (mode sl : ℕ) → Part
+windowOf f planeNo pl planeStride kind w h x y mode sl =
+    let verdict = windowNo f planeNo pl planeStride kind w h x y mode sl in
+    orSame verdict
+    (windowAt (isPlanes f planeNo kind w h x y mode) planeStride (windowSide kind w) (windowSide kind h) (windowStart kind x) (windowStart kind y))
+    (noPart verdict)
+
+-- "else scratch is filled by emu_edge"; "only the window's places change"
+unfoldable pub filled : (f : Frame) (planeNo : ℕ) (plane : List ℕ) (planeStride kind w h : ℕ) (x y : ℤ) → List ℕ → List ℕ
+filled f planeNo plane planeStride kind w h x y scratch =
+    fill scratch (windowSide kind w) (windowSide kind w) (windowSide kind h)
+    (edge plane planeStride (planeW f planeNo) (planeH f planeNo) (windowStart kind x) (windowStart kind y))
+
+unfoldable pub scratchOf : (verdict : ℕ) (f : Frame) (planeNo : ℕ) (plane : List ℕ) (planeStride kind w h : ℕ) (x y : ℤ) (mode : ℕ) → List ℕ → List ℕ
+scratchOf verdict f planeNo plane planeStride kind w h x y mode scratch =
+    orSame verdict (pick (isPlanes f planeNo kind w h x y mode) scratch (filled f planeNo plane planeStride kind w h x y scratch)) scratch
+
+-- "a second on the same arguments gives the part, empty where refused"
+unfoldable pub partOf : Part → (plane scratch : List ℕ) → List ℕ
+partOf p plane scratch =
+    pick (eqb (p .buffer) 1) (span plane (p .place) (p .place + p .len))
+    (pick (eqb (p .buffer) 2) (span scratch (p .place) (p .place + p .len)) [])
+
+-- ---- "A helper hands back one row of a plane as a part of it; a row outside 0 to height - 1 is number 3"
+abbrev pub rowNo : (f : Frame) (planeNo pl planeStride : ℕ) (row : ℤ) → ℕ
+rowNo f planeNo pl planeStride row =
+    lowest (
+    size asks frameSizesOk f planeNo
+    ∷ stride asks strideOk (planeW f planeNo) planeStride
+    ∷ number asks frameNamesOk f planeNo
+    ∷ number asks (leZ (pos 0) row && ltZ row (pos (planeH f planeNo)))
+    ∷ read asks holds pl planeStride (planeW f planeNo) (planeH f planeNo)
+    ∷ []
+    )
+
+unfoldable pub rowAt : (f : Frame) (planeNo pl planeStride : ℕ) (row : ℤ) → Part
+rowAt f planeNo pl planeStride row =
+    let verdict = rowNo f planeNo pl planeStride row in
+    orSame verdict
+    (record { number = 0; buffer = 1; place = natAbs row * planeStride; stride = planeStride; len = planeW f planeNo })
+    (noPart verdict)

@@ -1,0 +1,5 @@
+// Block kernels, windows and orders, over the contracts of the rows.
+pub mod order;
+pub mod refuse;
+pub mod shear;
+pub mod window;
