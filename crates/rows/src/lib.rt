@@ -1,2 +1,4 @@
 // Row arithmetic: pixels and intermediates along a row, for bytes and for 16-bit pixels.
+pub mod copy;
+pub mod depth;
 pub mod numbers;
