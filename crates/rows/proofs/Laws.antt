@@ -3,6 +3,7 @@ pub mod Signed
 pub mod Low
 pub mod Depth
 pub mod Sum
+pub mod Added
 pub mod Row
 pub mod Taps
 pub mod Places

@@ -2,3 +2,4 @@
 pub mod copy;
 pub mod depth;
 pub mod numbers;
+pub mod search;

@@ -1,0 +1,44 @@
+// The sum of absolute differences of a row.
+ghost use mathlib.Core.Path.{_≡_};
+ghost use Prim.Native.Nat.{ℕ, _+_, _*_, _<_, _≤_};
+ghost use lib.IntN.{pos};
+ghost use lib.ListN.{length};
+ghost use Rattle.rows.specs.Numbers.{px, apart, sum};
+
+// |a - b|
+fn abs_diff(a: u16, b: u16) -> u32
+    ensures { λ r. ⌜ (r ≡ apart (pos a) (pos b)) × (r < 65536) ⌝ }
+{
+    if a < b {
+        (b - a) as u32
+    } else {
+        (a - b) as u32
+    }
+}
+
+// Of w pixels from place o of p on and from place q of r on.
+pub fn sad_row8(p: &[u8], o: usize, r: &[u8], q: usize, w: usize) -> u32
+    requires { ⌜ (o + w ≤ length (now p)) × (q + w ≤ length (now r)) × (w ≤ 68) ⌝ }
+    ensures { λ s. ⌜ (s ≡ sum w (λ i. apart (px (now (p .entry)) (o + i)) (px (now (r .entry)) (q + i)))) × (s ≤ w * 65535) ⌝ }
+{
+    let mut s: u32 = 0;
+    let mut i = 0;
+    while i < w {
+        s += abs_diff(p[o + i] as u16, r[q + i] as u16);
+        i += 1;
+    }
+    s
+}
+
+pub fn sad_row16(p: &[u16], o: usize, r: &[u16], q: usize, w: usize) -> u32
+    requires { ⌜ (o + w ≤ length (now p)) × (q + w ≤ length (now r)) × (w ≤ 68) ⌝ }
+    ensures { λ s. ⌜ (s ≡ sum w (λ i. apart (px (now (p .entry)) (o + i)) (px (now (r .entry)) (q + i)))) × (s ≤ w * 65535) ⌝ }
+{
+    let mut s: u32 = 0;
+    let mut i = 0;
+    while i < w {
+        s += abs_diff(p[o + i], r[q + i]);
+        i += 1;
+    }
+    s
+}
