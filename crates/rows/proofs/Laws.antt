@@ -6,6 +6,7 @@ pub mod Sum
 pub mod Added
 pub mod Row
 pub mod Taps
+pub mod Filter
 pub mod Places
 pub mod Fill
 pub mod Cut

@@ -3,3 +3,4 @@ pub mod copy;
 pub mod depth;
 pub mod numbers;
 pub mod search;
+pub mod subpel;

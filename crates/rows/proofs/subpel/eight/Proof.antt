@@ -1,0 +1,37 @@
+use native.Mathlib.Omega.{arith}
+use Prim.Native.Nat.{_+_, _*_, _-_}
+use lib.IntN.{pos}
+use mir.Syntax.{w8}
+use Rattle.rows.specs.Numbers.{at}
+use Rattle.rows.specs.Subpel.{filter}
+use Rattle.rows.proofs.Laws.Row.{Upto, upto-none, upto-more, upto-all}
+use Rattle.rows.proofs.Laws.Signed.{back, fit}
+use Rattle.rows.proofs.subpel.eight.Statement.{statement}
+use Rattle.rows.proofs.subpel.eight.Tie as tie
+
+-- the first t taps are copied
+abbrev Inv-loop : tie.InvT-loop
+Inv-loop table n f₀ t₀ f t = Upto (pos 0) (λ k. at table (8 * n + k)) 8 t f
+
+abbrev μ-loop : tie.MeasureT-loop
+μ-loop table n f₀ t₀ f t = 8 - t
+
+returns : tie.Need-returns Inv-loop μ-loop
+unfolding filter
+returns c = upto-all (c .before .loop .inv) (omega arith)
+
+pub eight-spec : {M : Type 1} → statement M
+eight-spec =
+    tie.close
+    (tie.spec
+    Inv-loop
+    μ-loop
+    (λ c. upto-none (pos 0) _ _)  -- loop-holds
+    (λ c. omega arith)  -- 8 * n
+    (λ c. omega arith)  -- 8 * n + t
+    (λ c. omega arith)  -- table[8 * n + t]
+    (λ c. omega arith)  -- f[t] =
+    (λ c. omega arith)  -- t += 1
+    (λ c. omega arith)  -- loop-less
+    (λ c. upto-more (c .before .before .loop .inv) (omega arith) (back (fit w8 (c .f .given))))  -- loop-again
+    returns)

@@ -1,0 +1,26 @@
+use native.Mathlib.Omega.{arith}
+use Prim.Native.Nat.{_^_}
+use lib.IntN.{ℤ, pos, _+ℤ_}
+use lib.Signed.{shrZ, mag-shr}
+use mir.Syntax.{w32}
+use mir.Val.{SFits}
+use Rattle.rows.proofs.Laws.Signed.{back, backn, mag-add}
+use borrow.Author.Needs.{needs}
+use Rattle.rows.proofs.subpel.rounded.Statement.{statement}
+use Rattle.rows.proofs.subpel.rounded.Tie as tie
+
+sum : (c : tie.Start) → SFits w32 (c .args .s +ℤ pos (c .args .r))
+sum c = omega (arith, mag-add (c .args .s) (pos (c .args .r)))
+
+shifted : (c : tie.Start) → SFits w32 (shrZ (c .args .s +ℤ pos (c .args .r)) (2 ^ c .args .n))
+shifted c = omega (arith, sum c, mag-shr (c .args .s +ℤ pos (c .args .r)) (2 ^ c .args .n))
+
+pub rounded-spec : {M : Type 1} → statement M
+rounded-spec =
+    tie.close
+    (tie.spec
+    (λ c. search needs)  -- cast-result
+    (λ c. simp (back (c .fits .s), backn w32 (c .args .r) (omega arith)) (sum c))  -- add-result
+    (λ c. search needs)  -- cast-result-2
+    (λ c. search needs)  -- shr-result
+    (λ c. simp (back (c .fits .s), backn w32 (c .args .r) (omega arith), back (sum c), back (shifted c))))  -- returns

@@ -1,0 +1,21 @@
+use native.Mathlib.Omega.{arith}
+use mir.Syntax.{w32}
+use mir.Val.{SFits}
+use Rattle.rows.proofs.Laws.Signed.{back, back16, abs-mag, reading}
+use borrow.Author.Needs.{needs}
+use Rattle.rows.proofs.subpel.tap_i16.Statement.{statement}
+use Rattle.rows.proofs.subpel.tap_i16.Tie as tie
+
+returns : tie.Need-returns
+returns c =
+    let s = c .before in
+    let fr : SFits w32 (c .tap .result) = omega arith in
+    rw (back fr) (rw (back (s .fits .acc), back (s .fits .f), back16 (s .fits .x)) at (c .tap .ensures))
+
+pub tap-i16-spec : {M : Type 1} → statement M
+tap-i16-spec =
+    tie.close
+    (tie.spec
+    (λ c. search reading)  -- cast-tap
+    (λ c κs. simp (back (c .fits .acc), back16 (c .fits .x)) (omega (arith, abs-mag (c .args .x))))  -- tap-requires
+    returns)
