@@ -1,3 +1,5 @@
 -- Laws, by what they are about.
 pub mod Refuse
 pub mod Limits
+pub mod Rows
+pub mod Ready

@@ -1,4 +1,4 @@
--- `w_mask`: the number. l1, l2 and ml are the lengths of the two intermediates and the mask; depth is the outcome of the depth's test, true for
+-- `w_mask`: the tests of a call. l1, l2 and ml are the lengths of the two intermediates and the mask; depth is the outcome of the depth's test, true for
 -- bytes. Assumes nothing.
 use Prim.Native.Nat.{ℕ, _/_, _%_}
 use lib.Dec.{eqb}
@@ -7,7 +7,7 @@ use mathlib.Core.Bool.{Bool, true, false, not, _&&_, _||_}
 use mathlib.Core.List.{List, [], _∷_}
 use Rattle.rows.specs.Numbers.{between}
 use Rattle.rows.specs.Places.{pick}
-use Rattle.blocks.specs.Refuse.{size, stride, number, read, written, _asks_, lowest, sizeOk, blockSide, strideOk, holds, holdsAll}
+use Rattle.blocks.specs.Refuse.{Test, size, stride, number, read, written, _asks_, sizeOk, blockSide, strideOk, holds, holdsAll}
 
 -- "odd w with ss_hor, or odd h with ss_ver"
 unfoldable pub evenOk : Bool → ℕ → Bool
@@ -26,9 +26,8 @@ unfoldable pub signOk : ℤ → Bool
 signOk sign = between (pos 0) (pos 1) sign
 
 -- "A buffer both read and written (.. the mask of w_mask ..) counts as written only"
-abbrev pub wMaskNo : (depth : Bool) (dl dstStride l1 l2 w h ml maskStride : ℕ) (sign : ℤ) (ssHor ssVer : Bool) → ℕ
-wMaskNo depth dl dstStride l1 l2 w h ml maskStride sign ssHor ssVer =
-    lowest (
+abbrev pub wMaskTests : (depth : Bool) (dl dstStride l1 l2 w h ml maskStride : ℕ) (sign : ℤ) (ssHor ssVer : Bool) → List Test
+wMaskTests depth dl dstStride l1 l2 w h ml maskStride sign ssHor ssVer =
     size asks sizeOk blockSide w
     ∷ size asks sizeOk blockSide h
     ∷ size asks evenOk ssHor w
@@ -43,4 +42,3 @@ wMaskNo depth dl dstStride l1 l2 w h ml maskStride sign ssHor ssVer =
     ∷ written asks holds dl dstStride w h
     ∷ written asks holds ml maskStride (maskSide ssHor w) (maskSide ssVer h)
     ∷ []
-    )

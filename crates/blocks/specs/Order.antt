@@ -9,7 +9,7 @@ use Rattle.rows.specs.Copy.{put, prep}
 use Rattle.rows.specs.Bilinear.{putBilin, prepBilin}
 use Rattle.rows.specs.Warp.{allThere, warpPut, warpPrep}
 use Rattle.rows.specs.Edge.{endless, edge, aroundAt}
-use Rattle.blocks.specs.Refuse.{size, stride, number, table, read, written, _asks_, lowest, sizeOk, blockSide, strideOk, holds, holdsAll, wholeFilters}
+use Rattle.blocks.specs.Refuse.{Test, size, stride, number, table, read, written, _asks_, sizeOk, blockSide, strideOk, holds, holdsAll, wholeFilters}
 use Rattle.blocks.specs.Edge.{placeOk}
 use Rattle.blocks.specs.Subpel.{typeOk, fractionOk, subpelOk, filterIn, put8Rule, prep8Rule}
 use Rattle.blocks.specs.Bilinear.{sixteenthOk}
@@ -50,9 +50,8 @@ filtersOk (Warp s) el wl = allThere (wl / 8) (s .mx) (s .my) (s .a) (s .b) (s .c
 
 -- depth is the outcome of the depth's test, true for bytes; named says that the kind's number was one of the four. tl, el and wl are the lengths of
 -- subpel, ext and warp, pl of the plane, sl of scratch, dl of dst (or tmp)
-abbrev pub orderNo : (depth named : Bool) (f : Frame) (planeNo pl planeStride : ℕ) (o : Order) (tl el wl sl dl dstStride : ℕ) → ℕ
-orderNo depth named f planeNo pl planeStride o tl el wl sl dl dstStride =
-    lowest (
+abbrev pub orderTests : (depth named : Bool) (f : Frame) (planeNo pl planeStride : ℕ) (o : Order) (tl el wl sl dl dstStride : ℕ) → List Test
+orderTests depth named f planeNo pl planeStride o tl el wl sl dl dstStride =
     size asks frameSizesOk f planeNo
     ∷ size asks sizeOk blockSide (o .w)
     ∷ size asks sizeOk blockSide (o .h)
@@ -73,7 +72,6 @@ orderNo depth named f planeNo pl planeStride o tl el wl sl dl dstStride =
     ∷ written asks holdsAll sl (windowSide (kindNumber (o .kind)) (o .w)) (windowSide (kindNumber (o .kind)) (o .h))
     ∷ written asks holds dl dstStride (o .w) (o .h)
     ∷ []
-    )
 
 -- the plane that the order reads: the frame's named plane, for ever
 abbrev pub planeOf : (f : Frame) (planeNo : ℕ) (plane : List ℕ) (planeStride : ℕ) → ℤ → ℤ → ℕ

@@ -1,4 +1,4 @@
--- `resolve_divisor_32`, `get_shear_params`, `set_affine_mv2d`: the numbers, and the record as it comes back. Assumes nothing.
+-- `resolve_divisor_32`, `get_shear_params`, `set_affine_mv2d`: the tests of their calls, and the record as it comes back. Assumes nothing.
 use Prim.Native.Nat.{ℕ, _^_}
 use lib.Dec.{leb, eqb}
 use lib.IntN.{ℤ, pos, natAbs}
@@ -8,7 +8,7 @@ use mathlib.Core.Bool.{Bool, _&&_}
 use mathlib.Core.List.{List, [], _∷_}
 use Rattle.rows.specs.Numbers.{at, between, near}
 use Rattle.rows.specs.Shear.{recipOf, shiftOf, shearA, shearB, shearC, shearD, affineOf, middle, entry0, entry1}
-use Rattle.blocks.specs.Refuse.{size, number, table, matrix, _asks_, lowest, orSame}
+use Rattle.blocks.specs.Refuse.{Test, size, number, table, matrix, _asks_, lowest, orSame}
 use Rattle.blocks.specs.declared.shear.Divisor.{Divisor}
 use Rattle.blocks.specs.declared.shear.WarpParams.{WarpParams}
 
@@ -17,21 +17,21 @@ unfoldable pub recipOk : ℕ → Bool
 recipOk rl = eqb rl 129
 
 -- "d 1 to 2^31 - 1"
-abbrev pub divisorNo : (d rl : ℕ) → ℕ
-divisorNo d rl = lowest (number asks (leb 1 d && leb d 2147483647) ∷ table asks recipOk rl ∷ [])
+abbrev pub divisorTests : (d rl : ℕ) → List Test
+divisorTests d rl = number asks (leb 1 d && leb d 2147483647) ∷ table asks recipOk rl ∷ []
 
 -- the answer; "Every refusal gives zeros for its other results"
 unfoldable pub divisorOf : ℕ → List ℕ → Divisor
 divisorOf d recip =
-    let verdict = divisorNo d (length recip) in
+    let verdict = lowest (divisorTests d (length recip)) in
     orSame verdict (record { number = verdict; y = recipOf recip d; shift = pos (shiftOf d) }) (record { number = verdict; y = pos 0; shift = pos 0 })
 
 -- "Matrix entries 2 to 5 within ±2^22"
 unfoldable pub entriesOk : List ℤ → Bool
 entriesOk m = near (2 ^ 22) (at m 2) && near (2 ^ 22) (at m 3) && near (2 ^ 22) (at m 4) && near (2 ^ 22) (at m 5)
 
-abbrev pub shearNo : List ℤ → (rl : ℕ) → ℕ
-shearNo m rl = lowest (number asks entriesOk m ∷ table asks recipOk rl ∷ matrix asks ltZ (pos 0) (at m 2) ∷ [])
+abbrev pub shearTests : List ℤ → (rl : ℕ) → List Test
+shearTests m rl = number asks entriesOk m ∷ table asks recipOk rl ∷ matrix asks ltZ (pos 0) (at m 2) ∷ []
 
 -- the record with its shears and affine
 unfoldable pub sheared : WarpParams → List ℕ → WarpParams
@@ -43,9 +43,8 @@ sheared wm recip =
     record { matrix = m; abcd = a ∷ b ∷ c ∷ d ∷ []; affine = affineOf a b c d }
 
 -- "bw4, bh4 1 to 64 (sizes); bx4, by4 0 to 16,384; each mv part within ±2^20"
-abbrev pub affineMvNo : (bw4 bh4 mvx mvy : ℤ) → List ℤ → (bx4 by4 : ℤ) → ℕ
-affineMvNo bw4 bh4 mvx mvy m bx4 by4 =
-    lowest (
+abbrev pub affineMvTests : (bw4 bh4 mvx mvy : ℤ) → List ℤ → (bx4 by4 : ℤ) → List Test
+affineMvTests bw4 bh4 mvx mvy m bx4 by4 =
     size asks between (pos 1) (pos 64) bw4
     ∷ size asks between (pos 1) (pos 64) bh4
     ∷ number asks between (pos 0) (pos 16384) bx4
@@ -54,7 +53,6 @@ affineMvNo bw4 bh4 mvx mvy m bx4 by4 =
     ∷ number asks near (2 ^ 20) mvy
     ∷ number asks entriesOk m
     ∷ []
-    )
 
 -- "The other entries stay"
 unfoldable pub withMv : (bw4 bh4 mvx mvy : ℤ) → List ℤ → (bx4 by4 : ℤ) → List ℤ

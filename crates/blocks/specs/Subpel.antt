@@ -1,4 +1,4 @@
--- `put_8tap` and `prep_8tap`: the number, one for both, and the rule of a block. dl, sl, tl and el are the lengths of dst (or tmp), src, subpel and
+-- `put_8tap` and `prep_8tap`: the tests of a call, the same for both, and the rule of a block. dl, sl, tl and el are the lengths of dst (or tmp), src, subpel and
 -- ext; depth is the outcome of the depth's test, true for bytes. Assumes nothing.
 use Prim.Native.Nat.{ℕ, _+_, _-_, _*_, min}
 use lib.Dec.{leb, eqb}
@@ -8,7 +8,7 @@ use mathlib.Core.Bool.{Bool, _&&_, _||_}
 use mathlib.Core.List.{List, [], _∷_}
 use Rattle.rows.specs.Numbers.{up, between}
 use Rattle.rows.specs.Subpel.{Axis, axis, filterBits, put8, prep8}
-use Rattle.blocks.specs.Refuse.{size, stride, number, table, read, written, _asks_, lowest, sizeOk, blockSide, strideOk, holds, reads, wholeFilters}
+use Rattle.blocks.specs.Refuse.{Test, size, stride, number, table, read, written, _asks_, sizeOk, blockSide, strideOk, holds, reads, wholeFilters}
 
 -- "Filter type -1 to 2"
 unfoldable pub typeOk : ℤ → Bool
@@ -30,9 +30,8 @@ filterIn filterType f el = leZ (pos 0) filterType || leb (8 * up f) el
 abbrev pub on : ℤ → ℕ
 on f = min (up f) 1
 
-abbrev pub subpelNo : (depth : Bool) (dl dstStride sl srcOff srcStride w h : ℕ) (mx my filterType : ℤ) (tl el : ℕ) → ℕ
-subpelNo depth dl dstStride sl srcOff srcStride w h mx my filterType tl el =
-    lowest (
+abbrev pub subpelTests : (depth : Bool) (dl dstStride sl srcOff srcStride w h : ℕ) (mx my filterType : ℤ) (tl el : ℕ) → List Test
+subpelTests depth dl dstStride sl srcOff srcStride w h mx my filterType tl el =
     size asks sizeOk blockSide w
     ∷ size asks sizeOk blockSide h
     ∷ stride asks strideOk w dstStride
@@ -48,7 +47,6 @@ subpelNo depth dl dstStride sl srcOff srcStride w h mx my filterType tl el =
     ∷ read asks reads sl srcOff srcStride w h (3 * on mx) (4 * on mx) (3 * on my) (4 * on my)
     ∷ written asks holds dl dstStride w h
     ∷ []
-    )
 
 -- the rule of a block of w columns and h rows, on the pixels around a place
 unfoldable pub put8Rule : (M B : ℕ) (subpel ext : List ℤ) (mx my filterType : ℤ) (w h : ℕ) → (ℕ → ℕ → ℕ) → ℕ

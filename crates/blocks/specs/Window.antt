@@ -8,7 +8,7 @@ use mathlib.Core.Bool.{Bool, true, false, _&&_, _||_}
 use mathlib.Core.List.{List, [], _∷_}
 use Rattle.rows.specs.Places.{pick, span, fill}
 use Rattle.rows.specs.Edge.{edge}
-use Rattle.blocks.specs.Refuse.{size, stride, number, read, written, _asks_, lowest, orSame, sizeOk, blockSide, strideOk, holds, holdsAll}
+use Rattle.blocks.specs.Refuse.{Test, size, stride, number, read, written, _asks_, lowest, orSame, sizeOk, blockSide, strideOk, holds, holdsAll}
 use Rattle.blocks.specs.Edge.{placeOk}
 use Rattle.blocks.specs.Mask.{flagsOk}
 use Rattle.blocks.specs.declared.window.Frame.{Frame}
@@ -51,9 +51,8 @@ windowSide kind side = before kind + side + after kind
 abbrev pub windowStart : (kind : ℕ) → ℤ → ℤ
 windowStart kind x = x -ℤ pos (before kind)
 
-abbrev pub windowNo : (f : Frame) (planeNo pl planeStride kind w h : ℕ) (x y : ℤ) (mode sl : ℕ) → ℕ
-windowNo f planeNo pl planeStride kind w h x y mode sl =
-    lowest (
+abbrev pub windowTests : (f : Frame) (planeNo pl planeStride kind w h : ℕ) (x y : ℤ) (mode sl : ℕ) → List Test
+windowTests f planeNo pl planeStride kind w h x y mode sl =
     size asks frameSizesOk f planeNo
     ∷ size asks sizeOk blockSide w
     ∷ size asks sizeOk blockSide h
@@ -66,7 +65,6 @@ windowNo f planeNo pl planeStride kind w h x y mode sl =
     ∷ read asks holds pl planeStride (planeW f planeNo) (planeH f planeNo)
     ∷ written asks holdsAll sl (windowSide kind w) (windowSide kind h)
     ∷ []
-    )
 
 -- n columns from x on lie inside a side
 unfoldable pub inside : ℤ → (n side : ℕ) → Bool
@@ -94,7 +92,7 @@ noPart verdict = record { number = verdict; buffer = 0; place = 0; stride = 0; l
 
 unfoldable pub windowOf : (f : Frame) (planeNo pl planeStride kind w h : ℕ) (x y : ℤ) (mode sl : ℕ) → Part
 windowOf f planeNo pl planeStride kind w h x y mode sl =
-    let verdict = windowNo f planeNo pl planeStride kind w h x y mode sl in
+    let verdict = lowest (windowTests f planeNo pl planeStride kind w h x y mode sl) in
     orSame verdict
     (windowAt (isPlanes f planeNo kind w h x y mode) planeStride (windowSide kind w) (windowSide kind h) (windowStart kind x) (windowStart kind y))
     (noPart verdict)
@@ -116,20 +114,18 @@ partOf p plane scratch =
     (pick (eqb (p .buffer) 2) (span scratch (p .place) (p .place + p .len)) [])
 
 -- ---- "A helper hands back one row of a plane as a part of it; a row outside 0 to height - 1 is number 3"
-abbrev pub rowNo : (f : Frame) (planeNo pl planeStride : ℕ) (row : ℤ) → ℕ
-rowNo f planeNo pl planeStride row =
-    lowest (
+abbrev pub rowTests : (f : Frame) (planeNo pl planeStride : ℕ) (row : ℤ) → List Test
+rowTests f planeNo pl planeStride row =
     size asks frameSizesOk f planeNo
     ∷ stride asks strideOk (planeW f planeNo) planeStride
     ∷ number asks frameNamesOk f planeNo
     ∷ number asks (leZ (pos 0) row && ltZ row (pos (planeH f planeNo)))
     ∷ read asks holds pl planeStride (planeW f planeNo) (planeH f planeNo)
     ∷ []
-    )
 
 unfoldable pub rowAt : (f : Frame) (planeNo pl planeStride : ℕ) (row : ℤ) → Part
 rowAt f planeNo pl planeStride row =
-    let verdict = rowNo f planeNo pl planeStride row in
+    let verdict = lowest (rowTests f planeNo pl planeStride row) in
     orSame verdict
     (record { number = 0; buffer = 1; place = natAbs row * planeStride; stride = planeStride; len = planeW f planeNo })
     (noPart verdict)

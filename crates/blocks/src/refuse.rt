@@ -1,6 +1,6 @@
 // The tests that entries share: each answers whether a call meets it, and `needed` chains them in the order of their numbers.
 ghost use mathlib.Core.Path.{_≡_};
-ghost use Rattle.blocks.specs.Refuse.{need, sizeOk, strideOk, holds};
+ghost use Rattle.blocks.specs.Refuse.{need, sizeOk, blockSide, strideOk, holds};
 
 // Where the test is met, what the later tests say; else the number.
 pub fn needed(ok: bool, n: u32, rest: u32) -> u32
@@ -34,4 +34,23 @@ pub fn holds_rows(l: usize, s: usize, w: usize, h: usize) -> bool
         return true;
     }
     s <= (l - w) / (h - 1)
+}
+
+// The tests as links of such a chain: both sides of a block, a stride, a buffer of rows.
+pub fn sizes(w: usize, h: usize, rest: u32) -> u32
+    ensures { λ r. ⌜ r ≡ need (sizeOk blockSide w) 1 (need (sizeOk blockSide h) 1 rest) ⌝ }
+{
+    needed(size_ok(64, w), 1, needed(size_ok(64, h), 1, rest))
+}
+
+pub fn stride(row: usize, s: usize, rest: u32) -> u32
+    ensures { λ r. ⌜ r ≡ need (strideOk row s) 2 rest ⌝ }
+{
+    needed(stride_ok(row, s), 2, rest)
+}
+
+pub fn held(l: usize, s: usize, w: usize, h: usize, n: u32, rest: u32) -> u32
+    ensures { λ r. ⌜ r ≡ need (holds l s w h) n rest ⌝ }
+{
+    needed(holds_rows(l, s, w, h), n, rest)
 }

@@ -4,16 +4,16 @@ use mathlib.Core.Bool.{true}
 use mathlib.Core.List.{List, [], _∷_}
 use Prim.Native.Nat.{ℕ, _*_}
 use lib.IntN.{ℤ, pos, negsuc}
-use Rattle.blocks.specs.Refuse.{need, sizeOk, strideOk, holds}
-use Rattle.blocks.specs.Copy.{putNo, prepNo}
-use Rattle.blocks.specs.Shear.{recipOk, entriesOk, shearNo}
+use Rattle.blocks.specs.Refuse.{need, lowest, sizeOk, strideOk, holds}
+use Rattle.blocks.specs.Copy.{putTests, prepTests}
+use Rattle.blocks.specs.Shear.{recipOk, entriesOk, shearTests}
 
 -- a block of one row, w wide, in buffers that hold just that
-put-64 : putNo 64 64 64 64 64 1 ≡ 0
+put-64 : lowest (putTests 64 64 64 64 64 1) ≡ 0
 unfolding need sizeOk strideOk holds
 put-64 = refl
 
-put-65 : putNo 65 65 65 65 65 1 ≡ 1
+put-65 : lowest (putTests 65 65 65 65 65 1) ≡ 1
 unfolding need sizeOk strideOk holds
 put-65 = refl
 
@@ -21,15 +21,15 @@ put-65 = refl
 abbrev matrixOf : ℤ → List ℤ
 matrixOf m2 = pos 0 ∷ pos 0 ∷ m2 ∷ pos 0 ∷ pos 0 ∷ pos 65536 ∷ []
 
-matrix-1 : shearNo (matrixOf (pos 1)) 129 ≡ 0
+matrix-1 : lowest (shearTests (matrixOf (pos 1)) 129) ≡ 0
 unfolding need entriesOk recipOk
 matrix-1 = refl
 
-matrix-0 : shearNo (matrixOf (pos 0)) 129 ≡ 8
+matrix-0 : lowest (shearTests (matrixOf (pos 0)) 129) ≡ 8
 unfolding need entriesOk recipOk
 matrix-0 = refl
 
 -- the lowest number counts: an entry out of range, a short table and entry 2 at 0 together are 3
-lowest-first : shearNo (pos 0 ∷ pos 0 ∷ pos 0 ∷ pos 0 ∷ pos 0 ∷ negsuc 4194304 ∷ []) 128 ≡ 3
+lowest-first : lowest (shearTests (pos 0 ∷ pos 0 ∷ pos 0 ∷ pos 0 ∷ pos 0 ∷ negsuc 4194304 ∷ []) 128) ≡ 3
 unfolding need entriesOk recipOk
 lowest-first = refl

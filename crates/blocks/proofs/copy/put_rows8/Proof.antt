@@ -1,0 +1,56 @@
+use native.Mathlib.Omega.{arith}
+use Prim.Native.Nat.{ℕ, _+_, _-_, _*_, _≤_}
+use mathlib.Core.Path.{_≡_}
+use lib.ListN.{length}
+use borrow.Author.Needs.{needs}
+use Rattle.rows.specs.Places.{pixel}
+use Rattle.rows.specs.Copy.{put}
+use Rattle.blocks.proofs.Laws.Rows.{Filled, filled-none, filled-more, filled-all, filled-span, row-in}
+use Rattle.blocks.proofs.copy.put_rows8.Statement.{statement}
+use Rattle.blocks.proofs.copy.put_rows8.Tie as tie
+
+abbrev Inv-loop : tie.InvT-loop
+Inv-loop dst₀ ds src ss w h y₀ dst y = Filled ds w (λ i j. put (pixel src ss i j)) dst₀ h y dst
+
+abbrev μ-loop : tie.MeasureT-loop
+μ-loop dst₀ ds src ss w h y₀ dst y = h - y
+
+-- the function's entry, from a turn of the loop
+abbrev entry : tie.In-loop Inv-loop μ-loop → tie.Start Inv-loop μ-loop
+entry c = c .before .before .before .before
+
+-- in a turn, row y is within both buffers, and the part lent is as long as the row
+row : (c : tie.In-loop Inv-loop μ-loop) → let a = entry c .args in let y = c .before .loop .y in
+    (y * a .dst-stride + a .w ≤ length (c .before .loop .dst)) × (y * a .src-stride + a .w ≤ length (a .src .now))
+row c =
+    let p = entry c .pre in let y = c .before .loop .y in let lt = c .loop-test .taken in
+    (omega (arith, row-in y (p .1) lt, c .before .loop .inv .len), row-in y (p .2) lt)
+
+copy-row8-requires : tie.Need-copy-row8-requires Inv-loop μ-loop
+copy-row8-requires c κs = omega (arith, row (c .before), filled-span 0 (c .before .before .loop .inv) (entry (c .before) .pre .1) (c .before .loop-test .taken))
+
+loop-again : tie.Need-loop-again Inv-loop μ-loop
+loop-again c =
+    let t = c .before .before .before .before in
+    let p = entry t .pre in
+    filled-more 0 _ (t .before .loop .inv) (p .0 .w1) (p .1) (t .loop-test .taken) (c .before .before .copy-row8 .ensures)
+
+pub put-rows8-spec : {M : Type 1} → statement M
+put-rows8-spec =
+    tie.close
+    (tie.spec
+    Inv-loop
+    μ-loop
+    (λ c. filled-none 0 _ _ _ _ _ (omega (arith, c .before .before .pre)))  -- loop-holds
+    (λ c. omega (arith, row c))  -- mul-d
+    (λ c. omega (arith, row c))  -- add-copy-row8
+    (λ c. omega (arith, row c))  -- sub-copy-row8
+    (λ c. omega (arith, row c))  -- part-copy-row8-start
+    (λ c. omega (arith, row c))  -- part-copy-row8-end
+    (λ c. omega (arith, row (c .before)))  -- mul-copy-row8
+    copy-row8-requires
+    (λ c. search needs)  -- add-y
+    (λ c. search needs)  -- loop-less
+    loop-again
+    (λ c. c .before .loop .inv .len)  -- same-length
+    (λ c. filled-all (c .before .loop .inv) (c .loop-test .left)))  -- returns

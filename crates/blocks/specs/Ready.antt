@@ -1,0 +1,20 @@
+-- What the tests tell where none refuses: what the rows of a kernel rely on. Assumes nothing.
+use Prim.Native.Nat.{ℕ, _+_, _-_, _*_, _≤_}
+
+-- a block of w columns and h rows
+pub record Block (w h : ℕ) : Type 0 where
+  pub w1 : 1 ≤ w
+  pub w64 : w ≤ 64
+  pub h1 : 1 ≤ h
+  pub h64 : h ≤ 64
+
+-- a buffer of l places with h rows of w at the stride s
+pub record Rows (l s w h : ℕ) : Type 0 where
+  pub wide : w ≤ s
+  pub most : s ≤ 32768
+  pub fits : (h - 1) * s + w ≤ l
+
+-- what depends on the depth, as the rows take it
+pub record Bits (bits bias : ℕ) : Type 0 where
+  pub bits4 : bits ≤ 4
+  pub bias13 : bias ≤ 8192
