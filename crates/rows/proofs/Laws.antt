@@ -5,6 +5,7 @@ pub mod Depth
 pub mod Sum
 pub mod Added
 pub mod Row
+pub mod Over
 pub mod Taps
 pub mod Filter
 pub mod Places
@@ -12,4 +13,5 @@ pub mod Fill
 pub mod Cut
 pub mod Kernel
 pub mod Combine
+pub mod Pixel
 pub mod Worked

@@ -1,6 +1,8 @@
 // Row arithmetic: pixels and intermediates along a row, for bytes and for 16-bit pixels.
 pub mod copy;
 pub mod depth;
+pub mod blend;
+pub mod combine;
 pub mod numbers;
 pub mod search;
 pub mod subpel;

@@ -1,0 +1,26 @@
+use borrow.Author.Needs.{needs}
+use native.Mathlib.Omega.{arith}
+use mir.Syntax.{w32}
+use mir.Val.{SFits}
+use Rattle.rows.proofs.Laws.Pixel.{avg-is}
+use Rattle.rows.proofs.Laws.Signed.{back}
+use Rattle.rows.proofs.combine.avg_px.Statement.{statement}
+use Rattle.rows.proofs.combine.avg_px.Tie as tie
+
+returns : tie.Need-returns
+returns c =
+    let s = c .before .before .before in
+    let sum = c .before .mix in
+    let f : SFits w32 (sum .result) = omega arith in
+    rw (c .clip16 .ensures, back f, sum .ensures, back (s .fits .a), back (s .fits .b), c .before .before .rounding .ensures .0)
+    (avg-is (s .args .max) (s .args .bits) (s .args .bias) (s .args .a) (s .args .b))
+
+pub avg-px-spec : {M : Type 1} → statement M
+avg-px-spec =
+    tie.close
+    (tie.spec
+    (λ c κs. search needs)  -- rounding-requires
+    (λ c. search needs)  -- add-mix
+    (λ c κs. search needs)  -- mix-requires
+    (λ c κs. search needs)  -- clip16-requires
+    returns)

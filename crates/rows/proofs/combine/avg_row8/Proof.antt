@@ -1,0 +1,38 @@
+use borrow.Author.Needs.{needs}
+use native.Mathlib.Omega.{arith}
+use mathlib.Core.Path.{_∙_}
+use Prim.Native.Nat.{_-_}
+use lib.ListN.{length}
+use Rattle.rows.specs.Combine.{avg, both}
+use Rattle.rows.proofs.Laws.Pixel.{read-both}
+use Rattle.rows.proofs.Laws.Row.{Upto, upto-none, upto-more, upto-all}
+use Rattle.rows.proofs.combine.avg_row8.Statement.{statement}
+use Rattle.rows.proofs.combine.avg_row8.Tie as tie
+
+abbrev Inv-loop : tie.InvT-loop
+Inv-loop dst₀ tmp1 tmp2 q n i₀ dst i = Upto 0 (both (avg 255 4 0) tmp1 tmp2 q) (length dst₀) i dst
+
+abbrev μ-loop : tie.MeasureT-loop
+μ-loop dst₀ tmp1 tmp2 q n i₀ dst i = length dst₀ - i
+
+loop-again : tie.Need-loop-again Inv-loop μ-loop
+loop-again c =
+    upto-more (c .before .before .before .before .loop .inv) (omega arith)
+    (c .avg-px8 .ensures ∙ read-both (avg _ _ _) (c .before .before .avg-px8-arg .given) (c .before .avg-px8-arg2 .given))
+
+pub avg-row8-spec : {M : Type 1} → statement M
+avg-row8-spec =
+    tie.close
+    (tie.spec
+    Inv-loop
+    μ-loop
+    (λ c. upto-none _ _ _)  -- loop-holds
+    (λ c. omega arith) (λ c. omega arith) (λ c. omega arith)  -- tmp1[q + i]
+    (λ c. omega arith) (λ c. omega arith) (λ c. omega arith)  -- tmp2[q + i]
+    (λ c κs. search needs)  -- avg-px8-requires
+    (λ c. omega arith)  -- dst[i] =
+    (λ c. omega arith)  -- i += 1
+    (λ c. omega arith)  -- loop-less
+    loop-again
+    (λ c. omega arith)  -- same-length
+    (λ c. upto-all (c .before .loop .inv) (omega arith)))  -- returns
