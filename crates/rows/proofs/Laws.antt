@@ -8,6 +8,7 @@ pub mod Row
 pub mod Over
 pub mod Taps
 pub mod Filter
+pub mod Bilinear
 pub mod Places
 pub mod Fill
 pub mod Cut

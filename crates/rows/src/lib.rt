@@ -3,6 +3,7 @@ pub mod copy;
 pub mod depth;
 pub mod blend;
 pub mod combine;
+pub mod bilinear;
 pub mod numbers;
 pub mod search;
 pub mod subpel;

@@ -1,7 +1,7 @@
 // 8-tap rows. A filter's taps stand at place o, o + step, .. o + 7 step: step is 1 along a row, a stride down a column.
 ghost use mathlib.Core.Path.{_≡_};
-ghost use Prim.Native.Nat.{ℕ, _+_, _*_, _^_, _<_, _≤_};
-ghost use lib.IntN.{ℤ, pos, natAbs, _+ℤ_, _*ℤ_};
+ghost use Prim.Native.Nat.{_+_, _*_, _^_, _<_, _≤_};
+ghost use lib.IntN.{pos, natAbs, _+ℤ_, _*ℤ_};
 ghost use lib.ListN.{length};
 ghost use lib.Signed.{mag, shrZ};
 ghost use Rattle.rows.specs.Numbers.{at, px, clip, low16, minus16};
@@ -163,7 +163,8 @@ fn mid_prep_px(mid: &[i16], o: usize, step: usize, f: &[i8; 8], r: u32, n: u32, 
 // Pixels from pixels: put, one axis.
 pub fn tap_row8(dst: &mut [u8], src: &[u8], o: usize, step: usize, f: &[i8; 8], r: u32, n: u32)
     requires { ⌜ (o + length (now dst) + 7 * step ≤ length (now src)) × (r < 2 ^ 20) × (n < 32) ⌝ }
-    ensures { λ _. ⌜ now (dst .exit) ≡ rowOf (length (now (dst .entry))) (λ i. clip 255 (tapped (now (f .entry)) r n (λ t. px (now (src .entry)) (o + i + t * step)))) ⌝ }
+    ensures { λ _. ⌜ now (dst .exit) ≡ rowOf (length (now (dst .entry)))
+        (λ i. clip 255 (tapped (now (f .entry)) r n (λ t. px (now (src .entry)) (o + i + t * step)))) ⌝ }
 {
     let w = dst.len();
     let mut i = 0;
@@ -185,7 +186,8 @@ pub fn tap_row16(
     max: u16,
 )
     requires { ⌜ (o + length (now dst) + 7 * step ≤ length (now src)) × (r < 2 ^ 20) × (n < 32) ⌝ }
-    ensures { λ _. ⌜ now (dst .exit) ≡ rowOf (length (now (dst .entry))) (λ i. clip max (tapped (now (f .entry)) r n (λ t. px (now (src .entry)) (o + i + t * step)))) ⌝ }
+    ensures { λ _. ⌜ now (dst .exit) ≡ rowOf (length (now (dst .entry)))
+        (λ i. clip max (tapped (now (f .entry)) r n (λ t. px (now (src .entry)) (o + i + t * step)))) ⌝ }
 {
     let w = dst.len();
     let mut i = 0;
@@ -208,7 +210,8 @@ pub fn tap_mid_row8(
     bias: i16,
 )
     requires { ⌜ (o + length (now tmp) + 7 * step ≤ length (now src)) × (r < 2 ^ 20) × (n < 32) ⌝ }
-    ensures { λ _. ⌜ now (tmp .exit) ≡ rowOf (length (now (tmp .entry))) (λ i. minus16 (low16 (tapped (now (f .entry)) r n (λ t. px (now (src .entry)) (o + i + t * step)))) bias) ⌝ }
+    ensures { λ _. ⌜ now (tmp .exit) ≡ rowOf (length (now (tmp .entry)))
+        (λ i. minus16 (low16 (tapped (now (f .entry)) r n (λ t. px (now (src .entry)) (o + i + t * step)))) bias) ⌝ }
 {
     let w = tmp.len();
     let mut i = 0;
@@ -230,7 +233,8 @@ pub fn tap_mid_row16(
     bias: i16,
 )
     requires { ⌜ (o + length (now tmp) + 7 * step ≤ length (now src)) × (r < 2 ^ 20) × (n < 32) ⌝ }
-    ensures { λ _. ⌜ now (tmp .exit) ≡ rowOf (length (now (tmp .entry))) (λ i. minus16 (low16 (tapped (now (f .entry)) r n (λ t. px (now (src .entry)) (o + i + t * step)))) bias) ⌝ }
+    ensures { λ _. ⌜ now (tmp .exit) ≡ rowOf (length (now (tmp .entry)))
+        (λ i. minus16 (low16 (tapped (now (f .entry)) r n (λ t. px (now (src .entry)) (o + i + t * step)))) bias) ⌝ }
 {
     let w = tmp.len();
     let mut i = 0;
@@ -244,7 +248,8 @@ pub fn tap_mid_row16(
 // Pixels from intermediates: put, the second pass.
 pub fn mid_row8(dst: &mut [u8], mid: &[i16], o: usize, step: usize, f: &[i8; 8], r: u32, n: u32)
     requires { ⌜ (o + length (now dst) + 7 * step ≤ length (now mid)) × (r < 2 ^ 20) × (n < 32) ⌝ }
-    ensures { λ _. ⌜ now (dst .exit) ≡ rowOf (length (now (dst .entry))) (λ i. clip 255 (tapped (now (f .entry)) r n (λ t. at (now (mid .entry)) (o + i + t * step)))) ⌝ }
+    ensures { λ _. ⌜ now (dst .exit) ≡ rowOf (length (now (dst .entry)))
+        (λ i. clip 255 (tapped (now (f .entry)) r n (λ t. at (now (mid .entry)) (o + i + t * step)))) ⌝ }
 {
     let w = dst.len();
     let mut i = 0;
@@ -266,7 +271,8 @@ pub fn mid_row16(
     max: u16,
 )
     requires { ⌜ (o + length (now dst) + 7 * step ≤ length (now mid)) × (r < 2 ^ 20) × (n < 32) ⌝ }
-    ensures { λ _. ⌜ now (dst .exit) ≡ rowOf (length (now (dst .entry))) (λ i. clip max (tapped (now (f .entry)) r n (λ t. at (now (mid .entry)) (o + i + t * step)))) ⌝ }
+    ensures { λ _. ⌜ now (dst .exit) ≡ rowOf (length (now (dst .entry)))
+        (λ i. clip max (tapped (now (f .entry)) r n (λ t. at (now (mid .entry)) (o + i + t * step)))) ⌝ }
 {
     let w = dst.len();
     let mut i = 0;
@@ -289,7 +295,8 @@ pub fn mid_prep_row(
     bias: i16,
 )
     requires { ⌜ (o + length (now tmp) + 7 * step ≤ length (now mid)) × (r < 2 ^ 20) × (n < 32) ⌝ }
-    ensures { λ _. ⌜ now (tmp .exit) ≡ rowOf (length (now (tmp .entry))) (λ i. minus16 (low16 (tapped (now (f .entry)) r n (λ t. at (now (mid .entry)) (o + i + t * step)))) bias) ⌝ }
+    ensures { λ _. ⌜ now (tmp .exit) ≡ rowOf (length (now (tmp .entry)))
+        (λ i. minus16 (low16 (tapped (now (f .entry)) r n (λ t. at (now (mid .entry)) (o + i + t * step)))) bias) ⌝ }
 {
     let w = tmp.len();
     let mut i = 0;

@@ -1,6 +1,6 @@
 use native.Mathlib.Omega.{arith}
 use Prim.Native.Nat.{_^_, _<_}
-use lib.IntN.{ℤ, _+ℤ_, _*ℤ_}
+use lib.IntN.{_+ℤ_, _*ℤ_}
 use lib.Signed.{mag}
 use mir.Syntax.{w32}
 use mir.Val.{SFits}

@@ -2,7 +2,6 @@ use native.Mathlib.Omega.{arith}
 use mir.Syntax.{w32}
 use mir.Val.{SFits}
 use Rattle.rows.proofs.Laws.Signed.{back, back16, abs-mag, reading}
-use borrow.Author.Needs.{needs}
 use Rattle.rows.proofs.subpel.tap_i16.Statement.{statement}
 use Rattle.rows.proofs.subpel.tap_i16.Tie as tie
 

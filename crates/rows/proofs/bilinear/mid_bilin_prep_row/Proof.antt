@@ -1,0 +1,44 @@
+use borrow.Author.Needs.{needs}
+use native.Mathlib.Omega.{arith}
+use Prim.Native.Nat.{_+_, _-_}
+use lib.IntN.{pos}
+use lib.ListN.{length}
+use mir.Syntax.{w16, w32}
+use mir.Val.{SFits, toZ}
+use Rattle.rows.specs.Numbers.{low16, minus16, at}
+use Rattle.rows.specs.Bilinear.{R, between2}
+use Rattle.rows.proofs.Laws.Row.{Upto, upto-none, upto-all}
+use Rattle.rows.proofs.Laws.Filter.{upto-kept}
+use Rattle.rows.proofs.Laws.Signed.{back}
+use Rattle.rows.proofs.bilinear.mid_bilin_prep_row.Statement.{statement}
+use Rattle.rows.proofs.bilinear.mid_bilin_prep_row.Tie as tie
+
+-- the first i are done
+abbrev Inv-loop : tie.InvT-loop
+Inv-loop tmp₀ mid o step f n bias w i₀ tmp i = Upto (pos 0) (λ x. minus16 (low16 (R n (between2 (at mid) (o + x) step f))) (toZ w16 bias)) (length tmp₀) i tmp
+
+abbrev μ-loop : tie.MeasureT-loop
+μ-loop tmp₀ mid o step f n bias w i₀ tmp i = w - i
+
+loop-again : tie.Need-loop-again Inv-loop μ-loop
+loop-again c =
+    let b = c .before in
+    let fb : SFits w32 (b .between-i16 .result) = omega arith in
+    upto-kept (b .before .before .loop .inv) (omega arith) (omega arith) (rw (back fb, b .between-i16 .ensures .0) at (c .bilin-kept .ensures))
+
+pub mid-bilin-prep-row-spec : {M : Type 1} → statement M
+mid-bilin-prep-row-spec =
+    tie.close
+    (tie.spec
+    Inv-loop
+    μ-loop
+    (λ c. upto-none _ _ _)  -- loop-holds
+    (λ c. omega arith)  -- o + i
+    (λ c κs. omega arith)  -- between-i16-requires
+    (λ c κs. search needs)  -- bilin-kept-requires
+    (λ c. omega arith) (λ c. omega arith)  -- tmp[i] =
+    (λ c. omega arith)  -- i += 1
+    (λ c. omega arith)  -- loop-less
+    loop-again
+    (λ c. omega arith)  -- same-length
+    (λ c. rw (← back (c .before .before .fits .bias)) (upto-all (c .before .loop .inv) (omega arith))))  -- returns

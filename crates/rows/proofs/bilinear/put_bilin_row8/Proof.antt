@@ -1,0 +1,44 @@
+use borrow.Author.Needs.{needs}
+use native.Mathlib.Omega.{arith}
+use Prim.Native.Nat.{_+_, _-_, _^_}
+use lib.IntN.{pos, _+ℤ_}
+use lib.ListN.{length}
+use lib.Signed.{shrZ}
+use mir.Syntax.{w32}
+use mir.Val.{SFits}
+use Rattle.rows.specs.Numbers.{clip, px}
+use Rattle.rows.specs.Bilinear.{R, between2}
+use Rattle.rows.proofs.Laws.Row.{Upto, upto-none, upto-more, upto-all}
+use Rattle.rows.proofs.Laws.Signed.{back}
+use Rattle.rows.proofs.bilinear.put_bilin_row8.Statement.{statement}
+use Rattle.rows.proofs.bilinear.put_bilin_row8.Tie as tie
+
+-- the first i are done
+abbrev Inv-loop : tie.InvT-loop
+Inv-loop dst₀ src o step f n r k w i₀ dst i = Upto 0 (λ x. clip 255 (shrZ (R n (between2 (px src) (o + x) step f) +ℤ pos r) (2 ^ k))) (length dst₀) i dst
+
+abbrev μ-loop : tie.MeasureT-loop
+μ-loop dst₀ src o step f n r k w i₀ dst i = w - i
+
+loop-again : tie.Need-loop-again Inv-loop μ-loop
+loop-again c =
+    let b = c .before in
+    let fb : SFits w32 (b .between-u8 .result) = omega arith in
+    upto-more (b .before .before .loop .inv) (omega arith) (rw (back fb, b .between-u8 .ensures .0) at (c .bilin-px8 .ensures))
+
+pub put-bilin-row8-spec : {M : Type 1} → statement M
+put-bilin-row8-spec =
+    tie.close
+    (tie.spec
+    Inv-loop
+    μ-loop
+    (λ c. upto-none _ _ _)  -- loop-holds
+    (λ c. omega arith)  -- o + i
+    (λ c κs. omega arith)  -- between-u8-requires
+    (λ c κs. search needs)  -- bilin-px8-requires
+    (λ c. omega arith)  -- dst[i] =
+    (λ c. omega arith)  -- i += 1
+    (λ c. omega arith)  -- loop-less
+    loop-again
+    (λ c. omega arith)  -- same-length
+    (λ c. upto-all (c .before .loop .inv) (omega arith)))  -- returns

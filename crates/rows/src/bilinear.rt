@@ -1,0 +1,233 @@
+// Bilinear rows: the two pixels or intermediates of a place stand at o and o + step, step being 1 along a row, a stride down a column.
+ghost use mathlib.Core.Path.{_≡_};
+ghost use Prim.Native.Nat.{_+_, _*_, _^_, _<_, _≤_};
+ghost use lib.IntN.{pos, natAbs, _+ℤ_};
+ghost use lib.ListN.{length};
+ghost use lib.Signed.{mag, shrZ};
+ghost use Rattle.rows.specs.Numbers.{at, px, clip, half, low16, minus16};
+ghost use Rattle.rows.specs.Places.{rowOf};
+ghost use Rattle.rows.specs.Bilinear.{bilin, R, between2};
+use crate::numbers::clip8;
+use crate::numbers::clip16;
+use crate::subpel::kept;
+use crate::subpel::rounded;
+
+// 16a + f(b - a): within 2^22, for any pixels and intermediates
+fn bilin_sum(a: i32, b: i32, f: u32) -> i32
+    requires { ⌜ (natAbs a ≤ 65535) × (natAbs b ≤ 65535) × (f ≤ 15) ⌝ }
+    ensures { λ r. ⌜ (r ≡ bilin a b f) × (mag r < 2 ^ 22) ⌝ }
+{
+    16 * a + f as i32 * (b - a)
+}
+
+// The sum of two bytes, of two 16-bit pixels and of two intermediates.
+fn between_u8(src: &[u8], p: usize, step: usize, f: u32) -> i32
+    requires { ⌜ (p + step < length (now src)) × (f ≤ 15) ⌝ }
+    ensures { λ r. ⌜ (r ≡ between2 (px (now (src .entry))) p step f) × (mag r < 2 ^ 22) ⌝ }
+{
+    bilin_sum(src[p] as i32, src[p + step] as i32, f)
+}
+
+fn between_u16(src: &[u16], p: usize, step: usize, f: u32) -> i32
+    requires { ⌜ (p + step < length (now src)) × (f ≤ 15) ⌝ }
+    ensures { λ r. ⌜ (r ≡ between2 (px (now (src .entry))) p step f) × (mag r < 2 ^ 22) ⌝ }
+{
+    bilin_sum(src[p] as i32, src[p + step] as i32, f)
+}
+
+fn between_i16(mid: &[i16], p: usize, step: usize, f: u32) -> i32
+    requires { ⌜ (p + step < length (now mid)) × (f ≤ 15) ⌝ }
+    ensures { λ r. ⌜ (r ≡ between2 (at (now (mid .entry))) p step f) × (mag r < 2 ^ 22) ⌝ }
+{
+    bilin_sum(mid[p] as i32, mid[p + step] as i32, f)
+}
+
+// Half of 2^n, nothing for n = 0.
+fn half_of(n: u32) -> u32
+    requires { ⌜ n ≤ 8 ⌝ }
+    ensures { λ r. ⌜ (r ≡ half n) × (r ≤ 128) ⌝ }
+{
+    (1u32 << n) >> 1
+}
+
+// R(n)
+fn bilin_rnd(s: i32, n: u32) -> i32
+    requires { ⌜ (mag s < 2 ^ 22) × (n ≤ 8) ⌝ }
+    ensures { λ r. ⌜ (r ≡ R n s) × (mag r < 2 ^ 23) ⌝ }
+{
+    rounded(s, half_of(n), n)
+}
+
+// clip((R(n) + r) >> k): with r = 2^(B-1) and k = B put's horizontal case, with r = 0 and k = 0 its others
+fn bilin_px8(s: i32, n: u32, r: u32, k: u32) -> u8
+    requires { ⌜ (mag s < 2 ^ 22) × (n ≤ 8) × (r ≤ 8) × (k ≤ 4) ⌝ }
+    ensures { λ v. ⌜ v ≡ clip 255 (shrZ (R n s +ℤ pos r) (2 ^ k)) ⌝ }
+{
+    clip8(rounded(bilin_rnd(s, n), r, k))
+}
+
+fn bilin_px16(s: i32, n: u32, r: u32, k: u32, max: u16) -> u16
+    requires { ⌜ (mag s < 2 ^ 22) × (n ≤ 8) × (r ≤ 8) × (k ≤ 4) ⌝ }
+    ensures { λ v. ⌜ v ≡ clip max (shrZ (R n s +ℤ pos r) (2 ^ k)) ⌝ }
+{
+    clip16(rounded(bilin_rnd(s, n), r, k), max)
+}
+
+// low16(R(n)), minus the bias, wrapping
+fn bilin_kept(s: i32, n: u32, bias: i16) -> i16
+    requires { ⌜ (mag s < 2 ^ 22) × (n ≤ 8) ⌝ }
+    ensures { λ v. ⌜ v ≡ minus16 (low16 (R n s)) bias ⌝ }
+{
+    kept(s, half_of(n), n, bias)
+}
+
+// Pixels from pixels: put, one axis.
+pub fn put_bilin_row8(
+    dst: &mut [u8],
+    src: &[u8],
+    o: usize,
+    step: usize,
+    f: u32,
+    n: u32,
+    r: u32,
+    k: u32,
+)
+    requires { ⌜ (o + length (now dst) + step ≤ length (now src)) × (f ≤ 15) × (n ≤ 8) × (r ≤ 8) × (k ≤ 4) ⌝ }
+    ensures { λ _. ⌜ now (dst .exit) ≡ rowOf (length (now (dst .entry)))
+        (λ i. clip 255 (shrZ (R n (between2 (px (now (src .entry))) (o + i) step f) +ℤ pos r) (2 ^ k))) ⌝ }
+{
+    let w = dst.len();
+    let mut i = 0;
+    while i < w {
+        let v = bilin_px8(between_u8(src, o + i, step, f), n, r, k);
+        dst[i] = v;
+        i += 1;
+    }
+}
+
+pub fn put_bilin_row16(
+    dst: &mut [u16],
+    src: &[u16],
+    o: usize,
+    step: usize,
+    f: u32,
+    n: u32,
+    r: u32,
+    k: u32,
+    max: u16,
+)
+    requires { ⌜ (o + length (now dst) + step ≤ length (now src)) × (f ≤ 15) × (n ≤ 8) × (r ≤ 8) × (k ≤ 4) ⌝ }
+    ensures { λ _. ⌜ now (dst .exit) ≡ rowOf (length (now (dst .entry)))
+        (λ i. clip max (shrZ (R n (between2 (px (now (src .entry))) (o + i) step f) +ℤ pos r) (2 ^ k))) ⌝ }
+{
+    let w = dst.len();
+    let mut i = 0;
+    while i < w {
+        let v = bilin_px16(between_u16(src, o + i, step, f), n, r, k, max);
+        dst[i] = v;
+        i += 1;
+    }
+}
+
+// Intermediates from pixels: prep, one axis, and with the bias 0 the first pass of two.
+pub fn prep_bilin_row8(
+    tmp: &mut [i16],
+    src: &[u8],
+    o: usize,
+    step: usize,
+    f: u32,
+    n: u32,
+    bias: i16,
+)
+    requires { ⌜ (o + length (now tmp) + step ≤ length (now src)) × (f ≤ 15) × (n ≤ 8) ⌝ }
+    ensures { λ _. ⌜ now (tmp .exit) ≡ rowOf (length (now (tmp .entry)))
+        (λ i. minus16 (low16 (R n (between2 (px (now (src .entry))) (o + i) step f))) bias) ⌝ }
+{
+    let w = tmp.len();
+    let mut i = 0;
+    while i < w {
+        let v = bilin_kept(between_u8(src, o + i, step, f), n, bias);
+        tmp[i] = v;
+        i += 1;
+    }
+}
+
+pub fn prep_bilin_row16(
+    tmp: &mut [i16],
+    src: &[u16],
+    o: usize,
+    step: usize,
+    f: u32,
+    n: u32,
+    bias: i16,
+)
+    requires { ⌜ (o + length (now tmp) + step ≤ length (now src)) × (f ≤ 15) × (n ≤ 8) ⌝ }
+    ensures { λ _. ⌜ now (tmp .exit) ≡ rowOf (length (now (tmp .entry)))
+        (λ i. minus16 (low16 (R n (between2 (px (now (src .entry))) (o + i) step f))) bias) ⌝ }
+{
+    let w = tmp.len();
+    let mut i = 0;
+    while i < w {
+        let v = bilin_kept(between_u16(src, o + i, step, f), n, bias);
+        tmp[i] = v;
+        i += 1;
+    }
+}
+
+// Pixels from intermediates: put, the second pass.
+pub fn mid_bilin_row8(dst: &mut [u8], mid: &[i16], o: usize, step: usize, f: u32, n: u32)
+    requires { ⌜ (o + length (now dst) + step ≤ length (now mid)) × (f ≤ 15) × (n ≤ 8) ⌝ }
+    ensures { λ _. ⌜ now (dst .exit) ≡ rowOf (length (now (dst .entry))) (λ i. clip 255 (R n (between2 (at (now (mid .entry))) (o + i) step f))) ⌝ }
+{
+    let w = dst.len();
+    let mut i = 0;
+    while i < w {
+        let v = bilin_px8(between_i16(mid, o + i, step, f), n, 0, 0);
+        dst[i] = v;
+        i += 1;
+    }
+}
+
+pub fn mid_bilin_row16(
+    dst: &mut [u16],
+    mid: &[i16],
+    o: usize,
+    step: usize,
+    f: u32,
+    n: u32,
+    max: u16,
+)
+    requires { ⌜ (o + length (now dst) + step ≤ length (now mid)) × (f ≤ 15) × (n ≤ 8) ⌝ }
+    ensures { λ _. ⌜ now (dst .exit) ≡ rowOf (length (now (dst .entry))) (λ i. clip max (R n (between2 (at (now (mid .entry))) (o + i) step f))) ⌝ }
+{
+    let w = dst.len();
+    let mut i = 0;
+    while i < w {
+        let v = bilin_px16(between_i16(mid, o + i, step, f), n, 0, 0, max);
+        dst[i] = v;
+        i += 1;
+    }
+}
+
+// Intermediates from intermediates: prep, the second pass.
+pub fn mid_bilin_prep_row(
+    tmp: &mut [i16],
+    mid: &[i16],
+    o: usize,
+    step: usize,
+    f: u32,
+    n: u32,
+    bias: i16,
+)
+    requires { ⌜ (o + length (now tmp) + step ≤ length (now mid)) × (f ≤ 15) × (n ≤ 8) ⌝ }
+    ensures { λ _. ⌜ now (tmp .exit) ≡ rowOf (length (now (tmp .entry)))
+        (λ i. minus16 (low16 (R n (between2 (at (now (mid .entry))) (o + i) step f))) bias) ⌝ }
+{
+    let w = tmp.len();
+    let mut i = 0;
+    while i < w {
+        let v = bilin_kept(between_i16(mid, o + i, step, f), n, bias);
+        tmp[i] = v;
+        i += 1;
+    }
+}
