@@ -1,9 +1,9 @@
 // Row arithmetic: pixels and intermediates along a row, for bytes and for 16-bit pixels.
-pub mod copy;
-pub mod depth;
+pub mod bilinear;
 pub mod blend;
 pub mod combine;
-pub mod bilinear;
+pub mod copy;
+pub mod depth;
 pub mod numbers;
 pub mod search;
 pub mod subpel;
