@@ -1,5 +1,7 @@
 -- What the tests tell where none refuses: what the rows of a kernel rely on. Assumes nothing.
 use Prim.Native.Nat.{ℕ, _+_, _-_, _*_, _≤_}
+use Rattle.rows.specs.Depth.{bitsOf, biasOf, maxOf}
+use Rattle.blocks.specs.declared.refuse.DepthNumbers.{DepthNumbers}
 
 -- a block of w columns and h rows
 pub record Block (w h : ℕ) : Type 0 where
@@ -14,7 +16,11 @@ pub record Rows (l s w h : ℕ) : Type 0 where
   pub most : s ≤ 32768
   pub fits : (h - 1) * s + w ≤ l
 
--- what depends on the depth, as the rows take it
+-- what depends on the depth, as the code carries it
+abbrev pub numbersOf : ℕ → DepthNumbers
+numbersOf depth = record { bits = bitsOf depth; bias = biasOf depth; max = maxOf depth }
+
+-- and as the rows take it
 pub record Bits (bits bias : ℕ) : Type 0 where
   pub bits4 : bits ≤ 4
   pub bias13 : bias ≤ 8192

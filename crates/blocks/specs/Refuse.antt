@@ -1,7 +1,8 @@
 -- The refusals: reasons with their numbers, and the tests that the entries share. Assumes nothing.
 use Prim.Native.Nat.{ℕ, zero, suc, _+_, _-_, _*_, _%_}
 use lib.Dec.{ltb, leb, eqb}
-use lib.IntN.{ℤ, pos, negsuc}
+use lib.IntN.{ℤ}
+use Rattle.rows.specs.Numbers.{up}
 use mathlib.Core.Bool.{Bool, true, false, _&&_, _||_}
 use mathlib.Core.List.{List, [], _∷_}
 
@@ -89,8 +90,7 @@ reads l o s w h b b′ c c′ = leb (c * s + b) o && ltb (o + (h - 1 + c′) * s
 
 -- "Depth is 8 (bytes), 10 or 12 (16-bit pixels)": of the 16-bit set; bytes have no depth to test
 unfoldable pub depthOk : ℤ → Bool
-depthOk (pos n) = eqb n 10 || eqb n 12
-depthOk (negsuc n) = false
+depthOk depth = eqb (up depth) 10 || eqb (up depth) 12
 
 -- "eight signed bytes to a filter": whole filters
 unfoldable pub wholeFilters : ℕ → Bool

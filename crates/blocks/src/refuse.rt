@@ -1,6 +1,12 @@
 // The tests that entries share: each answers whether a call meets it, and `needed` chains them in the order of their numbers.
 ghost use mathlib.Core.Path.{_≡_};
-ghost use Rattle.blocks.specs.Refuse.{need, sizeOk, blockSide, strideOk, holds};
+ghost use mathlib.Core.Bool.{true};
+ghost use Rattle.rows.specs.Numbers.{up};
+ghost use Rattle.blocks.specs.Refuse.{need, sizeOk, blockSide, strideOk, holds, depthOk};
+ghost use Rattle.blocks.specs.Ready.{numbersOf};
+use rows::depth::bitdepth_max;
+use rows::depth::intermediate_bits;
+use rows::depth::prep_bias;
 
 // Where the test is met, what the later tests say; else the number.
 pub fn needed(ok: bool, n: u32, rest: u32) -> u32
@@ -34,6 +40,39 @@ pub fn holds_rows(l: usize, s: usize, w: usize, h: usize) -> bool
         return true;
     }
     s <= (l - w) / (h - 1)
+}
+
+// The number, or 0 where it is below 0.
+pub fn above(v: i32) -> u32
+    ensures { λ r. ⌜ r ≡ up v ⌝ }
+{
+    if v < 0 { 0 } else { v as u32 }
+}
+
+// A depth of 16-bit pixels.
+pub fn depth_ok(depth: i32) -> bool
+    ensures { λ r. ⌜ r ≡ depthOk depth ⌝ }
+{
+    let d = above(depth);
+    (d == 10) | (d == 12)
+}
+
+// What depends on the depth: B, P and the largest pixel.
+pub struct DepthNumbers {
+    pub bits: u32,
+    pub bias: u32,
+    pub max: u16,
+}
+
+pub fn depth_numbers(depth: i32) -> DepthNumbers
+    requires { ⌜ depthOk depth ≡ true ⌝ }
+    ensures { λ r. ⌜ r ≡ numbersOf (up depth) ⌝ }
+{
+    let d = above(depth);
+    let bits = intermediate_bits(d);
+    let bias = prep_bias(d);
+    let max = bitdepth_max(d);
+    DepthNumbers { bits, bias, max }
 }
 
 // The tests as links of such a chain: both sides of a block, a stride, a buffer of rows.
