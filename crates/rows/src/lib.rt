@@ -4,6 +4,7 @@ pub mod blend;
 pub mod combine;
 pub mod copy;
 pub mod depth;
+pub mod mask;
 pub mod numbers;
 pub mod search;
 pub mod subpel;

@@ -22,7 +22,8 @@ module _ {A : Type 0} where
   pub over-here : {z : A} {f : ℕ → A} {d₀ : List A} {i : ℕ} {d : List A} → Over z f d₀ i d → getD d i z ≡ getD d₀ i z
   over-here {i = i} p = p .rest i (le-refl i)
 
-  pub over-more : {z : A} {f : ℕ → A} {d₀ : List A} {i : ℕ} {d : List A} {v : A} → Over z f d₀ i d → i < length d₀ → v ≡ f i → Over z f d₀ (i + 1) (set d i v)
+  pub over-more : {z : A} {f : ℕ → A} {d₀ : List A} {i : ℕ} {d : List A} {v : A} → Over z f d₀ i d → i < length d₀ → v ≡ f i
+      → Over z f d₀ (i + 1) (set d i v)
   over-more {z} {f} {d₀} {i} {d} {v} p h e =
       record { done = upto-more (p .done) h e; rest = λ k b. getD-set-other d i k v z (λ e. omega arith) ∙ p .rest k (omega arith) }
 

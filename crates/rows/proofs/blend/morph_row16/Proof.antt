@@ -1,5 +1,4 @@
 use native.Mathlib.Omega.{arith}
-use mathlib.Core.Path.{_∙_, ap}
 use Prim.Native.Nat.{_-_}
 use lib.ListN.{length, getD}
 use mir.Syntax.{w32}
@@ -16,6 +15,11 @@ Inv-loop dst₀ alpha beta max n i₀ dst i = Over 0 (λ k. morph max (toZ w32 a
 abbrev μ-loop : tie.MeasureT-loop
 μ-loop dst₀ alpha beta max n i₀ dst i = length dst₀ - i
 
+returns : tie.Need-returns Inv-loop μ-loop
+returns c =
+    let s = c .before .before .before in
+    rw (← back (s .fits .alpha), ← back (s .fits .beta)) (over-all (c .before .loop .inv) (omega arith))
+
 pub morph-row16-spec : {M : Type 1} → statement M
 morph-row16-spec =
     tie.close
@@ -28,6 +32,6 @@ morph-row16-spec =
     (λ c. omega arith) (λ c. omega arith)  -- dst[i] =
     (λ c. omega arith)  -- i += 1
     (λ c. omega arith)  -- loop-less
-    (λ c. let p = c .before .before .before .loop .inv in over-more p (omega arith) (c .morph-px .ensures ∙ ap (morph _ _ _) (over-here p)))  -- loop-again
+    (λ c. let p = c .before .before .before .loop .inv in over-more p (omega arith) (rw (← over-here p) (c .morph-px .ensures)))  -- loop-again
     (λ c. omega arith)  -- same-length
-    (λ c. let s = c .before .before .before in rw (← back (s .fits .alpha), ← back (s .fits .beta)) (over-all (c .before .loop .inv) (omega arith))))  -- returns
+    returns)
