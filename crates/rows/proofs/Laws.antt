@@ -15,4 +15,5 @@ pub mod Cut
 pub mod Kernel
 pub mod Combine
 pub mod Pixel
+pub mod Edge
 pub mod Worked

@@ -5,6 +5,7 @@ pub mod combine;
 pub mod copy;
 pub mod depth;
 pub mod mask;
+pub mod edge;
 pub mod numbers;
 pub mod search;
 pub mod subpel;
