@@ -3,8 +3,12 @@ use Prim.Native.Nat.{ℕ, _^_}
 use lib.IntN.{ℤ}
 use mathlib.Core.Bool.{Bool}
 use mathlib.Core.List.{List, [], _∷_}
+use mathlib.Core.Path.{_≡_}
+use lib.ListN.{length}
+use Rattle.rows.specs.Places.{fill}
+use Rattle.rows.specs.Edge.{edge}
 use Rattle.rows.specs.Numbers.{near}
-use Rattle.blocks.specs.Refuse.{Test, size, stride, number, read, written, _asks_, sizeOk, strideOk, holds}
+use Rattle.blocks.specs.Refuse.{Test, size, stride, number, read, written, _asks_, lowest, orSame, sizeOk, strideOk, holds}
 
 -- "positions within ±2^30"
 unfoldable pub placeOk : ℤ → Bool
@@ -24,3 +28,9 @@ edgeTests bw bh iw ih x y dl dstStride pl planeStride =
     ∷ read asks holds pl planeStride iw ih
     ∷ written asks holds dl dstStride bw bh
     ∷ []
+
+-- what `emu_edge` answers: the number r, and dst at the end
+abbrev pub EdgeAnswer : (bw bh iw ih : ℕ) (x y : ℤ) (dst : List ℕ) (dstStride : ℕ) (plane : List ℕ) (planeStride : ℕ) → (r : ℕ) (dst′ : List ℕ) → Type 0
+EdgeAnswer bw bh iw ih x y dst dstStride plane planeStride r dst′ =
+    (r ≡ lowest (edgeTests bw bh iw ih x y (length dst) dstStride (length plane) planeStride))
+    × (dst′ ≡ orSame r (fill dst dstStride bw bh (edge plane planeStride iw ih x y)) dst)

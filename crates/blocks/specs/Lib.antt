@@ -3,6 +3,7 @@ pub mod Refuse
 pub mod Ready
 pub mod Copy
 pub mod Combine
+pub mod Blend
 pub mod Edge
 pub mod Subpel
 pub mod Bilinear

@@ -48,17 +48,17 @@ filtersOk (Subpel m) el wl = filterIn (m .«filter_type») (m .mx) el && filterI
 filtersOk (Bilinear m) el wl = true
 filtersOk (Warp s) el wl = allThere (wl / 8) (s .mx) (s .my) (s .a) (s .b) (s .c) (s .d)
 
--- depth is the outcome of the depth's test, true for bytes; named says that the kind's number was one of the four. tl, el and wl are the lengths of
+-- deep is the outcome of the depth's test, true for bytes; named says that the kind's number was one of the four. tl, el and wl are the lengths of
 -- subpel, ext and warp, pl of the plane, sl of scratch, dl of dst (or tmp)
-abbrev pub orderTests : (depth named : Bool) (f : Frame) (planeNo pl planeStride : ℕ) (o : Order) (tl el wl sl dl dstStride : ℕ) → List Test
-orderTests depth named f planeNo pl planeStride o tl el wl sl dl dstStride =
+abbrev pub orderTests : (deep named : Bool) (f : Frame) (planeNo pl planeStride : ℕ) (o : Order) (tl el wl sl dl dstStride : ℕ) → List Test
+orderTests deep named f planeNo pl planeStride o tl el wl sl dl dstStride =
     size asks frameSizesOk f planeNo
     ∷ size asks sizeOk blockSide (o .w)
     ∷ size asks sizeOk blockSide (o .h)
     ∷ size asks kindSizeOk (o .kind) (o .w) (o .h)
     ∷ stride asks strideOk (planeW f planeNo) planeStride
     ∷ stride asks strideOk (o .w) dstStride
-    ∷ number asks depth
+    ∷ number asks deep
     ∷ number asks frameNamesOk f planeNo
     ∷ number asks named
     ∷ number asks placeOk (o .x)

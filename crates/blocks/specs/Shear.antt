@@ -6,6 +6,7 @@ use lib.ListN.{getD, length, set}
 use lib.Signed.{ltZ}
 use mathlib.Core.Bool.{Bool, _&&_}
 use mathlib.Core.List.{List, [], _∷_}
+use mathlib.Core.Path.{_≡_}
 use Rattle.rows.specs.Numbers.{at, between, near}
 use Rattle.rows.specs.Shear.{recipOf, shiftOf, shearA, shearB, shearC, shearD, affineOf, middle, entry0, entry1}
 use Rattle.blocks.specs.Refuse.{Test, size, number, table, matrix, _asks_, lowest, orSame}
@@ -20,7 +21,7 @@ recipOk rl = eqb rl 129
 abbrev pub divisorTests : (d rl : ℕ) → List Test
 divisorTests d rl = number asks (leb 1 d && leb d 2147483647) ∷ table asks recipOk rl ∷ []
 
--- the answer; "Every refusal gives zeros for its other results"
+-- what `resolve_divisor_32` answers; "Every refusal gives zeros for its other results"
 unfoldable pub divisorOf : ℕ → List ℕ → Divisor
 divisorOf d recip =
     let verdict = lowest (divisorTests d (length recip)) in
@@ -59,3 +60,11 @@ unfoldable pub withMv : (bw4 bh4 mvx mvy : ℤ) → List ℤ → (bx4 by4 : ℤ)
 withMv bw4 bh4 mvx mvy m bx4 by4 =
     let X = middle bx4 bw4 in let Y = middle by4 bh4 in
     set (set m 0 (entry0 mvx X Y (at m 2) (at m 3))) 1 (entry1 mvy X Y (at m 4) (at m 5))
+
+-- what `get_shear_params` and `set_affine_mv2d` answer: the number r, and the record, "as it came" where refused
+abbrev pub ShearAnswer : WarpParams → (recip : List ℕ) → (r : ℕ) (wm′ : WarpParams) → Type 0
+ShearAnswer wm recip r wm′ = (r ≡ lowest (shearTests (wm .matrix) (length recip))) × (wm′ ≡ orSame r (sheared wm recip) wm)
+
+abbrev pub AffineMvAnswer : (bw4 bh4 mvx mvy : ℤ) (m : List ℤ) (bx4 by4 : ℤ) → (r : ℕ) (m′ : List ℤ) → Type 0
+AffineMvAnswer bw4 bh4 mvx mvy m bx4 by4 r m′ =
+    (r ≡ lowest (affineMvTests bw4 bh4 mvx mvy m bx4 by4)) × (m′ ≡ orSame r (withMv bw4 bh4 mvx mvy m bx4 by4) m)

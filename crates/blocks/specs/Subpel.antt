@@ -1,14 +1,18 @@
 -- `put_8tap` and `prep_8tap`: the tests of a call, the same for both, and the rule of a block. dl, sl, tl and el are the lengths of dst (or tmp), src, subpel and
--- ext; depth is the outcome of the depth's test, true for bytes. Assumes nothing.
+-- ext; deep is the outcome of the depth's test, true for bytes. Assumes nothing.
 use Prim.Native.Nat.{ℕ, _+_, _-_, _*_, min}
 use lib.Dec.{leb, eqb}
 use lib.IntN.{ℤ, pos, negsuc}
 use lib.Signed.{leZ, ltZ}
 use mathlib.Core.Bool.{Bool, _&&_, _||_}
 use mathlib.Core.List.{List, [], _∷_}
+use mathlib.Core.Path.{_≡_}
+use lib.ListN.{length}
+use Rattle.rows.specs.Depth.{bitsOf, biasOf, maxOf}
+use Rattle.rows.specs.Places.{fill, around}
 use Rattle.rows.specs.Numbers.{up, between}
 use Rattle.rows.specs.Subpel.{Axis, axis, filterBits, put8, prep8}
-use Rattle.blocks.specs.Refuse.{Test, size, stride, number, table, read, written, _asks_, sizeOk, blockSide, strideOk, holds, reads, wholeFilters}
+use Rattle.blocks.specs.Refuse.{Test, size, stride, number, table, read, written, _asks_, lowest, orSame, sizeOk, blockSide, strideOk, holds, reads, wholeFilters}
 
 -- "Filter type -1 to 2"
 unfoldable pub typeOk : ℤ → Bool
@@ -30,13 +34,13 @@ filterIn filterType f el = leZ (pos 0) filterType || leb (8 * up f) el
 abbrev pub on : ℤ → ℕ
 on f = min (up f) 1
 
-abbrev pub subpelTests : (depth : Bool) (dl dstStride sl srcOff srcStride w h : ℕ) (mx my filterType : ℤ) (tl el : ℕ) → List Test
-subpelTests depth dl dstStride sl srcOff srcStride w h mx my filterType tl el =
+abbrev pub subpelTests : (deep : Bool) (dl dstStride sl srcOff srcStride w h : ℕ) (mx my filterType : ℤ) (tl el : ℕ) → List Test
+subpelTests deep dl dstStride sl srcOff srcStride w h mx my filterType tl el =
     size asks sizeOk blockSide w
     ∷ size asks sizeOk blockSide h
     ∷ stride asks strideOk w dstStride
     ∷ stride asks strideOk w srcStride
-    ∷ number asks depth
+    ∷ number asks deep
     ∷ number asks typeOk filterType
     ∷ number asks fractionOk filterType mx
     ∷ number asks fractionOk filterType my
@@ -56,3 +60,14 @@ put8Rule M B subpel ext mx my filterType w h =
 unfoldable pub prep8Rule : (B P : ℕ) (subpel ext : List ℤ) (mx my filterType : ℤ) (w h : ℕ) → (ℕ → ℕ → ℕ) → ℤ
 prep8Rule B P subpel ext mx my filterType w h =
     prep8 B P (filterBits filterType) (axis subpel ext filterType (up mx) w) (axis subpel ext filterType (up my) h)
+
+-- what `put_8tap` and `prep_8tap` answer, at the depth: the number r, and dst or tmp at the end
+abbrev pub Put8Answer : (deep : Bool) (depth : ℕ) (dst : List ℕ) (dstStride : ℕ) (src : List ℕ) (srcOff srcStride w h : ℕ) (mx my filterType : ℤ) (subpel ext : List ℤ) → (r : ℕ) (dst′ : List ℕ) → Type 0
+Put8Answer deep depth dst dstStride src srcOff srcStride w h mx my filterType subpel ext r dst′ =
+    (r ≡ lowest (subpelTests deep (length dst) dstStride (length src) srcOff srcStride w h mx my filterType (length subpel) (length ext)))
+    × (dst′ ≡ orSame r (fill dst dstStride w h (λ i j. put8Rule (maxOf depth) (bitsOf depth) subpel ext mx my filterType w h (around 3 src srcOff srcStride i j))) dst)
+
+abbrev pub Prep8Answer : (deep : Bool) (depth : ℕ) (tmp : List ℤ) (tmpStride : ℕ) (src : List ℕ) (srcOff srcStride w h : ℕ) (mx my filterType : ℤ) (subpel ext : List ℤ) → (r : ℕ) (tmp′ : List ℤ) → Type 0
+Prep8Answer deep depth tmp tmpStride src srcOff srcStride w h mx my filterType subpel ext r tmp′ =
+    (r ≡ lowest (subpelTests deep (length tmp) tmpStride (length src) srcOff srcStride w h mx my filterType (length subpel) (length ext)))
+    × (tmp′ ≡ orSame r (fill tmp tmpStride w h (λ i j. prep8Rule (bitsOf depth) (biasOf depth) subpel ext mx my filterType w h (around 3 src srcOff srcStride i j))) tmp)

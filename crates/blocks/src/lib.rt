@@ -1,4 +1,5 @@
 // Block kernels, windows and orders, over the contracts of the rows.
+pub mod blend;
 pub mod copy;
 pub mod order;
 pub mod refuse;
