@@ -1,6 +1,6 @@
 -- What a pixel of avg, w_avg, mask, blend and morph is at most, and how the code's sums are the definitions'. Assumes nothing.
 use mathlib.Core.Path.{_≡_, ap₂}
-use Prim.Native.Nat.{ℕ, _+_, _-_, _*_, _/_, _^_, _≤_, _<_}
+use Prim.Native.Nat.{ℕ, _+_, _-_, _*_, _^_, _≤_, _<_}
 use native.Mathlib.Nat.{mul-le-mul, mul-le-mul-right, mul-add}
 use native.Mathlib.Omega.{arith}
 use lib.IntN.{ℤ, pos, _+ℤ_, _*ℤ_}

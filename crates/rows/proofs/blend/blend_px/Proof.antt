@@ -1,6 +1,6 @@
 use borrow.Author.Needs.{needs}
 use native.Mathlib.Omega.{arith}
-use Prim.Native.Nat.{_+_, _-_, _*_, _≤_, _<_}
+use Prim.Native.Nat.{_-_, _*_, _≤_, _<_}
 use Rattle.rows.specs.Combine.{blend}
 use Rattle.rows.proofs.Laws.Pixel.{part-le, blend-lt}
 use Rattle.rows.proofs.blend.blend_px.Statement.{statement}

@@ -3,7 +3,7 @@ use native.Mathlib.Omega.{arith}
 use mir.Syntax.{w32}
 use mir.Val.{SFits}
 use Rattle.rows.specs.Combine.{masked}
-use Rattle.rows.proofs.Laws.Signed.{back, backn, rdn}
+use Rattle.rows.proofs.Laws.Signed.{back, backn}
 use Rattle.rows.proofs.combine.mask_px.Statement.{statement}
 use Rattle.rows.proofs.combine.mask_px.Tie as tie
 

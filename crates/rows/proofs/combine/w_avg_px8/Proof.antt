@@ -1,4 +1,3 @@
-use borrow.Author.Needs.{needs}
 use native.Mathlib.Omega.{arith}
 use Rattle.rows.proofs.Laws.Pixel.{weighted-lt}
 use Rattle.rows.proofs.Laws.Signed.{back, rd}
