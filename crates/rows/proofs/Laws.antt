@@ -7,8 +7,6 @@ pub mod Added
 pub mod Row
 pub mod Over
 pub mod Taps
-pub mod Filter
-pub mod Bilinear
 pub mod Places
 pub mod Fill
 pub mod Cut
@@ -16,4 +14,6 @@ pub mod Kernel
 pub mod Combine
 pub mod Pixel
 pub mod Edge
+pub mod Filter
+pub mod Bilinear
 pub mod Worked
