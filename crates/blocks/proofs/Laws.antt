@@ -1,5 +1,6 @@
 -- Laws, by what they are about.
 pub mod Refuse
+pub mod InOrder
 pub mod Limits
 pub mod Deep
 pub mod Rows

@@ -9,13 +9,9 @@ use lib.ListN.{length}
 use Rattle.rows.specs.Depth.{bitsOf, biasOf, maxOf}
 use Rattle.rows.specs.Places.{fill, around}
 use Rattle.rows.specs.Bilinear.{putBilin, prepBilin}
-use Rattle.rows.specs.Numbers.{up, between}
+use Rattle.rows.specs.Numbers.{up}
 use Rattle.blocks.specs.Refuse.{Test, size, stride, number, read, written, _asks_, lowest, orSame, sizeOk, blockSide, strideOk, holds, reads}
-use Rattle.blocks.specs.Subpel.{on}
-
--- "Fractions 0 to 15"
-unfoldable pub sixteenthOk : ℤ → Bool
-sixteenthOk f = between (pos 0) (pos 15) f
+use Rattle.blocks.specs.Subpel.{on, sixteenthOk}
 
 -- a place of fraction 0 on an axis is read alone, any other with the next
 abbrev pub bilinTests : (deep : Bool) (dl dstStride sl srcStride w h : ℕ) (mx my : ℤ) → List Test

@@ -18,7 +18,7 @@ unfoldable pub firstAbove : List ℕ → (k n : ℕ) → ℕ
 firstAbove mask k zero = k
 firstAbove mask k (suc n) = pick (leb (getD mask k 0) 64) (firstAbove mask (suc k) n) k
 
--- "blend meets a mask value above 64", in its w x h places, unless all are passed
+-- no "mask value above 64" among the block's w x h places
 unfoldable pub noneAbove : List ℕ → (w h : ℕ) → Bool
 noneAbove mask w h = leb (w * h) (firstAbove mask 0 (w * h))
 

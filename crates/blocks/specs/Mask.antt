@@ -15,7 +15,7 @@ use Rattle.rows.specs.Places.{pick, fill}
 use Rattle.blocks.specs.Combine.{Combined}
 use Rattle.blocks.specs.Refuse.{Test, size, stride, number, read, written, _asks_, lowest, orSame, sizeOk, blockSide, strideOk, holds, holdsAll}
 
--- "odd w with ss_hor, or odd h with ss_ver"
+-- not "odd w with ss_hor, or odd h with ss_ver"
 unfoldable pub evenOk : Bool → ℕ → Bool
 evenOk flag n = not flag || eqb (n % 2) 0
 

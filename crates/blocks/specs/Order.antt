@@ -5,16 +5,16 @@ use lib.IntN.{ℤ, pos, negsuc, _+ℤ_}
 use mathlib.Core.Bool.{Bool, true, false, _&&_}
 use mathlib.Core.List.{List, [], _∷_}
 use Rattle.rows.specs.Numbers.{up}
+use Rattle.rows.specs.Places.{pick}
 use Rattle.rows.specs.Copy.{put, prep}
 use Rattle.rows.specs.Bilinear.{putBilin, prepBilin}
 use Rattle.rows.specs.Warp.{allThere, warpPut, warpPrep}
 use Rattle.rows.specs.Edge.{endless, edge, aroundAt}
 use Rattle.blocks.specs.Refuse.{Test, size, stride, number, table, read, written, _asks_, sizeOk, blockSide, strideOk, holds, holdsAll, wholeFilters}
 use Rattle.blocks.specs.Edge.{placeOk}
-use Rattle.blocks.specs.Subpel.{typeOk, fractionOk, subpelOk, filterIn, put8Rule, prep8Rule}
-use Rattle.blocks.specs.Bilinear.{sixteenthOk}
+use Rattle.blocks.specs.Subpel.{typeOk, sixteenthOk, fractionOk, subpelOk, filterIn, put8Rule, prep8Rule}
 use Rattle.blocks.specs.Warp.{warpPlaceOk}
-use Rattle.blocks.specs.Window.{planeW, planeH, frameSizesOk, frameNamesOk, windowSide}
+use Rattle.blocks.specs.Window.{planeW, planeH, frameSizesOk, frameNamesOk, windowSide, scratchOf}
 use Rattle.blocks.specs.declared.window.Frame.{Frame}
 use Rattle.blocks.specs.declared.order.Order.{Order}
 use Rattle.blocks.specs.declared.order.Kind.{Kind}
@@ -26,6 +26,14 @@ kindNumber Copy = 0
 kindNumber (Subpel m) = 1
 kindNumber (Bilinear m) = 2
 kindNumber (Warp s) = 3
+
+-- the kind that a call's numbers name: 0 copy, 1 8-tap, 2 bilinear, 3 warp. Any other number is refused as 3; till then it is tested as a copy.
+-- Numbers that a kind doesn't have aren't tested
+unfoldable pub kindOf : (kind : ℕ) (mx my filterType a b c d : ℤ) → Kind
+kindOf kind mx my filterType a b c d =
+    pick (eqb kind 1) (Subpel (record { mx = mx; my = my; «filter_type» = filterType }))
+    (pick (eqb kind 2) (Bilinear (record { mx = mx; my = my }))
+    (pick (eqb kind 3) (Warp (record { a = a; b = b; c = c; d = d; mx = mx; my = my })) Copy))
 
 -- "warp .. (size 8 x 8, else number 1)"
 unfoldable pub kindSizeOk : Kind → (w h : ℕ) → Bool
@@ -73,11 +81,16 @@ orderTests deep named f planeNo pl planeStride o tl el wl sl dl dstStride =
     ∷ written asks holds dl dstStride (o .w) (o .h)
     ∷ []
 
+-- "through a window in the default mode", which is 0: what scratch holds then
+unfoldable pub orderScratch : (r : ℕ) (f : Frame) (planeNo : ℕ) (plane : List ℕ) (planeStride : ℕ) (o : Order) → List ℕ → List ℕ
+orderScratch r f planeNo plane planeStride o scratch =
+    scratchOf r f planeNo plane planeStride (kindNumber (o .kind)) (o .w) (o .h) (o .x) (o .y) 0 scratch
+
 -- the plane that the order reads: the frame's named plane, for ever
 abbrev pub planeOf : (f : Frame) (planeNo : ℕ) (plane : List ℕ) (planeStride : ℕ) → ℤ → ℤ → ℕ
 planeOf f planeNo plane planeStride = endless plane planeStride (planeW f planeNo) (planeH f planeNo)
 
--- "Run as put": the pixel at column i of row j of a block of w x h at x, y of the plane g
+-- "An order is run as put": the pixel at column i of row j of a block of w x h at x, y of the plane g
 unfoldable pub putPixel : (M B : ℕ) (subpel ext warp : List ℤ) → Kind → (w h : ℕ) → (ℤ → ℤ → ℕ) → (x y : ℤ) → (i j : ℕ) → ℕ
 putPixel M B subpel ext warp Copy w h g x y i j = put (aroundAt (pos 0) g x y i j 0 0)
 putPixel M B subpel ext warp (Subpel m) w h g x y i j = put8Rule M B subpel ext (m .mx) (m .my) (m .«filter_type») w h (aroundAt (negsuc 2) g x y i j)

@@ -9,11 +9,11 @@ use mathlib.Core.List.{List, [], _∷_}
 infix 68 _asks_
 -- the table's reasons
 pub data Reason : Type 0 where
-  -- "a size is outside its range"
+  -- "a size is outside its range; w_mask has odd w with ss_hor, or odd h with ss_ver"
   size : Reason
   -- "a stride is outside its range"
   stride : Reason
-  -- "another number is outside its range"
+  -- "another number is outside its range; ss_ver without ss_hor"
   number : Reason
   -- "a lent table has a wrong length, or a needed filter isn't in it"
   table : Reason
@@ -50,16 +50,22 @@ unfoldable pub need : Bool → ℕ → ℕ → ℕ
 need true n rest = rest
 need false n rest = n
 
--- "The lowest number that applies is given. 0 is done." The tests of an entry stand in the order of their numbers.
+-- "The lowest number that applies is given. 0 is done." The first test that isn't met gives it, since an entry's tests stand in the order of their
+-- numbers (proved of each: Laws/InOrder)
 abbrev pub lowest : List Test → ℕ
 lowest [] = 0
 lowest (t ∷ ts) = need (t .meets) (numberOf (t .reason)) (lowest ts)
 
--- "changes no buffer": the new list where the number is 0, and the old for any other
+-- "Every refusal gives zeros for its other results .. and changes no buffer": the new where the number is 0, the old for any other
 module _ {A : Type 0} where
   unfoldable pub orSame : ℕ → A → A → A
   orSame zero new old = new
   orSame (suc n) new old = old
+
+-- the tests stand in the order of their numbers, from n on
+unfoldable pub inOrder : ℕ → List Test → Bool
+inOrder n [] = true
+inOrder n (t ∷ ts) = leb n (numberOf (t .reason)) && inOrder (numberOf (t .reason)) ts
 
 -- ---- the tests that entries share
 
@@ -75,9 +81,13 @@ blockSide = 64
 unfoldable pub strideOk : ℕ → ℕ → Bool
 strideOk row s = leb row s && leb s 32768
 
+-- "(rows - 1) x stride + row": the places that h rows of w take at the stride s
+abbrev pub partLen : (s w h : ℕ) → ℕ
+partLen s w h = (h - 1) * s + w
+
 -- "A buffer of rows must hold (rows - 1) x stride + row pixels": l places, h rows of w at the stride s
-unfoldable pub holds : ℕ → ℕ → ℕ → ℕ → Bool
-holds l s w h = leb ((h - 1) * s + w) l
+unfoldable pub holds : (l s w h : ℕ) → Bool
+holds l s w h = leb (partLen s w h) l
 
 -- "w x h without gaps"
 abbrev pub holdsAll : ℕ → ℕ → ℕ → Bool

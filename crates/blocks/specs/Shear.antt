@@ -37,8 +37,8 @@ shearTests m rl = number asks entriesOk m ∷ table asks recipOk rl ∷ matrix a
 -- the record with its shears and affine
 unfoldable pub sheared : WarpParams → List ℕ → WarpParams
 sheared wm recip =
-    let m = wm .matrix in let d = natAbs (at m 2) in
-    let y = recipOf recip d in let k = shiftOf d in
+    let m = wm .matrix in let m2 = natAbs (at m 2) in
+    let y = recipOf recip m2 in let k = shiftOf m2 in
     let a = shearA (at m 2) in let b = shearB (at m 3) in
     let c = shearC (at m 4) y k in let d = shearD (at m 3) (at m 4) (at m 5) y k in
     record { matrix = m; abcd = a ∷ b ∷ c ∷ d ∷ []; affine = affineOf a b c d }

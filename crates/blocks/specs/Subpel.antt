@@ -18,9 +18,13 @@ use Rattle.blocks.specs.Refuse.{Test, size, stride, number, table, read,
 unfoldable pub typeOk : ℤ → Bool
 typeOk filterType = between (negsuc 0) (pos 2) filterType
 
--- "Fractions 0 to 15 (8-tap with type -1: 0 upward)"
+-- "Fractions 0 to 15"
+unfoldable pub sixteenthOk : ℤ → Bool
+sixteenthOk f = between (pos 0) (pos 15) f
+
+-- "(8-tap with type -1: 0 upward)"
 unfoldable pub fractionOk : ℤ → ℤ → Bool
-fractionOk filterType f = leZ (pos 0) f && (ltZ filterType (pos 0) || leZ f (pos 15))
+fractionOk filterType f = sixteenthOk f || (ltZ filterType (pos 0) && leZ (pos 0) f)
 
 -- "subpel 5 families of 15 filters (600 numbers)"
 unfoldable pub subpelOk : ℕ → Bool
@@ -52,7 +56,7 @@ subpelTests deep dl dstStride sl srcOff srcStride w h mx my filterType tl el =
     ∷ written asks holds dl dstStride w h
     ∷ []
 
--- the rule of a block of w columns and h rows, on the pixels around a place
+-- the rule of a block of w columns and h rows, on the pixels around a place: "Width chooses the horizontal family, height the vertical"
 unfoldable pub put8Rule : (M B : ℕ) (subpel ext : List ℤ) (mx my filterType : ℤ) (w h : ℕ) → (ℕ → ℕ → ℕ) → ℕ
 put8Rule M B subpel ext mx my filterType w h =
     put8 M B (filterBits filterType) (axis subpel ext filterType (up mx) w) (axis subpel ext filterType (up my) h)

@@ -6,9 +6,10 @@ use lib.ListN.{length}
 use lib.Signed.{leZ, ltZ}
 use mathlib.Core.Bool.{Bool, true, false, _&&_, _||_}
 use mathlib.Core.List.{List, [], _∷_}
+use Rattle.rows.specs.Numbers.{up}
 use Rattle.rows.specs.Places.{pick, span, fill}
 use Rattle.rows.specs.Edge.{edge}
-use Rattle.blocks.specs.Refuse.{Test, size, stride, number, read, written, _asks_, lowest, orSame, sizeOk, blockSide, strideOk, holds, holdsAll}
+use Rattle.blocks.specs.Refuse.{Test, size, stride, number, read, written, _asks_, lowest, orSame, sizeOk, blockSide, strideOk, partLen, holds, holdsAll}
 use Rattle.blocks.specs.Edge.{placeOk}
 use Rattle.blocks.specs.Mask.{flagsOk}
 use Rattle.blocks.specs.declared.window.Frame.{Frame}
@@ -37,11 +38,14 @@ frameNamesOk f planeNo = flagsOk (f .«ss_hor») (f .«ss_ver») && leb planeNo 
 -- ---- the window of a block; kind is 0 copy, 1 8-tap, 2 bilinear, 3 warp
 
 -- "margins 3 before and 4 after on both axes (8-tap, warp), 0 and 1 (bilinear) or none (copy)"
+abbrev pub eightTaps : ℕ → Bool
+eightTaps kind = eqb kind 1 || eqb kind 3
+
 unfoldable pub before : ℕ → ℕ
-before kind = pick (eqb kind 1 || eqb kind 3) 3 0
+before kind = pick (eightTaps kind) 3 0
 
 unfoldable pub after : ℕ → ℕ
-after kind = pick (eqb kind 1 || eqb kind 3) 4 (pick (eqb kind 2) 1 0)
+after kind = pick (eightTaps kind) 4 (pick (eqb kind 2) 1 0)
 
 -- its sides, from the block's
 abbrev pub windowSide : (kind side : ℕ) → ℕ
@@ -76,14 +80,11 @@ isPlanes f planeNo kind w h x y mode =
     eqb mode 0
     && (inside (windowStart kind x) (windowSide kind w) (planeW f planeNo) && inside (windowStart kind y) (windowSide kind h) (planeH f planeNo))
 
--- how many places h rows of w at the stride s take: "begins at the window's first pixel and ends after its last"
-abbrev pub partLen : (s w h : ℕ) → ℕ
-partLen s w h = (h - 1) * s + w
-
--- "One call answers number, buffer (1 plane, 2 scratch), place and stride"; "Scratch has the window's width as stride"
+-- "One call answers number, buffer (1 plane, 2 scratch), place and stride"; "Scratch has the window's width as stride"; "The part begins at the window's
+-- first pixel and ends after its last"
 unfoldable pub windowAt : (planes : Bool) (planeStride ww wh : ℕ) (x y : ℤ) → Part
 windowAt true planeStride ww wh x y =
-    record { number = 0; buffer = 1; place = natAbs y * planeStride + natAbs x; stride = planeStride; len = partLen planeStride ww wh }
+    record { number = 0; buffer = 1; place = up y * planeStride + up x; stride = planeStride; len = partLen planeStride ww wh }
 windowAt false planeStride ww wh x y = record { number = 0; buffer = 2; place = 0; stride = ww; len = partLen ww ww wh }
 
 -- refused: the number and zeros
@@ -127,5 +128,5 @@ unfoldable pub rowAt : (f : Frame) (planeNo pl planeStride : ℕ) (row : ℤ) �
 rowAt f planeNo pl planeStride row =
     let verdict = lowest (rowTests f planeNo pl planeStride row) in
     orSame verdict
-    (record { number = 0; buffer = 1; place = natAbs row * planeStride; stride = planeStride; len = planeW f planeNo })
+    (record { number = 0; buffer = 1; place = up row * planeStride; stride = planeStride; len = planeW f planeNo })
     (noPart verdict)

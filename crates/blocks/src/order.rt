@@ -23,6 +23,7 @@ pub struct Shears {
     pub my: i32,
 }
 
+// How a block is predicted.
 pub enum Kind {
     Copy,
     Subpel(SubpelMotion),

@@ -5,11 +5,11 @@ use mathlib.Core.List.{List}
 use Rattle.rows.specs.Numbers.{clip}
 use Rattle.rows.specs.Places.{pixel}
 
--- "the plane's pixel at column clamp(x, 0, iw-1), row clamp(y, 0, ih-1)"
+-- the plane's pixel nearest to column x, row y
 unfoldable pub endless : List ℕ → (s iw ih : ℕ) → ℤ → ℤ → ℕ
 endless plane s iw ih x y = pixel plane s (clip (iw - 1) x) (clip (ih - 1) y)
 
--- "block place (i, j)" of a block at x, y
+-- "block place (i, j) gets the plane's pixel at column clamp(x+i, 0, iw-1), row clamp(y+j, 0, ih-1)"
 unfoldable pub edge : List ℕ → (s iw ih : ℕ) → ℤ → ℤ → ℕ → ℕ → ℕ
 edge plane s iw ih x y i j = endless plane s iw ih (x +ℤ pos i) (y +ℤ pos j)
 

@@ -4,10 +4,10 @@ pub mod Depth
 pub mod Places
 pub mod Copy
 pub mod Combine
+pub mod Edge
 pub mod Subpel
 pub mod Bilinear
 pub mod Mask
-pub mod Edge
 pub mod Search
 pub mod Warp
 pub mod Shear

@@ -6,7 +6,7 @@ use lib.ListN.{getD, take, drop}
 use mathlib.Core.Bool.{Bool, true, false, _&&_}
 use mathlib.Core.List.{List, [], _∷_, _++_}
 
--- the pixel, and the intermediate, at column i of row j
+-- the pixel at column i of row j
 abbrev pub pixel : List ℕ → ℕ → ℕ → ℕ → ℕ
 pixel l s i j = getD l (j * s + i) 0
 

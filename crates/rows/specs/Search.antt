@@ -4,7 +4,7 @@ use lib.Dec.{ltb, eqb}
 use lib.IntN.{ℤ, pos, negsuc, natAbs, _+ℤ_, _-ℤ_}
 use mathlib.Core.Bool.{Bool, true, false}
 use mathlib.Core.List.{List, [], _∷_}
-use Rattle.rows.specs.Numbers.{apart, sum}
+use Rattle.rows.specs.Numbers.{up, apart, sum}
 use Rattle.rows.specs.Places.{pick}
 
 -- the differences of row j
@@ -31,7 +31,7 @@ better (best t p) s o = pick (ltb s t) (best s o) (best t p)
 
 -- p, from column x of row y on
 abbrev pub moved : (ℕ → ℕ → ℕ) → ℤ → ℤ → ℕ → ℕ → ℕ
-moved p x y i j = p (natAbs x + i) (natAbs y + j)
+moved p x y i j = p (up x + i) (up y + j)
 
 -- "compares by sad_nxn blocks of (w+4) x (h+4)"; "Offset (dx, dy) starts one at column 2+dx, row 2+dy, the other at 2-dx, 2-dy"
 unfoldable pub sadAt : (depth : ℕ) → (ℕ → ℕ → ℕ) → (ℕ → ℕ → ℕ) → (w h : ℕ) → Offset → ℕ

@@ -1,4 +1,5 @@
--- Divisor, shears and affine offsets, on numbers. "32-bit steps wrap": each is written with its cut, also where it can't happen. Assumes nothing.
+-- Divisor, shears and affine offsets, on numbers. "32-bit steps wrap": those of Q, g and the shears are written with their
+-- cut, also where it can't happen. Assumes nothing.
 use Prim.Native.Nat.{ℕ, zero, suc, _+_, _-_, _*_, _/_, _^_}
 use lib.Dec.{ltb, leb}
 use lib.IntN.{ℤ, pos, negsuc, natAbs, _+ℤ_, _-ℤ_, _*ℤ_}

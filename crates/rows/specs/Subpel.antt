@@ -22,7 +22,6 @@ unfoldable pub family : ℕ → ℕ → ℕ
 family type side = cond (ltb 4 side) type (3 + type % 2)
 
 -- "otherwise filter number fraction-1. Type -1 uses ext"; subpel is "5 families of 15 filters"
--- "Width chooses the horizontal family, height the vertical": side is the width or the height
 unfoldable pub axis : (subpel ext : List ℤ) (type : ℤ) (fraction side : ℕ) → Axis
 axis subpel ext type zero side = whole
 axis subpel ext (negsuc t) (suc f) side = by (filter ext f)

@@ -6,7 +6,7 @@ ghost use lib.ListN.{length};
 ghost use lib.Signed.{mag, shrZ};
 ghost use Rattle.rows.specs.Numbers.{at, px, clip, half, low16, minus16};
 ghost use Rattle.rows.specs.Places.{rowOf};
-ghost use Rattle.rows.specs.Bilinear.{bilin, R, between2};
+ghost use Rattle.rows.specs.Bilinear.{bilin, R, bilinAt};
 use crate::numbers::clip8;
 use crate::numbers::clip16;
 use crate::subpel::kept;
@@ -23,21 +23,21 @@ fn bilin_sum(a: i32, b: i32, f: u32) -> i32
 // The sum of two bytes, of two 16-bit pixels and of two intermediates.
 fn between_u8(src: &[u8], p: usize, step: usize, f: u32) -> i32
     requires { ⌜ (p + step < length (now src)) × (f ≤ 15) ⌝ }
-    ensures { λ r. ⌜ (r ≡ between2 (px (now (src .entry))) p step f) × (mag r < 2 ^ 22) ⌝ }
+    ensures { λ r. ⌜ (r ≡ bilinAt (px (now (src .entry))) p step f) × (mag r < 2 ^ 22) ⌝ }
 {
     bilin_sum(src[p] as i32, src[p + step] as i32, f)
 }
 
 fn between_u16(src: &[u16], p: usize, step: usize, f: u32) -> i32
     requires { ⌜ (p + step < length (now src)) × (f ≤ 15) ⌝ }
-    ensures { λ r. ⌜ (r ≡ between2 (px (now (src .entry))) p step f) × (mag r < 2 ^ 22) ⌝ }
+    ensures { λ r. ⌜ (r ≡ bilinAt (px (now (src .entry))) p step f) × (mag r < 2 ^ 22) ⌝ }
 {
     bilin_sum(src[p] as i32, src[p + step] as i32, f)
 }
 
 fn between_i16(mid: &[i16], p: usize, step: usize, f: u32) -> i32
     requires { ⌜ (p + step < length (now mid)) × (f ≤ 15) ⌝ }
-    ensures { λ r. ⌜ (r ≡ between2 (at (now (mid .entry))) p step f) × (mag r < 2 ^ 22) ⌝ }
+    ensures { λ r. ⌜ (r ≡ bilinAt (at (now (mid .entry))) p step f) × (mag r < 2 ^ 22) ⌝ }
 {
     bilin_sum(mid[p] as i32, mid[p + step] as i32, f)
 }
@@ -94,7 +94,7 @@ pub fn put_bilin_row8(
 )
     requires { ⌜ (o + length (now dst) + step ≤ length (now src)) × (f ≤ 15) × (n ≤ 8) × (r ≤ 8) × (k ≤ 4) ⌝ }
     ensures { λ _. ⌜ now (dst .exit) ≡ rowOf (length (now (dst .entry)))
-        (λ i. clip 255 (shrZ (R n (between2 (px (now (src .entry))) (o + i) step f) +ℤ pos r) (2 ^ k))) ⌝ }
+        (λ i. clip 255 (shrZ (R n (bilinAt (px (now (src .entry))) (o + i) step f) +ℤ pos r) (2 ^ k))) ⌝ }
 {
     let w = dst.len();
     let mut i = 0;
@@ -118,7 +118,7 @@ pub fn put_bilin_row16(
 )
     requires { ⌜ (o + length (now dst) + step ≤ length (now src)) × (f ≤ 15) × (n ≤ 8) × (r ≤ 8) × (k ≤ 4) ⌝ }
     ensures { λ _. ⌜ now (dst .exit) ≡ rowOf (length (now (dst .entry)))
-        (λ i. clip max (shrZ (R n (between2 (px (now (src .entry))) (o + i) step f) +ℤ pos r) (2 ^ k))) ⌝ }
+        (λ i. clip max (shrZ (R n (bilinAt (px (now (src .entry))) (o + i) step f) +ℤ pos r) (2 ^ k))) ⌝ }
 {
     let w = dst.len();
     let mut i = 0;
@@ -141,7 +141,7 @@ pub fn prep_bilin_row8(
 )
     requires { ⌜ (o + length (now tmp) + step ≤ length (now src)) × (f ≤ 15) × (n ≤ 8) ⌝ }
     ensures { λ _. ⌜ now (tmp .exit) ≡ rowOf (length (now (tmp .entry)))
-        (λ i. minus16 (low16 (R n (between2 (px (now (src .entry))) (o + i) step f))) bias) ⌝ }
+        (λ i. minus16 (low16 (R n (bilinAt (px (now (src .entry))) (o + i) step f))) bias) ⌝ }
 {
     let w = tmp.len();
     let mut i = 0;
@@ -163,7 +163,7 @@ pub fn prep_bilin_row16(
 )
     requires { ⌜ (o + length (now tmp) + step ≤ length (now src)) × (f ≤ 15) × (n ≤ 8) ⌝ }
     ensures { λ _. ⌜ now (tmp .exit) ≡ rowOf (length (now (tmp .entry)))
-        (λ i. minus16 (low16 (R n (between2 (px (now (src .entry))) (o + i) step f))) bias) ⌝ }
+        (λ i. minus16 (low16 (R n (bilinAt (px (now (src .entry))) (o + i) step f))) bias) ⌝ }
 {
     let w = tmp.len();
     let mut i = 0;
@@ -177,7 +177,7 @@ pub fn prep_bilin_row16(
 // Pixels from intermediates: put, the second pass.
 pub fn mid_bilin_row8(dst: &mut [u8], mid: &[i16], o: usize, step: usize, f: u32, n: u32)
     requires { ⌜ (o + length (now dst) + step ≤ length (now mid)) × (f ≤ 15) × (n ≤ 8) ⌝ }
-    ensures { λ _. ⌜ now (dst .exit) ≡ rowOf (length (now (dst .entry))) (λ i. clip 255 (R n (between2 (at (now (mid .entry))) (o + i) step f))) ⌝ }
+    ensures { λ _. ⌜ now (dst .exit) ≡ rowOf (length (now (dst .entry))) (λ i. clip 255 (R n (bilinAt (at (now (mid .entry))) (o + i) step f))) ⌝ }
 {
     let w = dst.len();
     let mut i = 0;
@@ -198,7 +198,7 @@ pub fn mid_bilin_row16(
     max: u16,
 )
     requires { ⌜ (o + length (now dst) + step ≤ length (now mid)) × (f ≤ 15) × (n ≤ 8) ⌝ }
-    ensures { λ _. ⌜ now (dst .exit) ≡ rowOf (length (now (dst .entry))) (λ i. clip max (R n (between2 (at (now (mid .entry))) (o + i) step f))) ⌝ }
+    ensures { λ _. ⌜ now (dst .exit) ≡ rowOf (length (now (dst .entry))) (λ i. clip max (R n (bilinAt (at (now (mid .entry))) (o + i) step f))) ⌝ }
 {
     let w = dst.len();
     let mut i = 0;
@@ -221,7 +221,7 @@ pub fn mid_bilin_prep_row(
 )
     requires { ⌜ (o + length (now tmp) + step ≤ length (now mid)) × (f ≤ 15) × (n ≤ 8) ⌝ }
     ensures { λ _. ⌜ now (tmp .exit) ≡ rowOf (length (now (tmp .entry)))
-        (λ i. minus16 (low16 (R n (between2 (at (now (mid .entry))) (o + i) step f))) bias) ⌝ }
+        (λ i. minus16 (low16 (R n (bilinAt (at (now (mid .entry))) (o + i) step f))) bias) ⌝ }
 {
     let w = tmp.len();
     let mut i = 0;

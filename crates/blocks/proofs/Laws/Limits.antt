@@ -1,12 +1,21 @@
 -- "Limits: w 64 accepted, 65 is number 1; matrix[2] of 1 accepted, 0 is number 8." Assumes nothing.
 use mathlib.Core.Path.{_≡_, refl}
-use mathlib.Core.Bool.{true}
+use mathlib.Core.Bool.{true, false}
 use mathlib.Core.List.{List, [], _∷_}
 use Prim.Native.Nat.{ℕ, _*_}
 use lib.IntN.{ℤ, pos, negsuc}
-use Rattle.blocks.specs.Refuse.{need, lowest, sizeOk, strideOk, holds}
+use Rattle.blocks.specs.Refuse.{need, lowest, blockSide, sizeOk, strideOk, holds}
 use Rattle.blocks.specs.Copy.{putTests, prepTests}
 use Rattle.blocks.specs.Shear.{recipOk, entriesOk, shearTests}
+
+-- every entry with a block tests its sides so
+side-64 : sizeOk blockSide 64 ≡ true
+unfolding sizeOk
+side-64 = refl
+
+side-65 : sizeOk blockSide 65 ≡ false
+unfolding sizeOk
+side-65 = refl
 
 -- a block of one row, w wide, in buffers that hold just that
 put-64 : lowest (putTests 64 64 64 64 64 1) ≡ 0

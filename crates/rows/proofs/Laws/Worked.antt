@@ -7,11 +7,11 @@ use Rattle.rows.specs.Places.{fill, fillIn, paint, within}
 use Rattle.rows.specs.Combine.{avg, weighted}
 use Rattle.rows.specs.Subpel.{S, tapped, mid, put8, prep8}
 use Rattle.rows.specs.Bilinear.{bilin, R, along, putBilin}
-use Rattle.rows.specs.Mask.{weightOf}
+use Rattle.rows.specs.Mask.{weightOf, maskAt}
 use Rattle.rows.specs.Edge.{endless, edge}
 use Rattle.rows.specs.Shear.{Q}
 use Rattle.rows.specs.Worked.{Case, cases}
 
 pub worked : map (λ c. c .given) cases ≡ map (λ c. c .stated) cases
-unfolding low16 low32 sumZ fill fillIn paint within avg weighted S tapped mid put8 prep8 bilin R along putBilin weightOf endless edge Q
+unfolding low16 low32 sumZ fill fillIn paint within avg weighted S tapped mid put8 prep8 bilin R along putBilin weightOf maskAt endless edge Q
 worked = refl

@@ -6,7 +6,7 @@ use lib.ListN.{length}
 use mir.Syntax.{w16, w32}
 use mir.Val.{SFits, toZ}
 use Rattle.rows.specs.Numbers.{low16, minus16, at}
-use Rattle.rows.specs.Bilinear.{R, between2}
+use Rattle.rows.specs.Bilinear.{R, bilinAt}
 use Rattle.rows.proofs.Laws.Row.{Upto, upto-none, upto-all}
 use Rattle.rows.proofs.Laws.Filter.{upto-kept}
 use Rattle.rows.proofs.Laws.Signed.{back}
@@ -15,7 +15,7 @@ use Rattle.rows.proofs.bilinear.mid_bilin_prep_row.Tie as tie
 
 -- the first i are done
 abbrev Inv-loop : tie.InvT-loop
-Inv-loop tmp₀ mid o step f n bias w i₀ tmp i = Upto (pos 0) (λ x. minus16 (low16 (R n (between2 (at mid) (o + x) step f))) (toZ w16 bias)) (length tmp₀) i tmp
+Inv-loop tmp₀ mid o step f n bias w i₀ tmp i = Upto (pos 0) (λ x. minus16 (low16 (R n (bilinAt (at mid) (o + x) step f))) (toZ w16 bias)) (length tmp₀) i tmp
 
 abbrev μ-loop : tie.MeasureT-loop
 μ-loop tmp₀ mid o step f n bias w i₀ tmp i = w - i

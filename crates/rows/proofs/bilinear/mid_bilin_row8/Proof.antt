@@ -5,7 +5,7 @@ use lib.ListN.{length}
 use mir.Syntax.{w32}
 use mir.Val.{SFits}
 use Rattle.rows.specs.Numbers.{clip, at}
-use Rattle.rows.specs.Bilinear.{R, between2}
+use Rattle.rows.specs.Bilinear.{R, bilinAt}
 use Rattle.rows.proofs.Laws.Row.{Upto, upto-none, upto-more, upto-all}
 use Rattle.rows.proofs.Laws.Bilinear.{shr-none}
 use Rattle.rows.proofs.Laws.Signed.{back}
@@ -14,7 +14,7 @@ use Rattle.rows.proofs.bilinear.mid_bilin_row8.Tie as tie
 
 -- the first i are done
 abbrev Inv-loop : tie.InvT-loop
-Inv-loop dst₀ mid o step f n w i₀ dst i = Upto 0 (λ x. clip 255 (R n (between2 (at mid) (o + x) step f))) (length dst₀) i dst
+Inv-loop dst₀ mid o step f n w i₀ dst i = Upto 0 (λ x. clip 255 (R n (bilinAt (at mid) (o + x) step f))) (length dst₀) i dst
 
 abbrev μ-loop : tie.MeasureT-loop
 μ-loop dst₀ mid o step f n w i₀ dst i = w - i

@@ -7,7 +7,7 @@ use lib.Signed.{shrZ}
 use mir.Syntax.{w32}
 use mir.Val.{SFits}
 use Rattle.rows.specs.Numbers.{clip, px}
-use Rattle.rows.specs.Bilinear.{R, between2}
+use Rattle.rows.specs.Bilinear.{R, bilinAt}
 use Rattle.rows.proofs.Laws.Row.{Upto, upto-none, upto-more, upto-all}
 use Rattle.rows.proofs.Laws.Signed.{back}
 use Rattle.rows.proofs.bilinear.put_bilin_row8.Statement.{statement}
@@ -15,7 +15,7 @@ use Rattle.rows.proofs.bilinear.put_bilin_row8.Tie as tie
 
 -- the first i are done
 abbrev Inv-loop : tie.InvT-loop
-Inv-loop dst₀ src o step f n r k w i₀ dst i = Upto 0 (λ x. clip 255 (shrZ (R n (between2 (px src) (o + x) step f) +ℤ pos r) (2 ^ k))) (length dst₀) i dst
+Inv-loop dst₀ src o step f n r k w i₀ dst i = Upto 0 (λ x. clip 255 (shrZ (R n (bilinAt (px src) (o + x) step f) +ℤ pos r) (2 ^ k))) (length dst₀) i dst
 
 abbrev μ-loop : tie.MeasureT-loop
 μ-loop dst₀ src o step f n r k w i₀ dst i = w - i

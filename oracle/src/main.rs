@@ -1,0 +1,44 @@
+//! `oracle`: the worked numbers. `oracle compare [N] [SEED]`: the original against document 01's rules.
+//! `oracle differences`: where the original and document 01 part.
+
+use std::process::ExitCode;
+
+use oracle::compare::{self, Amount};
+use oracle::{differences, worked};
+
+const USAGE: &str = "usage: oracle | oracle compare [N] [SEED] | oracle differences";
+
+fn main() -> ExitCode {
+    let arguments: Vec<String> = std::env::args().skip(1).collect();
+    let words: Vec<&str> = arguments.iter().map(String::as_str).collect();
+    let well = match words.as_slice() {
+        [] => worked::print(),
+        ["compare", numbers @ ..] => match amount(numbers) {
+            Some(amount) => compare::original(amount),
+            None => usage(),
+        },
+        ["differences"] => {
+            differences::print();
+            true
+        }
+        _ => usage(),
+    };
+    if well { ExitCode::SUCCESS } else { ExitCode::FAILURE }
+}
+
+/// Number of calls and seed from the words after `compare`.
+fn amount(numbers: &[&str]) -> Option<Amount> {
+    let parsed: Result<Vec<u64>, _> = numbers.iter().map(|word| word.parse()).collect();
+    match parsed.ok()?.as_slice() {
+        [] => Some(Amount { calls: 20_000, seed: 1 }),
+        [calls] => Some(Amount { calls: *calls, seed: 1 }),
+        [calls, seed] => Some(Amount { calls: *calls, seed: *seed }),
+        _ => None,
+    }
+}
+
+/// Says how the program is called.
+fn usage() -> bool {
+    eprintln!("{USAGE}");
+    false
+}
