@@ -4,7 +4,7 @@ use lib.Dec.{leb, eqb}
 use lib.IntN.{ℤ, pos, negsuc}
 use lib.ListN.{getD, length}
 use mathlib.Core.Bool.{Bool, true, false, _&&_}
-use mathlib.Core.List.{List, [], _∷_}
+use mathlib.Core.List.{List, [], _∷_, _++_}
 use mathlib.Core.Path.{_≡_}
 use Rattle.rows.specs.Numbers.{near}
 use Rattle.rows.specs.Depth.{maxOf}
@@ -22,16 +22,19 @@ firstAbove mask k (suc n) = pick (leb (getD mask k 0) 64) (firstAbove mask (suc 
 unfoldable pub noneAbove : List ℕ → (w h : ℕ) → Bool
 noneAbove mask w h = leb (w * h) (firstAbove mask 0 (w * h))
 
-abbrev pub blendTests : (dl dstStride tl w h : ℕ) → List ℕ → List Test
-blendTests dl dstStride tl w h mask =
+-- all but the mask's values
+abbrev pub blendShape : (dl dstStride tl w h ml : ℕ) → List Test
+blendShape dl dstStride tl w h ml =
     size asks sizeOk blockSide w
     ∷ size asks sizeOk blockSide h
     ∷ stride asks strideOk w dstStride
     ∷ read asks holdsAll tl w h
-    ∷ read asks holdsAll (length mask) w h
+    ∷ read asks holdsAll ml w h
     ∷ written asks holds dl dstStride w h
-    ∷ above64 asks noneAbove mask w h
     ∷ []
+
+abbrev pub blendTests : (dl dstStride tl w h : ℕ) → List ℕ → List Test
+blendTests dl dstStride tl w h mask = blendShape dl dstStride tl w h (length mask) ++ (above64 asks noneAbove mask w h ∷ [])
 
 -- "Number 7 also gives row and column of the first such value in reading order"; zeros with every other number
 abbrev pub spotAt : (w p : ℕ) → Spot
