@@ -24,3 +24,16 @@ numbersOf depth = record { bits = bitsOf depth; bias = biasOf depth; max = maxOf
 pub record Bits (bits bias : ℕ) : Type 0 where
   pub bits4 : bits ≤ 4
   pub bias13 : bias ≤ 8192
+
+-- a block of the endless plane: bw columns and bh rows into a buffer of dl places, from a plane of iw columns and ih rows in pl places
+pub record Fetch (bw bh iw ih dl ds pl ps : ℕ) : Type 0 where
+  pub bw1 : 1 ≤ bw
+  pub bw128 : bw ≤ 128
+  pub bh1 : 1 ≤ bh
+  pub bh128 : bh ≤ 128
+  pub iw1 : 1 ≤ iw
+  pub iw14 : iw ≤ 16384
+  pub ih1 : 1 ≤ ih
+  pub ih14 : ih ≤ 16384
+  pub dst : Rows dl ds bw bh
+  pub plane : Rows pl ps iw ih
