@@ -16,4 +16,5 @@ pub mod Pixel
 pub mod Edge
 pub mod Filter
 pub mod Bilinear
+pub mod Warp
 pub mod Worked

@@ -9,3 +9,4 @@ pub mod mask;
 pub mod numbers;
 pub mod search;
 pub mod subpel;
+pub mod warp;

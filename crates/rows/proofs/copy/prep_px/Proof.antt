@@ -1,8 +1,8 @@
 use borrow.Author.Needs.{needs}
 use native.Mathlib.Omega.{arith}
 use native.Mathlib.Nat.{mul-le-mul, pow-le-pow-right}
-use Prim.Native.Nat.{ℕ, _*_, _^_, _≤_}
-use lib.IntN.{ℤ, pos, _-ℤ_}
+use Prim.Native.Nat.{_*_, _^_, _≤_}
+use lib.IntN.{pos, _-ℤ_}
 use mir.Syntax.{w16, w32}
 use mir.Val.{SFits}
 use Rattle.rows.specs.Copy.{prep}

@@ -1,0 +1,44 @@
+-- Laws of the warp's filters: a filter's place in the table, half of a power, and taps that stand side by side. Assumes nothing.
+use mathlib.Core.Path.{_≡_, sym, ap, subst, _∙_}
+use mathlib.Core.Bool.{true}
+use mathlib.Core.List.{List}
+use Prim.Native.Nat.{ℕ, _+_, _-_, _*_, _%_, _^_, _≤_, _<_}
+use native.Mathlib.Nat.{mul-one, one-mul, pow-suc, not-suc-le-zero}
+use native.Mathlib.Numerals.{add-one}
+use native.Mathlib.Omega.{arith}
+use borrow.Author.Tests.{ltb-true}
+use lib.Dec.{T}
+use lib.IntN.{ℤ, pos, negsuc, natAbs}
+use lib.ListN.{length}
+use lib.Pow.{shl-exact}
+use lib.Signed.{nonNeg}
+use Rattle.rows.specs.Numbers.{half, px}
+use Rattle.rows.specs.Warp.{isThere, warped}
+use Rattle.rows.proofs.Laws.Row.{Upto}
+use Rattle.rows.proofs.Laws.Taps.{tapped-same}
+
+-- a filter that is in the table has a place there
+pub in-place : (n : ℕ) (z : ℤ) → isThere n z ≡ true → T (nonNeg z) × (natAbs z < n)
+unfolding isThere
+in-place n (pos k) e = (tt, ltb-true k n e)
+in-place n (negsuc k) e = absurd (subst T (sym e) tt)
+
+-- half of 2^n, as a shift
+pub one-shl : (k : ℕ) → k < 32 → 1 * 2 ^ k % 4294967296 ≡ 2 ^ k
+one-shl k h = shl-exact {a = 1} 1 k 32 (omega arith) (omega arith) ∙ one-mul (2 ^ k)
+
+pub half-of : (n : ℕ) → 1 ≤ n → 2 ^ (n - 1) ≡ half n
+half-of n h =
+    let e : n - 1 + 1 ≡ n = omega arith in
+    let q : 2 ^ n ≡ 2 ^ (n - 1) * 2 = ap (λ (k : ℕ). 2 ^ k) (sym e ∙ add-one (n - 1)) ∙ pow-suc 2 (n - 1) in
+    omega (arith, q)
+
+-- eight pixels side by side
+pub beside : (table : List ℤ) (m a b : ℤ) (n r c : ℕ) (src : List ℕ) (o : ℕ)
+    → warped table m a b n r c (λ t. px src (o + t * 1)) ≡ warped table m a b n r c (λ t. px src (o + t))
+unfolding warped
+beside table m a b n r c src o = tapped-same _ (half n) n (λ t. px src (o + t * 1)) (λ t. px src (o + t)) λ t h. ap (λ (k : ℕ). px src (o + k)) (mul-one t)
+
+-- a loop that writes a row of n begins
+pub upto-start : {A : Type 0} {z : A} {f : ℕ → A} {n : ℕ} {d : List A} → length d ≡ n → Upto z f n 0 d
+upto-start e = record { le = omega arith; len = e; same = λ k h. absurd (not-suc-le-zero h) }

@@ -1,0 +1,37 @@
+use borrow.Author.Needs.{needs}
+use mathlib.Core.Path.{_≡_, _∙_}
+use Prim.Native.Nat.{_/_, _<_}
+use native.Mathlib.Omega.{arith}
+use lib.Dec.{T}
+use lib.IntN.{ℤ, natAbs}
+use lib.ListN.{length}
+use lib.Signed.{nonNeg}
+use mir.Syntax.{w32}
+use mir.Val.{SFits, toZ, ofZ}
+use Rattle.rows.specs.Warp.{filterNo}
+use Rattle.rows.proofs.Laws.Signed.{back}
+use Rattle.rows.proofs.Laws.Warp.{in-place}
+use Rattle.rows.proofs.warp.filter_for.Statement.{statement}
+use Rattle.rows.proofs.warp.filter_for.Tie as tie
+
+module _ (c : tie.After-filter-no) where
+  abbrev Z : ℤ
+  Z = let s = c .before .args in filterNo (s .m) (s .a) (s .b) (s .r) (s .c)
+
+  f : SFits w32 (c .filter-no .result)
+  f = omega arith
+
+  is : toZ w32 (ofZ w32 (c .filter-no .result)) ≡ Z
+  is = let s = c .before .fits in back f ∙ (rw (back (s .m), back (s .a), back (s .b)) at (c .filter-no .ensures))
+
+  inside : T (nonNeg Z) × (natAbs Z < length (c .before .args .table .now) / 8)
+  inside = in-place _ Z (c .before .pre .3)
+
+pub filter-for-spec : {M : Type 1} → statement M
+filter-for-spec =
+    tie.close
+    (tie.spec
+    (λ c κs. search needs)  -- filter-no-requires
+    (λ c. rw (is c) (inside c .0, omega (arith, inside c .1)))  -- as usize
+    (λ c κs. rw (is c) (omega (arith, inside c .1)))  -- eight-requires
+    (λ c. rw (is (c .before)) at (c .eight .ensures)))  -- returns
