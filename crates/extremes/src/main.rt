@@ -1,0 +1,253 @@
+// Runs each row of the crate `rows` once on extreme values and prints what it left: the widest pixels, taps, intermediates and weights that a
+// caller can hand over meet what the rows require. What is printed is compared with document 01's arithmetic, worked out apart from this code.
+use rows::bilinear::mid_bilin_prep_row;
+use rows::bilinear::mid_bilin_row8;
+use rows::bilinear::mid_bilin_row16;
+use rows::bilinear::prep_bilin_row8;
+use rows::bilinear::prep_bilin_row16;
+use rows::bilinear::put_bilin_row8;
+use rows::bilinear::put_bilin_row16;
+use rows::blend::blend_row8;
+use rows::blend::blend_row16;
+use rows::blend::morph_row8;
+use rows::blend::morph_row16;
+use rows::combine::avg_row8;
+use rows::combine::avg_row16;
+use rows::combine::mask_row8;
+use rows::combine::mask_row16;
+use rows::combine::w_avg_row8;
+use rows::combine::w_avg_row16;
+use rows::copy::copy_row8;
+use rows::copy::copy_row16;
+use rows::copy::prep_row8;
+use rows::copy::prep_row16;
+use rows::edge::edge_row8;
+use rows::edge::edge_row16;
+use rows::mask::abs_diff16;
+use rows::mask::four_row;
+use rows::mask::pair_row;
+use rows::mask::weight_row;
+use rows::search::sad_row8;
+use rows::search::sad_row16;
+use rows::subpel::mid_prep_row;
+use rows::subpel::mid_row8;
+use rows::subpel::mid_row16;
+use rows::subpel::tap_mid_row8;
+use rows::subpel::tap_mid_row16;
+use rows::subpel::tap_row8;
+use rows::subpel::tap_row16;
+use rows::warp::warp_prep_row;
+use rows::warp::warp_put_row8;
+use rows::warp::warp_put_row16;
+use rows::warp::warp_row8;
+use rows::warp::warp_row16;
+
+fn wide(n: u32) -> u64 {
+    n as u64
+}
+
+fn wide8(n: u8) -> u32 {
+    n as u32
+}
+
+fn wide16(n: u16) -> u32 {
+    n as u32
+}
+
+// A space and a number.
+fn say(n: u32) {
+    io::write_all(1, b" ");
+    io::print_decimal(1, wide(n));
+}
+
+fn say_signed(v: i16) {
+    if v < 0 {
+        io::write_all(1, b" -");
+        io::print_decimal(1, wide(abs_diff16(v, 0)));
+    } else {
+        say(abs_diff16(v, 0));
+    }
+}
+
+// A row's name and what it left, on a line.
+fn row8(name: &[u8], row: &[u8]) {
+    io::write_all(1, name);
+    let mut i = 0;
+    while i < row.len() {
+        say(wide8(row[i]));
+        i += 1;
+    }
+    io::write_all(1, b"\n");
+}
+
+fn row16(name: &[u8], row: &[u16]) {
+    io::write_all(1, name);
+    let mut i = 0;
+    while i < row.len() {
+        say(wide16(row[i]));
+        i += 1;
+    }
+    io::write_all(1, b"\n");
+}
+
+fn mids(name: &[u8], row: &[i16]) {
+    io::write_all(1, name);
+    let mut i = 0;
+    while i < row.len() {
+        say_signed(row[i]);
+        i += 1;
+    }
+    io::write_all(1, b"\n");
+}
+
+fn total(name: &[u8], n: u32) {
+    io::write_all(1, name);
+    say(n);
+    io::write_all(1, b"\n");
+}
+
+fn run_copy() {
+    let mut d8 = [0u8; 1];
+    copy_row8(&mut d8, &[255u8; 1], 0);
+    row8(b"copy_row8", &d8);
+    let mut d16 = [0u16; 1];
+    copy_row16(&mut d16, &[65535u16; 1], 0);
+    row16(b"copy_row16", &d16);
+    let mut t = [0i16; 1];
+    prep_row8(&mut t, &[255u8; 1], 0);
+    mids(b"prep_row8", &t);
+    prep_row16(&mut t, &[65535u16; 1], 0, 4, 8192);
+    mids(b"prep_row16", &t);
+}
+
+fn run_combine() {
+    let low = [-32768i16; 2];
+    let high = [32767i16; 2];
+    let mut d8 = [0u8; 2];
+    avg_row8(&mut d8, &high, &high, 0);
+    row8(b"avg_row8", &d8);
+    w_avg_row8(&mut d8, &high, &low, 0, 32);
+    row8(b"w_avg_row8", &d8);
+    mask_row8(&mut d8, &high, &low, 0, &[255u8; 2], 0);
+    row8(b"mask_row8", &d8);
+    let mut d16 = [0u16; 2];
+    avg_row16(&mut d16, &low, &low, 0, 2, 8192, 4095);
+    row16(b"avg_row16", &d16);
+    w_avg_row16(&mut d16, &low, &high, 0, -16, 4, 8192, 1023);
+    row16(b"w_avg_row16", &d16);
+    mask_row16(&mut d16, &high, &low, 0, &[255u8; 2], 0, 2, 8192, 4095);
+    row16(b"mask_row16", &d16);
+}
+
+fn run_blend() {
+    let mut d8 = [255u8; 2];
+    blend_row8(&mut d8, &[255u8; 2], &[64u8; 2], 0);
+    row8(b"blend_row8", &d8);
+    let mut d16 = [65535u16; 2];
+    blend_row16(&mut d16, &[65535u16; 2], &[63u8; 2], 0);
+    row16(b"blend_row16", &d16);
+    morph_row8(&mut d8, -16384, 4194304);
+    row8(b"morph_row8", &d8);
+    morph_row16(&mut d16, 16384, 4194304, 4095);
+    row16(b"morph_row16", &d16);
+}
+
+fn run_mask() {
+    let mut m = [0u8; 4];
+    weight_row(&mut m, &[32767i16; 4], &[-32768i16; 4], 0, 8, 4);
+    row8(b"weight_row", &m);
+    let mut mask = [0u8; 2];
+    pair_row(&mut mask, &m, 1);
+    row8(b"pair_row", &mask);
+    four_row(&mut mask, &[255u8; 4], &[255u8; 4], 0);
+    row8(b"four_row", &mask);
+}
+
+fn run_edge() {
+    let mut d8 = [0u8; 4];
+    edge_row8(&mut d8, &[255u8; 1], 0, 1, -1073741824);
+    row8(b"edge_row8", &d8);
+    let mut d16 = [0u16; 4];
+    edge_row16(&mut d16, &[65535u16; 3], 0, 3, 1073741824);
+    row16(b"edge_row16", &d16);
+}
+
+fn run_subpel() {
+    let f = [-128i8; 8];
+    let g = [127i8; 8];
+    let mut d8 = [0u8; 1];
+    tap_row8(&mut d8, &[255u8; 8], 0, 1, &g, 34, 6);
+    row8(b"tap_row8", &d8);
+    mid_row8(&mut d8, &[-32768i16; 8], 0, 1, &f, 1024, 11);
+    row8(b"mid_row8", &d8);
+    let mut d16 = [0u16; 1];
+    tap_row16(&mut d16, &[65535u16; 8], 0, 1, &f, 64, 7, 4095);
+    row16(b"tap_row16", &d16);
+    mid_row16(&mut d16, &[32767i16; 8], 0, 1, &g, 512, 10, 1023);
+    row16(b"mid_row16", &d16);
+    let mut t = [0i16; 1];
+    tap_mid_row8(&mut t, &[255u8; 8], 0, 1, &g, 2, 2, 0);
+    mids(b"tap_mid_row8", &t);
+    tap_mid_row16(&mut t, &[65535u16; 8], 0, 1, &g, 4, 3, 8192);
+    mids(b"tap_mid_row16", &t);
+    mid_prep_row(&mut t, &[-32768i16; 8], 0, 1, &f, 32, 6, 8192);
+    mids(b"mid_prep_row", &t);
+}
+
+fn run_bilinear() {
+    let mut d8 = [0u8; 1];
+    put_bilin_row8(&mut d8, &[255u8; 2], 0, 1, 15, 0, 8, 4);
+    row8(b"put_bilin_row8", &d8);
+    mid_bilin_row8(&mut d8, &[-32768i16; 2], 0, 1, 15, 8);
+    row8(b"mid_bilin_row8", &d8);
+    let mut d16 = [0u16; 1];
+    put_bilin_row16(&mut d16, &[65535u16; 2], 0, 1, 15, 4, 0, 0, 1023);
+    row16(b"put_bilin_row16", &d16);
+    mid_bilin_row16(&mut d16, &[32767i16; 2], 0, 1, 1, 6, 4095);
+    row16(b"mid_bilin_row16", &d16);
+    let mut t = [0i16; 1];
+    prep_bilin_row8(&mut t, &[255u8; 2], 0, 1, 15, 0, 0);
+    mids(b"prep_bilin_row8", &t);
+    prep_bilin_row16(&mut t, &[65535u16; 2], 0, 1, 15, 2, 8192);
+    mids(b"prep_bilin_row16", &t);
+    mid_bilin_prep_row(&mut t, &[-32768i16; 2], 0, 1, 15, 4, 8192);
+    mids(b"mid_bilin_prep_row", &t);
+}
+
+fn run_search() {
+    total(b"sad_row8", sad_row8(&[255u8; 68], 0, &[0u8; 68], 0, 68));
+    total(
+        b"sad_row16",
+        sad_row16(&[0u16; 68], 0, &[65535u16; 68], 0, 68),
+    );
+}
+
+fn run_warp() {
+    let low = [-128i8; 1544];
+    let high = [127i8; 1544];
+    let mut mid = [0i16; 8];
+    warp_row8(&mut mid, &[255u8; 15], 0, &high, 0, 0, 0, 14, 3);
+    mids(b"warp_row8", &mid);
+    warp_row16(&mut mid, &[65535u16; 15], 0, &high, 0, 0, 0, 14, 5);
+    mids(b"warp_row16", &mid);
+    let mut d8 = [0u8; 8];
+    warp_put_row8(&mut d8, &[-32768i16; 64], 0, &low, 0, 0, 0, 7, 11);
+    row8(b"warp_put_row8", &d8);
+    let mut d16 = [0u16; 8];
+    warp_put_row16(&mut d16, &[32767i16; 64], 0, &high, 0, 0, 0, 7, 9, 4095);
+    row16(b"warp_put_row16", &d16);
+    warp_prep_row(&mut mid, &[-32768i16; 64], 0, &low, 0, 0, 0, 7, 7, 8192);
+    mids(b"warp_prep_row", &mid);
+}
+
+fn main() {
+    run_copy();
+    run_combine();
+    run_blend();
+    run_mask();
+    run_edge();
+    run_subpel();
+    run_bilinear();
+    run_search();
+    run_warp();
+}
