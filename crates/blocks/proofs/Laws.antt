@@ -5,3 +5,5 @@ pub mod Limits
 pub mod Deep
 pub mod Rows
 pub mod Ready
+pub mod Answer
+pub mod CopyReady

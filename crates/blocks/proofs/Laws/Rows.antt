@@ -40,6 +40,15 @@ module _ {A : Type 0} where
       let k : y * s + w ≤ length d₀ = row-fits (length d₀) s w h y (b .fits) lt in
       span-length z d (y * s) (y * s + w) (omega (arith, p)) ∙ omega arith
 
--- in a turn at row y, the row is within the buffer
+module _ {A : Type 0} where
+  -- in a turn at row y, the row is within the buffer as it stands, and the part lent is as long as the row
+  pub record Turn (s w y : ℕ) (d : List A) : Type 0 where
+    pub room : y * s + w ≤ length d
+    pub long : length (span d (y * s) (y * s + w)) ≡ w
+
+  pub turn : (z : A) {s w : ℕ} {f : ℕ → ℕ → A} {d₀ : List A} {h y : ℕ} {d : List A} → Filled s w f d₀ h y d → Rows (length d₀) s w h → y < h → Turn s w y d
+  turn z {s} {w} {f} {d₀} {h} {y} p b lt = record { room = omega (arith, row-fits (length d₀) s w h y (b .fits) lt, p); long = filled-span z p b lt }
+
+-- in a turn at row y, the row is within a buffer that is read
 pub row-in : {l s w h : ℕ} (y : ℕ) → Rows l s w h → y < h → y * s + w ≤ l
 row-in {l} {s} {w} {h} y r lt = row-fits l s w h y (r .fits) lt

@@ -1,7 +1,7 @@
 use mathlib.Core.Path.{_≡_, sym, _∙_}
 use borrow.Author.Needs.{needs}
 use Rattle.blocks.proofs.Laws.Refuse.{done, refused}
-use Rattle.blocks.proofs.Laws.Ready.{put-ready}
+use Rattle.blocks.proofs.Laws.CopyReady.{put-ready}
 use Rattle.blocks.proofs.copy.hv_put_8bpc.Statement.{statement}
 use Rattle.blocks.proofs.copy.hv_put_8bpc.Tie as tie
 

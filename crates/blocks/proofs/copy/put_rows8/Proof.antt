@@ -1,11 +1,10 @@
 use native.Mathlib.Omega.{arith}
-use Prim.Native.Nat.{ℕ, _+_, _-_, _*_, _≤_}
-use mathlib.Core.Path.{_≡_}
+use Prim.Native.Nat.{_+_, _-_, _*_, _≤_}
 use lib.ListN.{length}
 use borrow.Author.Needs.{needs}
 use Rattle.rows.specs.Places.{pixel}
 use Rattle.rows.specs.Copy.{put}
-use Rattle.blocks.proofs.Laws.Rows.{Filled, filled-none, filled-more, filled-all, filled-span, row-in}
+use Rattle.blocks.proofs.Laws.Rows.{Filled, filled-none, filled-more, filled-all, Turn, turn, row-in}
 use Rattle.blocks.proofs.copy.put_rows8.Statement.{statement}
 use Rattle.blocks.proofs.copy.put_rows8.Tie as tie
 
@@ -19,15 +18,11 @@ abbrev μ-loop : tie.MeasureT-loop
 abbrev entry : tie.In-loop Inv-loop μ-loop → tie.Start Inv-loop μ-loop
 entry c = c .before .before .before .before
 
--- in a turn, row y is within both buffers, and the part lent is as long as the row
 row : (c : tie.In-loop Inv-loop μ-loop) → let a = entry c .args in let y = c .before .loop .y in
-    (y * a .dst-stride + a .w ≤ length (c .before .loop .dst)) × (y * a .src-stride + a .w ≤ length (a .src .now))
+    Turn (a .dst-stride) (a .w) y (c .before .loop .dst) × (y * a .src-stride + a .w ≤ length (a .src .now))
 row c =
     let p = entry c .pre in let y = c .before .loop .y in let lt = c .loop-test .taken in
-    (omega (arith, row-in y (p .1) lt, c .before .loop .inv .len), row-in y (p .2) lt)
-
-copy-row8-requires : tie.Need-copy-row8-requires Inv-loop μ-loop
-copy-row8-requires c κs = omega (arith, row (c .before), filled-span 0 (c .before .before .loop .inv) (entry (c .before) .pre .1) (c .before .loop-test .taken))
+    (turn 0 (c .before .loop .inv) (p .1) lt, row-in y (p .2) lt)
 
 loop-again : tie.Need-loop-again Inv-loop μ-loop
 loop-again c =
@@ -48,7 +43,7 @@ put-rows8-spec =
     (λ c. omega (arith, row c))  -- part-copy-row8-start
     (λ c. omega (arith, row c))  -- part-copy-row8-end
     (λ c. omega (arith, row (c .before)))  -- mul-copy-row8
-    copy-row8-requires
+    (λ c κs. omega (arith, row (c .before)))  -- copy-row8-requires
     (λ c. search needs)  -- add-y
     (λ c. search needs)  -- loop-less
     loop-again

@@ -1,0 +1,53 @@
+use native.Mathlib.Omega.{arith}
+use Prim.Native.Nat.{_+_, _-_, _*_, _≤_}
+use lib.IntN.{pos}
+use lib.ListN.{length}
+use borrow.Author.Needs.{needs}
+use Rattle.rows.specs.Places.{pixel}
+use Rattle.rows.specs.Copy.{prep}
+use Rattle.blocks.proofs.Laws.Rows.{Filled, filled-none, filled-more, filled-all, Turn, turn, row-in}
+use Rattle.blocks.proofs.copy.prep_rows16.Statement.{statement}
+use Rattle.blocks.proofs.copy.prep_rows16.Tie as tie
+
+abbrev Inv-loop : tie.InvT-loop
+Inv-loop tmp₀ ts src ss w h bits bias y₀ tmp y = Filled ts w (λ i j. prep bits bias (pixel src ss i j)) tmp₀ h y tmp
+
+abbrev μ-loop : tie.MeasureT-loop
+μ-loop tmp₀ ts src ss w h bits bias y₀ tmp y = h - y
+
+-- the function's entry, from a turn of the loop
+abbrev entry : tie.In-loop Inv-loop μ-loop → tie.Start Inv-loop μ-loop
+entry c = c .before .before .before
+
+row : (c : tie.In-loop Inv-loop μ-loop) → let a = entry c .args in let y = c .before .loop .y in
+    Turn (a .tmp-stride) (a .w) y (c .before .loop .tmp) × (y * a .src-stride + a .w ≤ length (a .src .now))
+row c =
+    let p = entry c .pre in let y = c .before .loop .y in let lt = c .loop-test .taken in
+    (turn (pos 0) (c .before .loop .inv) (p .1) lt, row-in y (p .2) lt)
+
+loop-again : tie.Need-loop-again Inv-loop μ-loop
+loop-again c =
+    let t = c .before .before .before in
+    let p = entry t .pre in
+    filled-more (pos 0) _ (t .before .loop .inv) (p .0 .w1) (p .1) (t .loop-test .taken) (c .before .prep-row16 .ensures)
+
+pub prep-rows16-spec : {M : Type 1} → statement M
+prep-rows16-spec =
+    tie.close
+    (tie.spec
+    Inv-loop
+    μ-loop
+    (λ c. filled-none (pos 0) _ _ _ _ _ (omega (arith, c .before .pre)))  -- loop-holds
+    (λ c. omega (arith, row c))  -- mul-d
+    (λ c. omega (arith, row c))  -- add-prep-row16
+    (λ c. omega (arith, row c))  -- mul-prep-row16
+    (λ c. omega (arith, row c))  -- sub-prep-row16
+    (λ c. omega (arith, row c))  -- part-prep-row16-start
+    (λ c. omega (arith, row c))  -- part-prep-row16-end
+    (λ c. omega (arith, row (c .before)))  -- mul-prep-row16-2
+    (λ c κs. omega (arith, row (c .before)))  -- prep-row16-requires
+    (λ c. search needs)  -- add-y
+    (λ c. search needs)  -- loop-less
+    loop-again
+    (λ c. c .before .loop .inv .len)  -- same-length
+    (λ c. filled-all (c .before .loop .inv) (c .loop-test .left)))  -- returns
