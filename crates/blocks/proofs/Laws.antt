@@ -7,3 +7,5 @@ pub mod Rows
 pub mod Ready
 pub mod Answer
 pub mod CopyReady
+pub mod Unique
+pub mod EdgeReady

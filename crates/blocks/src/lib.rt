@@ -1,6 +1,7 @@
 // Block kernels, windows and orders, over the contracts of the rows.
 pub mod blend;
 pub mod copy;
+pub mod edge;
 pub mod order;
 pub mod refuse;
 pub mod shear;

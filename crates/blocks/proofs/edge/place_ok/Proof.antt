@@ -1,0 +1,16 @@
+use mathlib.Core.Path.{_≡_}
+use Rattle.rows.proofs.Laws.Signed.{back}
+use Rattle.blocks.specs.Edge.{placeOk}
+use Rattle.blocks.proofs.Laws.EdgeReady.{near-both}
+use Rattle.blocks.proofs.edge.place_ok.Statement.{statement}
+use Rattle.blocks.proofs.edge.place_ok.Tie as tie
+
+returns : tie.Need-returns
+unfolding placeOk
+returns c = rw (back (c .fits .x)) (near-both 1073741823 (c .args .x))
+
+pub place-ok-spec : {M : Type 1} → statement M
+place-ok-spec =
+    tie.close
+    (tie.spec
+    returns)

@@ -1,0 +1,14 @@
+use borrow.Author.Needs.{needs}
+use Rattle.rows.proofs.Laws.Signed.{back}
+use Rattle.blocks.proofs.edge.places.Statement.{statement}
+use Rattle.blocks.proofs.edge.places.Tie as tie
+
+pub places-spec : {M : Type 1} → statement M
+places-spec =
+    tie.close
+    (tie.spec
+    (λ c κs. search needs)  -- place-ok-requires
+    (λ c κs. search needs)  -- place-ok-requires-2
+    (λ c κs. search needs)  -- needed-requires
+    (λ c κs. search needs)  -- needed-requires-2
+    (λ c. let a = c .before .before .before .before in cc (back (a .fits .x), back (a .fits .y))))  -- returns
