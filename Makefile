@@ -1,0 +1,65 @@
+# make           prove every crate, and build into dist/ what there is
+# make test      the gate: compare with the Rust where its source is there, then rt ci, whose last line is the verdict
+# make compare   compare at length: N calls of each function at each depth, made from SEED
+# make wrong     try the wrong programs of wrong/, which the prover must refuse
+# make bench     measure speed against the Rust
+# make clean     remove what the others made
+#
+# Nothing needs the network. Wanted: the kit (rt) and make; python3 for `make wrong`, cargo for what runs the Rust.
+
+RAV2D_SRC ?= ../shared/docs/src
+N ?= 20000
+SEED ?=
+
+# The oracle stands one folder deeper, so it is given the whole path.
+SOURCE := $(abspath $(RAV2D_SRC))
+ORACLE = cd oracle && RAV2D_SRC='$(SOURCE)' cargo run --offline
+
+# Prints why nothing can be compared with the Rust, in one sentence; nothing where it can.
+define lacking
+if [ ! -f oracle/Cargo.toml ]; then echo "Not compared with the Rust: there is no oracle/Cargo.toml."; \
+elif [ ! -f '$(SOURCE)/crates/rav2d/src/mc.rs' ]; then echo "Not compared with the Rust: its source is not in $(RAV2D_SRC) (RAV2D_SRC names the folder)."; \
+elif ! command -v cargo >/dev/null; then echo "Not compared with the Rust: there is no cargo."; fi
+endef
+
+# An archive is made once crates/blocks exports a function.
+ARCHIVE := $(shell grep -rqs 'extern "C"' crates/blocks/src && echo dist/libblocks.a)
+
+.PHONY: all check test compare wrong bench clean
+
+all: check $(ARCHIVE)
+	@mkdir -p dist
+	@for h in include/*.h; do [ ! -f "$$h" ] || { mkdir -p dist/include && cp "$$h" dist/include/; }; done
+	@{ echo "kit: $$(rt version)"; \
+	   if commit=$$(git rev-parse HEAD 2>/dev/null); then \
+	       [ -z "$$(git status --porcelain)" ] || commit="$$commit, with changes that no commit has"; echo "commit: $$commit"; fi; \
+	   grep '^rt: ' target/check.log; } >dist/VERSION
+	@if [ -d crates/worked ]; then cat target/log/worked.stdout; fi
+	@for f in dist/libblocks.a dist/include/*.h dist/VERSION; do [ ! -f "$$f" ] || echo "made $$f"; done
+	@[ -n '$(ARCHIVE)' ] || echo "made no archive: crates/blocks exports no function yet"
+
+check:
+	@mkdir -p target
+	@rt check >target/check.log 2>&1 || { cat target/check.log; exit 1; }
+	@grep '^rt: ' target/check.log
+
+# Making it proves the crate once more, so it is made only after a change.
+dist/libblocks.a: crates.txt tools/native-archive $(shell find crates -name '*.rt' -o -name '*.antt') | check
+	@tools/native-archive blocks $@
+
+test:
+	@why=$$($(lacking)); if [ -n "$$why" ]; then echo "$$why"; else ($(ORACLE)) && ($(ORACLE) --release -- compare 300); fi
+	@rt ci
+
+compare:
+	@why=$$($(lacking)); if [ -n "$$why" ]; then echo "$$why" >&2; exit 1; fi
+	@$(ORACLE) --release -- compare $(N) $(SEED)
+
+wrong:
+	@tools/wrong
+
+bench:
+	@if [ -f bench/Cargo.toml ]; then cd bench && cargo run --offline --release; else echo "Nothing is measured yet: there is no bench/Cargo.toml."; fi
+
+clean:
+	rm -rf target dist oracle/target bench/target
