@@ -9,3 +9,4 @@ pub mod Answer
 pub mod CopyReady
 pub mod Unique
 pub mod EdgeReady
+pub mod CombineReady

@@ -1,5 +1,6 @@
 // Block kernels, windows and orders, over the contracts of the rows.
 pub mod blend;
+pub mod combine;
 pub mod copy;
 pub mod edge;
 pub mod order;

@@ -1,0 +1,51 @@
+use mathlib.Core.Path.{_≡_, sym, ap, _∙_}
+use lib.IntN.{ℤ}
+use lib.ListN.{length}
+use borrow.Author.Needs.{needs}
+use Rattle.rows.specs.Numbers.{up}
+use Rattle.rows.proofs.Laws.Signed.{back}
+use Rattle.blocks.specs.Refuse.{lowest, depthOk}
+use Rattle.blocks.specs.Ready.{numbersOf}
+use Rattle.blocks.specs.Combine.{wAvgTests}
+use Rattle.blocks.proofs.Laws.Refuse.{done, refused}
+use Rattle.blocks.proofs.Laws.Deep.{deep-bits}
+use Rattle.blocks.proofs.Laws.CombineReady.{w-avg-ready}
+use Rattle.blocks.proofs.combine.hv_w_avg_16bpc.Statement.{statement}
+use Rattle.blocks.proofs.combine.hv_w_avg_16bpc.Tie as tie
+
+abbrev entry : tie.After-check-combine → tie.Start
+entry c = c .before .before .before .before
+
+number : (c : tie.After-check-combine) → let a = entry c .args in
+    c .check-combine .result ≡ lowest (wAvgTests (depthOk (a .depth)) (length (a .dst .now)) (a .dst-stride) (length (a .tmp1 .now)) (length (a .tmp2 .now)) (a .w) (a .h) (a .weight))
+number c = rw (c .before .before .depth-ok .ensures, c .before .weight-ok .ensures, back (entry c .fits .depth), back (entry c .fits .weight)) at (c .check-combine .ensures)
+
+depth : (c : tie.After-depth-numbers) → c .depth-numbers .result ≡ numbersOf (up (entry (c .before .before) .args .depth))
+depth c = c .depth-numbers .ensures ∙ ap (λ (z : ℤ). numbersOf (up z)) (back (entry (c .before .before) .fits .depth))
+
+depth-numbers-requires : tie.Need-depth-numbers-requires
+depth-numbers-requires c κs = rw (back (entry (c .before) .fits .depth)) (w-avg-ready _ _ _ _ _ _ _ _ (sym (number (c .before)) ∙ c .if1 .taken) .0)
+
+w-avg-rows16-requires : tie.Need-w-avg-rows16-requires
+w-avg-rows16-requires c κs =
+    let t = c .before .before in
+    let p = w-avg-ready _ _ _ _ _ _ _ _ (sym (number (t .before)) ∙ t .if1 .taken) in
+    (p .1 .0, p .1 .1, p .1 .2, p .1 .3, rw (back (entry (t .before) .fits .weight)) (p .1 .4), rw (depth (c .before)) (deep-bits _ (p .0)))
+
+returns : tie.Need-returns
+returns c =
+    let n = c .before .before .before .before in
+    (number (n .before .before), rw (depth n, back (entry (n .before .before) .fits .weight)) at (c .before .before .w-avg-rows16 .ensures) ∙ sym (done _ _ _ (n .before .if1 .taken)))
+
+pub hv-w-avg-16bpc-spec : {M : Type 1} → statement M
+hv-w-avg-16bpc-spec =
+    tie.close
+    (tie.spec
+    (λ c κs. search needs)  -- depth-ok-requires
+    (λ c κs. search needs)  -- weight-ok-requires
+    (λ c κs. search needs)  -- check-combine-requires
+    depth-numbers-requires
+    w-avg-rows16-requires
+    (λ c. search needs)  -- same-length
+    returns
+    (λ c. (number (c .before), sym (refused _ _ _ (c .if1 .left)))))  -- returns-2

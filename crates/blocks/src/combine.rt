@@ -1,0 +1,396 @@
+// avg, w_avg, mask: two blocks of intermediates combined into pixels.
+ghost use mathlib.Core.Path.{_≡_};
+ghost use mathlib.Core.Bool.{true};
+ghost use Prim.Native.Nat.{_*_, _<_};
+ghost use lib.ListN.{length};
+ghost use lib.Signed.{mag};
+ghost use Rattle.rows.specs.Numbers.{up};
+ghost use Rattle.rows.specs.Places.{fill, pixel};
+ghost use Rattle.rows.specs.Combine.{avg, weighted, masked, both};
+ghost use Rattle.blocks.specs.Refuse.{lowest, depthOk};
+ghost use Rattle.blocks.specs.Ready.{Block, Rows, Bits};
+ghost use Rattle.blocks.specs.Combine.{combineTests, weightOk, AvgAnswer, WAvgAnswer, MaskAnswer};
+use crate::refuse::depth_numbers;
+use crate::refuse::depth_ok;
+use crate::refuse::held;
+use crate::refuse::holds_rows;
+use crate::refuse::needed;
+use crate::refuse::sizes;
+use crate::refuse::stride;
+use rows::combine::avg_row8;
+use rows::combine::avg_row16;
+use rows::combine::mask_row8;
+use rows::combine::mask_row16;
+use rows::combine::w_avg_row8;
+use rows::combine::w_avg_row16;
+
+// The tests of a combination: what else its numbers and its mask must meet comes in as two outcomes.
+fn check_combine(
+    dl: usize,
+    dst_stride: usize,
+    l1: usize,
+    l2: usize,
+    w: usize,
+    h: usize,
+    other: bool,
+    mask: bool,
+) -> u32
+    ensures { λ r. ⌜ r ≡ lowest (combineTests dl «dst_stride» l1 l2 w h other mask) ⌝ }
+{
+    let buffers = held(
+        l1,
+        w,
+        w,
+        h,
+        5,
+        held(
+            l2,
+            w,
+            w,
+            h,
+            5,
+            needed(mask, 5, held(dl, dst_stride, w, h, 6, 0)),
+        ),
+    );
+    sizes(w, h, stride(w, dst_stride, needed(other, 3, buffers)))
+}
+
+// -16 to 32
+fn weight_ok(weight: i32) -> bool
+    ensures { λ r. ⌜ r ≡ weightOk weight ⌝ }
+{
+    (-16 <= weight) & (weight <= 32)
+}
+
+fn avg_rows8(dst: &mut [u8], dst_stride: usize, tmp1: &[i16], tmp2: &[i16], w: usize, h: usize)
+    requires { ⌜ Block w h × Rows (length (now dst)) «dst_stride» w h × Rows (length (now tmp1)) w w h × Rows (length (now tmp2)) w w h ⌝ }
+    ensures { λ _. ⌜ now (dst .exit) ≡ fill (now (dst .entry)) «dst_stride» w h (λ i j. both (avg 255 4 0) (now (tmp1 .entry)) (now (tmp2 .entry)) (j * w) i) ⌝ }
+{
+    let mut y = 0;
+    while y < h {
+        let d = y * dst_stride;
+        avg_row8(&mut dst[d..d + w], tmp1, tmp2, y * w);
+        y += 1;
+    }
+}
+
+fn avg_rows16(
+    dst: &mut [u16],
+    dst_stride: usize,
+    tmp1: &[i16],
+    tmp2: &[i16],
+    w: usize,
+    h: usize,
+    bits: u32,
+    bias: u32,
+    max: u16,
+)
+    requires { ⌜ Block w h × Rows (length (now dst)) «dst_stride» w h × Rows (length (now tmp1)) w w h × Rows (length (now tmp2)) w w h × Bits bits bias ⌝ }
+    ensures { λ _. ⌜ now (dst .exit) ≡ fill (now (dst .entry)) «dst_stride» w h (λ i j. both (avg max bits bias) (now (tmp1 .entry)) (now (tmp2 .entry)) (j * w) i) ⌝ }
+{
+    let mut y = 0;
+    while y < h {
+        let d = y * dst_stride;
+        avg_row16(&mut dst[d..d + w], tmp1, tmp2, y * w, bits, bias, max);
+        y += 1;
+    }
+}
+
+#[no_mangle]
+pub extern "C" fn hv_avg_8bpc(
+    dst: &mut [u8],
+    dst_stride: usize,
+    tmp1: &[i16],
+    tmp2: &[i16],
+    w: usize,
+    h: usize,
+) -> u32
+    ensures { λ r. ⌜ AvgAnswer true 8 (now (dst .entry)) «dst_stride» (now (tmp1 .entry)) (now (tmp2 .entry)) w h r (now (dst .exit)) ⌝ }
+{
+    let number = check_combine(
+        dst.len(),
+        dst_stride,
+        tmp1.len(),
+        tmp2.len(),
+        w,
+        h,
+        true,
+        true,
+    );
+    if number == 0 {
+        avg_rows8(dst, dst_stride, tmp1, tmp2, w, h);
+    }
+    number
+}
+
+#[no_mangle]
+pub extern "C" fn hv_avg_16bpc(
+    depth: i32,
+    dst: &mut [u16],
+    dst_stride: usize,
+    tmp1: &[i16],
+    tmp2: &[i16],
+    w: usize,
+    h: usize,
+) -> u32
+    ensures { λ r. ⌜ AvgAnswer (depthOk depth) (up depth) (now (dst .entry)) «dst_stride» (now (tmp1 .entry)) (now (tmp2 .entry)) w h r (now (dst .exit)) ⌝ }
+{
+    let number = check_combine(
+        dst.len(),
+        dst_stride,
+        tmp1.len(),
+        tmp2.len(),
+        w,
+        h,
+        depth_ok(depth),
+        true,
+    );
+    if number == 0 {
+        let n = depth_numbers(depth);
+        avg_rows16(dst, dst_stride, tmp1, tmp2, w, h, n.bits, n.bias, n.max);
+    }
+    number
+}
+
+fn w_avg_rows8(
+    dst: &mut [u8],
+    dst_stride: usize,
+    tmp1: &[i16],
+    tmp2: &[i16],
+    w: usize,
+    h: usize,
+    weight: i32,
+)
+    requires { ⌜ Block w h × Rows (length (now dst)) «dst_stride» w h × Rows (length (now tmp1)) w w h × Rows (length (now tmp2)) w w h × (mag weight < 33) ⌝ }
+    ensures { λ _. ⌜ now (dst .exit) ≡ fill (now (dst .entry)) «dst_stride» w h (λ i j. both (weighted 255 4 0 weight) (now (tmp1 .entry)) (now (tmp2 .entry)) (j * w) i) ⌝ }
+{
+    let mut y = 0;
+    while y < h {
+        let d = y * dst_stride;
+        w_avg_row8(&mut dst[d..d + w], tmp1, tmp2, y * w, weight);
+        y += 1;
+    }
+}
+
+fn w_avg_rows16(
+    dst: &mut [u16],
+    dst_stride: usize,
+    tmp1: &[i16],
+    tmp2: &[i16],
+    w: usize,
+    h: usize,
+    weight: i32,
+    bits: u32,
+    bias: u32,
+    max: u16,
+)
+    requires { ⌜ Block w h × Rows (length (now dst)) «dst_stride» w h × Rows (length (now tmp1)) w w h × Rows (length (now tmp2)) w w h × (mag weight < 33) × Bits bits bias ⌝ }
+    ensures { λ _. ⌜ now (dst .exit) ≡ fill (now (dst .entry)) «dst_stride» w h (λ i j. both (weighted max bits bias weight) (now (tmp1 .entry)) (now (tmp2 .entry)) (j * w) i) ⌝ }
+{
+    let mut y = 0;
+    while y < h {
+        let d = y * dst_stride;
+        w_avg_row16(
+            &mut dst[d..d + w],
+            tmp1,
+            tmp2,
+            y * w,
+            weight,
+            bits,
+            bias,
+            max,
+        );
+        y += 1;
+    }
+}
+
+#[no_mangle]
+pub extern "C" fn hv_w_avg_8bpc(
+    dst: &mut [u8],
+    dst_stride: usize,
+    tmp1: &[i16],
+    tmp2: &[i16],
+    w: usize,
+    h: usize,
+    weight: i32,
+) -> u32
+    ensures { λ r. ⌜ WAvgAnswer true 8 (now (dst .entry)) «dst_stride» (now (tmp1 .entry)) (now (tmp2 .entry)) w h weight r (now (dst .exit)) ⌝ }
+{
+    let number = check_combine(
+        dst.len(),
+        dst_stride,
+        tmp1.len(),
+        tmp2.len(),
+        w,
+        h,
+        weight_ok(weight),
+        true,
+    );
+    if number == 0 {
+        w_avg_rows8(dst, dst_stride, tmp1, tmp2, w, h, weight);
+    }
+    number
+}
+
+#[no_mangle]
+pub extern "C" fn hv_w_avg_16bpc(
+    depth: i32,
+    dst: &mut [u16],
+    dst_stride: usize,
+    tmp1: &[i16],
+    tmp2: &[i16],
+    w: usize,
+    h: usize,
+    weight: i32,
+) -> u32
+    ensures { λ r. ⌜ WAvgAnswer (depthOk depth) (up depth) (now (dst .entry)) «dst_stride» (now (tmp1 .entry)) (now (tmp2 .entry)) w h weight r (now (dst .exit)) ⌝ }
+{
+    let number = check_combine(
+        dst.len(),
+        dst_stride,
+        tmp1.len(),
+        tmp2.len(),
+        w,
+        h,
+        depth_ok(depth) & weight_ok(weight),
+        true,
+    );
+    if number == 0 {
+        let n = depth_numbers(depth);
+        w_avg_rows16(
+            dst,
+            dst_stride,
+            tmp1,
+            tmp2,
+            w,
+            h,
+            weight,
+            n.bits,
+            n.bias,
+            n.max,
+        );
+    }
+    number
+}
+
+fn mask_rows8(
+    dst: &mut [u8],
+    dst_stride: usize,
+    tmp1: &[i16],
+    tmp2: &[i16],
+    w: usize,
+    h: usize,
+    mask: &[u8],
+)
+    requires { ⌜ Block w h × Rows (length (now dst)) «dst_stride» w h × Rows (length (now tmp1)) w w h × Rows (length (now tmp2)) w w h × Rows (length (now mask)) w w h ⌝ }
+    ensures { λ _. ⌜ now (dst .exit) ≡ fill (now (dst .entry)) «dst_stride» w h (λ i j. both (masked 255 4 0 (pixel (now (mask .entry)) w i j)) (now (tmp1 .entry)) (now (tmp2 .entry)) (j * w) i) ⌝ }
+{
+    let mut y = 0;
+    while y < h {
+        let d = y * dst_stride;
+        mask_row8(&mut dst[d..d + w], tmp1, tmp2, y * w, mask, y * w);
+        y += 1;
+    }
+}
+
+fn mask_rows16(
+    dst: &mut [u16],
+    dst_stride: usize,
+    tmp1: &[i16],
+    tmp2: &[i16],
+    w: usize,
+    h: usize,
+    mask: &[u8],
+    bits: u32,
+    bias: u32,
+    max: u16,
+)
+    requires { ⌜ Block w h × Rows (length (now dst)) «dst_stride» w h × Rows (length (now tmp1)) w w h × Rows (length (now tmp2)) w w h × Rows (length (now mask)) w w h × Bits bits bias ⌝ }
+    ensures { λ _. ⌜ now (dst .exit) ≡ fill (now (dst .entry)) «dst_stride» w h (λ i j. both (masked max bits bias (pixel (now (mask .entry)) w i j)) (now (tmp1 .entry)) (now (tmp2 .entry)) (j * w) i) ⌝ }
+{
+    let mut y = 0;
+    while y < h {
+        let d = y * dst_stride;
+        mask_row16(
+            &mut dst[d..d + w],
+            tmp1,
+            tmp2,
+            y * w,
+            mask,
+            y * w,
+            bits,
+            bias,
+            max,
+        );
+        y += 1;
+    }
+}
+
+#[no_mangle]
+pub extern "C" fn hv_mask_8bpc(
+    dst: &mut [u8],
+    dst_stride: usize,
+    tmp1: &[i16],
+    tmp2: &[i16],
+    w: usize,
+    h: usize,
+    mask: &[u8],
+) -> u32
+    ensures { λ r. ⌜ MaskAnswer true 8 (now (dst .entry)) «dst_stride» (now (tmp1 .entry)) (now (tmp2 .entry)) w h (now (mask .entry)) r (now (dst .exit)) ⌝ }
+{
+    let number = check_combine(
+        dst.len(),
+        dst_stride,
+        tmp1.len(),
+        tmp2.len(),
+        w,
+        h,
+        true,
+        holds_rows(mask.len(), w, w, h),
+    );
+    if number == 0 {
+        mask_rows8(dst, dst_stride, tmp1, tmp2, w, h, mask);
+    }
+    number
+}
+
+#[no_mangle]
+pub extern "C" fn hv_mask_16bpc(
+    depth: i32,
+    dst: &mut [u16],
+    dst_stride: usize,
+    tmp1: &[i16],
+    tmp2: &[i16],
+    w: usize,
+    h: usize,
+    mask: &[u8],
+) -> u32
+    ensures { λ r. ⌜ MaskAnswer (depthOk depth) (up depth) (now (dst .entry)) «dst_stride» (now (tmp1 .entry)) (now (tmp2 .entry)) w h (now (mask .entry)) r (now (dst .exit)) ⌝ }
+{
+    let number = check_combine(
+        dst.len(),
+        dst_stride,
+        tmp1.len(),
+        tmp2.len(),
+        w,
+        h,
+        depth_ok(depth),
+        holds_rows(mask.len(), w, w, h),
+    );
+    if number == 0 {
+        let n = depth_numbers(depth);
+        mask_rows16(
+            dst,
+            dst_stride,
+            tmp1,
+            tmp2,
+            w,
+            h,
+            mask,
+            n.bits,
+            n.bias,
+            n.max,
+        );
+    }
+    number
+}
