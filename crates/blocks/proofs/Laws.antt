@@ -10,3 +10,4 @@ pub mod CopyReady
 pub mod Unique
 pub mod EdgeReady
 pub mod CombineReady
+pub mod BilinReady

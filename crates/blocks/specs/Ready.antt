@@ -1,5 +1,5 @@
 -- What the tests tell where none refuses: what the rows of a kernel rely on. Assumes nothing.
-use Prim.Native.Nat.{ℕ, _+_, _-_, _*_, _≤_}
+use Prim.Native.Nat.{ℕ, _+_, _-_, _*_, _≤_, min}
 use Rattle.rows.specs.Depth.{bitsOf, biasOf, maxOf}
 use Rattle.blocks.specs.declared.refuse.DepthNumbers.{DepthNumbers}
 
@@ -37,3 +37,22 @@ pub record Fetch (bw bh iw ih dl ds pl ps : ℕ) : Type 0 where
   pub ih14 : ih ≤ 16384
   pub dst : Rows dl ds bw bh
   pub plane : Rows pl ps iw ih
+
+-- a pass of bilinear rows at the fraction f with R(n): h rows of w at the stride ds into dl places, from rows at the stride ss of sl places, the second
+-- number of each place a step on
+pub record Pairs (dl ds sl ss step w h f n : ℕ) : Type 0 where
+  pub w1 : 1 ≤ w
+  pub dst : Rows dl ds w h
+  pub src : (h - 1) * ss + (w + step) ≤ sl
+  pub f15 : f ≤ 15
+  pub n8 : n ≤ 8
+
+-- a bilinear block at the fractions f and g: where f isn't 0 a column more is read, where g isn't 0 a row more
+pub record Bilin (dl ds sl ss w h f g : ℕ) : Type 0 where
+  pub block : Block w h
+  pub dst : Rows dl ds w h
+  pub wide : w ≤ ss
+  pub most : ss ≤ 32768
+  pub fits : (h + min g 1 - 1) * ss + (w + min f 1) ≤ sl
+  pub f15 : f ≤ 15
+  pub g15 : g ≤ 15

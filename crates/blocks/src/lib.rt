@@ -1,4 +1,5 @@
 // Block kernels, windows and orders, over the contracts of the rows.
+pub mod bilinear;
 pub mod blend;
 pub mod combine;
 pub mod copy;
