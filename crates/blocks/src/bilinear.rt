@@ -10,8 +10,11 @@ ghost use Rattle.rows.specs.Bilinear.{R, bilinAt};
 ghost use Rattle.blocks.specs.Ready.{Pairs};
 use rows::bilinear::mid_bilin_prep_row;
 use rows::bilinear::mid_bilin_row8;
+use rows::bilinear::mid_bilin_row16;
 use rows::bilinear::prep_bilin_row8;
+use rows::bilinear::prep_bilin_row16;
 use rows::bilinear::put_bilin_row8;
+use rows::bilinear::put_bilin_row16;
 
 // Intermediates from the 64 apart rows of a first pass: prep, the second pass.
 fn mid_bilin_prep_rows(
@@ -101,6 +104,85 @@ fn mid_bilin_rows8(
     while y < h {
         let d = y * dst_stride;
         mid_bilin_row8(&mut dst[d..d + w], mid, y * 64, 64, f, n);
+        y += 1;
+    }
+}
+
+fn put_bilin_axis16(
+    dst: &mut [u16],
+    dst_stride: usize,
+    src: &[u16],
+    src_stride: usize,
+    w: usize,
+    h: usize,
+    step: usize,
+    f: u32,
+    n: u32,
+    r: u32,
+    k: u32,
+    max: u16,
+)
+    requires { ⌜ Pairs (length (now dst)) «dst_stride» (length (now src)) «src_stride» step w h f n × (r ≤ 8) × (k ≤ 4) ⌝ }
+    ensures { λ _. ⌜ now (dst .exit) ≡ fill (now (dst .entry)) «dst_stride» w h (λ i j. clip max (shrZ (R n (bilinAt (px (now (src .entry))) (j * «src_stride» + i) step f) +ℤ pos r) (2 ^ k))) ⌝ }
+{
+    let mut y = 0;
+    while y < h {
+        let d = y * dst_stride;
+        put_bilin_row16(
+            &mut dst[d..d + w],
+            src,
+            y * src_stride,
+            step,
+            f,
+            n,
+            r,
+            k,
+            max,
+        );
+        y += 1;
+    }
+}
+
+fn prep_bilin_axis16(
+    tmp: &mut [i16],
+    tmp_stride: usize,
+    src: &[u16],
+    src_stride: usize,
+    w: usize,
+    h: usize,
+    step: usize,
+    f: u32,
+    n: u32,
+    bias: i16,
+)
+    requires { ⌜ Pairs (length (now tmp)) «tmp_stride» (length (now src)) «src_stride» step w h f n ⌝ }
+    ensures { λ _. ⌜ now (tmp .exit) ≡ fill (now (tmp .entry)) «tmp_stride» w h (λ i j. minus16 (low16 (R n (bilinAt (px (now (src .entry))) (j * «src_stride» + i) step f))) bias) ⌝ }
+{
+    let mut y = 0;
+    while y < h {
+        let d = y * tmp_stride;
+        prep_bilin_row16(&mut tmp[d..d + w], src, y * src_stride, step, f, n, bias);
+        y += 1;
+    }
+}
+
+fn mid_bilin_rows16(
+    dst: &mut [u16],
+    dst_stride: usize,
+    mid: &[i16],
+    w: usize,
+    h: usize,
+    f: u32,
+    n: u32,
+    max: u16,
+)
+    requires { ⌜ Pairs (length (now dst)) «dst_stride» (length (now mid)) 64 64 w h f n ⌝ }
+    ensures { λ _. ⌜ now (dst .exit) ≡ fill (now (dst .entry)) «dst_stride» w h (λ i j. clip max (R n (bilinAt (at (now (mid .entry))) (j * 64 + i) 64 f))) ⌝ }
+{
+    let mut y = 0;
+    while y < h {
+        let d = y * dst_stride;
+        mid_bilin_row16(&mut dst[d..d + w], mid, y * 64, 64, f, n, max);
         y += 1;
     }
 }

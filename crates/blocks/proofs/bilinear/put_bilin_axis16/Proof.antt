@@ -1,0 +1,58 @@
+use native.Mathlib.Omega.{arith}
+use Prim.Native.Nat.{_+_, _-_, _*_, _^_}
+use lib.IntN.{pos, _+ℤ_}
+use lib.Signed.{shrZ}
+use Rattle.rows.specs.Numbers.{px, clip}
+use Rattle.rows.specs.Bilinear.{R, bilinAt}
+use lib.ListN.{length}
+use borrow.Author.Needs.{needs}
+use Rattle.blocks.proofs.Laws.Rows.{Filled, filled-none, filled-more, filled-all, filled-span}
+use Rattle.blocks.proofs.Laws.BilinReady.{Turn, turn}
+use Rattle.blocks.proofs.bilinear.put_bilin_axis16.Statement.{statement}
+use Rattle.blocks.proofs.bilinear.put_bilin_axis16.Tie as tie
+
+abbrev Inv-loop : tie.InvT-loop
+Inv-loop dst₀ ds src ss w h step f n r k max y₀ dst y = Filled ds w (λ i j. clip max (shrZ (R n (bilinAt (px src) (j * ss + i) step f) +ℤ pos r) (2 ^ k))) dst₀ h y dst
+
+abbrev μ-loop : tie.MeasureT-loop
+μ-loop dst₀ ds src ss w h step f n r k max y₀ dst y = h - y
+
+-- the function's entry, from a turn of the loop
+abbrev entry : tie.In-loop Inv-loop μ-loop → tie.Start Inv-loop μ-loop
+entry c = c .before .before .before .before
+
+row : (c : tie.In-loop Inv-loop μ-loop) → let a = entry c .args in
+    Turn (length (c .before .loop .dst)) (a .dst-stride) (length (a .src .now)) (a .src-stride) (a .step) (a .w) (c .before .loop .y)
+row c = turn (entry c .pre .0) (c .before .loop .inv) (c .loop-test .taken)
+
+row-requires : tie.Need-put-bilin-row16-requires Inv-loop μ-loop
+row-requires c κs =
+    let t = c .before in
+    rw (filled-span 0 (t .before .loop .inv) (entry t .pre .0 .dst) (t .loop-test .taken)) (omega (arith, row t, entry t .pre))
+
+loop-again : tie.Need-loop-again Inv-loop μ-loop
+loop-again c =
+    let t = c .before .before .before .before in
+    let p = entry t .pre .0 in
+    filled-more 0 _ (t .before .loop .inv) (p .w1) (p .dst) (t .loop-test .taken) (c .before .before .put-bilin-row16 .ensures)
+
+pub put-bilin-axis16-spec : {M : Type 1} → statement M
+put-bilin-axis16-spec =
+    tie.close
+    (tie.spec
+    Inv-loop
+    μ-loop
+    (λ c. filled-none 0 _ _ _ _ _ (omega (arith, c .before .before .pre)))  -- loop-holds
+    (λ c. omega (arith, row c))  -- mul-d
+    (λ c. omega (arith, row c))  -- add-put-bilin-row16
+    (λ c. omega (arith, row c))  -- mul-put-bilin-row16
+    (λ c. omega (arith, row c))  -- sub-put-bilin-row16
+    (λ c. omega (arith, row c))  -- part-put-bilin-row16-start
+    (λ c. omega (arith, row c))  -- part-put-bilin-row16-end
+    (λ c. omega (arith, row (c .before)))  -- mul-put-bilin-row16-2
+    row-requires
+    (λ c. search needs)  -- add-y
+    (λ c. search needs)  -- loop-less
+    loop-again
+    (λ c. c .before .loop .inv .len)  -- same-length
+    (λ c. filled-all (c .before .loop .inv) (c .loop-test .left)))  -- returns
