@@ -5,9 +5,9 @@ ghost use lib.IntN.{pos, _+ℤ_};
 ghost use lib.ListN.{length};
 ghost use lib.Signed.{shrZ};
 ghost use Rattle.rows.specs.Numbers.{at, px, clip, low16, minus16};
-ghost use Rattle.rows.specs.Places.{fill};
-ghost use Rattle.rows.specs.Bilinear.{R, bilinAt};
-ghost use Rattle.blocks.specs.Ready.{Pairs};
+ghost use Rattle.rows.specs.Places.{fill, around};
+ghost use Rattle.rows.specs.Bilinear.{R, bilinAt, putBilin, prepBilin};
+ghost use Rattle.blocks.specs.Ready.{Pairs, Bilin, Bits};
 use rows::bilinear::mid_bilin_prep_row;
 use rows::bilinear::mid_bilin_row8;
 use rows::bilinear::mid_bilin_row16;
@@ -108,6 +108,43 @@ fn mid_bilin_rows8(
     }
 }
 
+// Both axes: along the rows into intermediates, a row more than the block has, then down their columns.
+fn put_bilin_both8(
+    dst: &mut [u8],
+    dst_stride: usize,
+    src: &[u8],
+    src_stride: usize,
+    w: usize,
+    h: usize,
+    f: u32,
+    g: u32,
+)
+    requires { ⌜ Bilin (length (now dst)) «dst_stride» (length (now src)) «src_stride» w h f g × (1 ≤ f) × (1 ≤ g) ⌝ }
+    ensures { λ _. ⌜ now (dst .exit) ≡ fill (now (dst .entry)) «dst_stride» w h (λ i j. putBilin 255 4 f g (around 0 (now (src .entry)) 0 «src_stride» i j)) ⌝ }
+{
+    let mut mid = [0i16; 4160];
+    prep_bilin_axis8(&mut mid, 64, src, src_stride, w, h + 1, 1, f, 0, 0);
+    mid_bilin_rows8(dst, dst_stride, &mid, w, h, g, 8);
+}
+
+fn prep_bilin_both8(
+    tmp: &mut [i16],
+    tmp_stride: usize,
+    src: &[u8],
+    src_stride: usize,
+    w: usize,
+    h: usize,
+    f: u32,
+    g: u32,
+)
+    requires { ⌜ Bilin (length (now tmp)) «tmp_stride» (length (now src)) «src_stride» w h f g × (1 ≤ f) × (1 ≤ g) ⌝ }
+    ensures { λ _. ⌜ now (tmp .exit) ≡ fill (now (tmp .entry)) «tmp_stride» w h (λ i j. prepBilin 4 0 f g (around 0 (now (src .entry)) 0 «src_stride» i j)) ⌝ }
+{
+    let mut mid = [0i16; 4160];
+    prep_bilin_axis8(&mut mid, 64, src, src_stride, w, h + 1, 1, f, 0, 0);
+    mid_bilin_prep_rows(tmp, tmp_stride, &mid, w, h, g, 4, 0);
+}
+
 fn put_bilin_axis16(
     dst: &mut [u16],
     dst_stride: usize,
@@ -185,4 +222,44 @@ fn mid_bilin_rows16(
         mid_bilin_row16(&mut dst[d..d + w], mid, y * 64, 64, f, n, max);
         y += 1;
     }
+}
+
+fn put_bilin_both16(
+    dst: &mut [u16],
+    dst_stride: usize,
+    src: &[u16],
+    src_stride: usize,
+    w: usize,
+    h: usize,
+    f: u32,
+    g: u32,
+    bits: u32,
+    max: u16,
+)
+    requires { ⌜ Bilin (length (now dst)) «dst_stride» (length (now src)) «src_stride» w h f g × (1 ≤ f) × (1 ≤ g) × (bits ≤ 4) ⌝ }
+    ensures { λ _. ⌜ now (dst .exit) ≡ fill (now (dst .entry)) «dst_stride» w h (λ i j. putBilin max bits f g (around 0 (now (src .entry)) 0 «src_stride» i j)) ⌝ }
+{
+    let mut mid = [0i16; 4160];
+    prep_bilin_axis16(&mut mid, 64, src, src_stride, w, h + 1, 1, f, 4 - bits, 0);
+    mid_bilin_rows16(dst, dst_stride, &mid, w, h, g, 4 + bits, max);
+}
+
+fn prep_bilin_both16(
+    tmp: &mut [i16],
+    tmp_stride: usize,
+    src: &[u16],
+    src_stride: usize,
+    w: usize,
+    h: usize,
+    f: u32,
+    g: u32,
+    bits: u32,
+    bias: u32,
+)
+    requires { ⌜ Bilin (length (now tmp)) «tmp_stride» (length (now src)) «src_stride» w h f g × (1 ≤ f) × (1 ≤ g) × Bits bits bias ⌝ }
+    ensures { λ _. ⌜ now (tmp .exit) ≡ fill (now (tmp .entry)) «tmp_stride» w h (λ i j. prepBilin bits bias f g (around 0 (now (src .entry)) 0 «src_stride» i j)) ⌝ }
+{
+    let mut mid = [0i16; 4160];
+    prep_bilin_axis16(&mut mid, 64, src, src_stride, w, h + 1, 1, f, 4 - bits, 0);
+    mid_bilin_prep_rows(tmp, tmp_stride, &mid, w, h, g, 4, bias as i16);
 }

@@ -1,0 +1,35 @@
+use mathlib.Core.Path.{_∙_}
+use native.Mathlib.Omega.{arith}
+use borrow.Author.Needs.{needs}
+use mir.Syntax.{w16}
+use Rattle.rows.proofs.Laws.Signed.{backn}
+use Rattle.blocks.proofs.Laws.BilinReady.{first, second, prep-twice}
+use Rattle.blocks.proofs.bilinear.prep_bilin_both16.Statement.{statement}
+use Rattle.blocks.proofs.bilinear.prep_bilin_both16.Tie as tie
+
+-- the function's entry, from where the intermediates are there
+abbrev entry : tie.After-mid → tie.Start
+entry c = c .before .before
+
+returns : tie.Need-returns
+returns c =
+    let r = c .before in
+    let m = r .before .before .before .before in
+    let s = entry (m .before) in let a = s .args in let p = s .pre .0 in
+    rw (m .prep-bilin-axis16 .ensures, backn w16 (a .bias) (omega (arith, s .pre .3))) at (r .mid-bilin-prep-rows .ensures)
+    ∙ prep-twice (a .bits) (a .bias) (a .src .now) (a .src-stride) (a .tmp-stride) (omega (arith, p .dst, p .block)) (a .tmp .now) (a .w) (a .h) (a .f) (a .g)
+    (s .pre .1) (s .pre .2) _ (p .block .w64) (p .block .h64) (omega arith)
+
+pub prep-bilin-both16-spec : {M : Type 1} → statement M
+prep-bilin-both16-spec =
+    tie.close
+    (tie.spec
+    (λ c. search needs)  -- slice-aggregate-prep-bilin-axis16
+    (λ c. omega (arith, entry c .pre .0 .block))  -- add-prep-bilin-axis16
+    (λ c. search needs)  -- sub-prep-bilin-axis16
+    (λ c κs. let s = entry c in first (s .pre .0) _ (omega (arith, s .pre .3)) _ (omega arith) (s .pre .1) (s .pre .2))  -- prep-bilin-axis16-requires
+    (λ c. search needs)  -- slice-aggregate-mid-bilin-prep-rows
+    (λ c. search needs)  -- cast-mid-bilin-prep-rows
+    (λ c κs. let m = c .before .before .before in let s = entry (m .before) in second (s .pre .0) 4 (omega (arith)) _ (omega (arith, m .prep-bilin-axis16 .kept .0)))  -- mid-bilin-prep-rows-requires
+    (λ c. search needs)  -- same-length
+    returns)

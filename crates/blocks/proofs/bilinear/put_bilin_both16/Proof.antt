@@ -1,0 +1,33 @@
+use mathlib.Core.Path.{_∙_}
+use native.Mathlib.Omega.{arith}
+use borrow.Author.Needs.{needs}
+use Rattle.blocks.proofs.Laws.BilinReady.{first, second, put-twice}
+use Rattle.blocks.proofs.bilinear.put_bilin_both16.Statement.{statement}
+use Rattle.blocks.proofs.bilinear.put_bilin_both16.Tie as tie
+
+-- the function's entry, from where the intermediates are there
+abbrev entry : tie.After-mid → tie.Start
+entry c = c .before .before .before
+
+returns : tie.Need-returns
+returns c =
+    let r = c .before .before in
+    let m = r .before .before .before .before in
+    let s = entry (m .before) in let a = s .args in let p = s .pre .0 in
+    rw (m .prep-bilin-axis16 .ensures) at (r .mid-bilin-rows16 .ensures)
+    ∙ put-twice (a .max) (a .bits) (a .src .now) (a .src-stride) (a .dst-stride) (omega (arith, p .dst, p .block)) (a .dst .now) (a .w) (a .h) (a .f) (a .g)
+    (s .pre .1) (s .pre .2) _ (p .block .w64) (p .block .h64) (omega arith)
+
+pub put-bilin-both16-spec : {M : Type 1} → statement M
+put-bilin-both16-spec =
+    tie.close
+    (tie.spec
+    (λ c. search needs)  -- slice-aggregate-prep-bilin-axis16
+    (λ c. omega (arith, entry c .pre .0 .block))  -- add-prep-bilin-axis16
+    (λ c. search needs)  -- sub-prep-bilin-axis16
+    (λ c κs. let s = entry c in first (s .pre .0) _ (omega (arith, s .pre .3)) _ (omega arith) (s .pre .1) (s .pre .2))  -- prep-bilin-axis16-requires
+    (λ c. search needs)  -- slice-aggregate-mid-bilin-rows16
+    (λ c. search needs)  -- add-mid-bilin-rows16
+    (λ c κs. let m = c .before .before .before in let s = entry (m .before) in second (s .pre .0) _ (omega (arith, s .pre .3)) _ (omega (arith, m .prep-bilin-axis16 .kept .0)))  -- mid-bilin-rows16-requires
+    (λ c. search needs)  -- same-length
+    returns)
