@@ -11,3 +11,4 @@ pub mod Unique
 pub mod EdgeReady
 pub mod CombineReady
 pub mod BilinReady
+pub mod Shears

@@ -1,5 +1,10 @@
 -- What the tests tell where none refuses: what the rows of a kernel rely on. Assumes nothing.
 use Prim.Native.Nat.{ℕ, _+_, _-_, _*_, _≤_, min}
+use Prim.Native.Nat.{ℕ, _+_, _-_, _*_, _^_, _≤_}
+use mathlib.Core.Path.{_≡_}
+use mathlib.Core.List.{List}
+use lib.IntN.{ℤ, natAbs}
+use Rattle.rows.specs.Numbers.{at}
 use Rattle.rows.specs.Depth.{bitsOf, biasOf, maxOf}
 use Rattle.blocks.specs.declared.refuse.DepthNumbers.{DepthNumbers}
 
@@ -56,3 +61,24 @@ pub record Bilin (dl ds sl ss w h f g : ℕ) : Type 0 where
   pub fits : (h + min g 1 - 1) * ss + (w + min f 1) ≤ sl
   pub f15 : f ≤ 15
   pub g15 : g ≤ 15
+-- a divisor, and a table of reciprocals that has its place
+pub record Divides (d rl : ℕ) : Type 0 where
+  pub least : 1 ≤ d
+  pub most : d ≤ 2147483647
+  pub held : rl ≡ 129
+
+-- a matrix whose entries 2 to 5 are within ±2^22
+pub record Entries (m : List ℤ) : Type 0 where
+  pub second : natAbs (at m 2) ≤ 2 ^ 22
+  pub third : natAbs (at m 3) ≤ 2 ^ 22
+  pub fourth : natAbs (at m 4) ≤ 2 ^ 22
+  pub fifth : natAbs (at m 5) ≤ 2 ^ 22
+
+-- a block's size, motion and place, in fours
+pub record Moves (bw4 bh4 mvx mvy bx4 by4 : ℤ) : Type 0 where
+  pub width : natAbs bw4 ≤ 64
+  pub height : natAbs bh4 ≤ 64
+  pub mv-x : natAbs mvx ≤ 2 ^ 20
+  pub mv-y : natAbs mvy ≤ 2 ^ 20
+  pub column : natAbs bx4 ≤ 16384
+  pub row : natAbs by4 ≤ 16384

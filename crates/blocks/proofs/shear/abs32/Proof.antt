@@ -1,0 +1,19 @@
+use borrow.Author.Needs.{needs}
+use mathlib.Core.Path.{_≡_}
+use native.Mathlib.Omega.{arith}
+use lib.IntN.{natAbs}
+use Rattle.rows.proofs.Laws.Signed.{back32, abs-mag, reading}
+use Rattle.blocks.proofs.shear.abs32.Statement.{statement}
+use Rattle.blocks.proofs.shear.abs32.Tie as tie
+
+is : (c : tie.After-abs64) → c .abs64 .result ≡ natAbs (c .before .args .v)
+is c = rw (back32 (c .before .fits .v)) at (c .abs64 .ensures)
+
+pub abs32-spec : {M : Type 1} → statement M
+abs32-spec =
+    tie.close
+    (tie.spec
+    (λ c. search reading)  -- cast-abs64
+    (λ c κs. search needs)  -- abs64-requires
+    (λ c. rw (is c) (omega (arith, abs-mag (c .before .args .v))))  -- cast-result
+    is)  -- returns

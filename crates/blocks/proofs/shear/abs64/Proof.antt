@@ -1,0 +1,38 @@
+-- -1 - v always fits, and is the magnitude of a v below 0.
+use mathlib.Core.Path.{_≡_, sym}
+use native.Mathlib.Omega.{arith}
+use lib.IntN.{ℤ, pos, natAbs}
+use lib.Signed.{mag, ltZ}
+use mathlib.Core.Bool.{true, false}
+use mir.Syntax.{w64}
+use mir.Val.{SFits}
+use Rattle.rows.proofs.Laws.Signed.{back, flip, below, above, fit, mag-abs, abs-mag, one-part}
+use Rattle.blocks.proofs.shear.abs64.Statement.{statement}
+use Rattle.blocks.proofs.shear.abs64.Tie as tie
+
+module _ (c : tie.Then1) where
+  abbrev v : ℤ
+  v = c .before .args .v
+
+  test : ltZ v (pos 0) ≡ true
+  test = rw (back (c .before .fits .v)) at (c .if1 .taken)
+
+  m : SFits w64 (pos (mag v))
+  m = omega (arith, c .before .fits .v)
+
+cast-result-2 : tie.Need-cast-result-2
+cast-result-2 c =
+    let f = c .before .fits .v in
+    let e = above (c .before .args .v) (rw (back f) at (c .if1 .left)) in
+    rw (back f) (rw e tt, omega (arith, abs-mag (c .before .args .v)))
+
+pub abs64-spec : {M : Type 1} → statement M
+abs64-spec =
+    tie.close
+    (tie.spec
+    (λ c. rw (back (c .before .fits .v), flip (v c) (test c)) (m c))  -- sub-result
+    (λ c. rw (back (c .before .fits .v), flip (v c) (test c), back (m c)) (tt, omega (arith, c .before .fits .v)))  -- cast-result
+    (λ c. rw (back (c .before .fits .v), flip (v c) (test c), back (m c)) (omega (arith, c .before .fits .v)))  -- add-result
+    cast-result-2
+    (λ c. rw (back (c .before .fits .v), flip (v c) (test c), back (m c), below (v c) (test c)))  -- returns
+    (λ c. rw (back (c .before .fits .v))))  -- returns-2

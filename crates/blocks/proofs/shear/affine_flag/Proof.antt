@@ -1,0 +1,53 @@
+use borrow.Author.Needs.{needs}
+use mathlib.Core.Path.{_≡_, refl}
+use mathlib.Core.Bool.{Bool, true, false, cond}
+use native.Mathlib.Omega.{arith}
+use Prim.Native.Nat.{_≤_}
+use lib.IntN.{natAbs, pos}
+use mir.Syntax.{w32}
+use mir.Val.{toZ, boolByte}
+use Rattle.rows.specs.Shear.{affineOf}
+use Rattle.rows.proofs.Laws.Signed.{back16, abs-mag, reading}
+use Rattle.blocks.proofs.shear.affine_flag.Statement.{statement}
+use Rattle.blocks.proofs.shear.affine_flag.Tie as tie
+
+flag : (b : Bool) → toZ w32 (boolByte b) ≡ cond b (pos 1) (pos 0)
+flag true = refl
+flag false = refl
+
+one : (c : tie.After-abs32) → c .abs32 .result ≡ natAbs (c .before .args .a)
+one c = rw (back16 (c .before .fits .a)) at (c .abs32 .ensures)
+
+two : (c : tie.After-abs322) → c .abs322 .result ≡ natAbs (c .before .before .args .b)
+two c = rw (back16 (c .before .before .fits .b)) at (c .abs322 .ensures)
+
+three : (c : tie.After-abs323) → c .abs323 .result ≡ natAbs (c .before .before .before .args .c)
+three c = rw (back16 (c .before .before .before .fits .c)) at (c .abs323 .ensures)
+
+four : (c : tie.After-abs324) → c .abs324 .result ≡ natAbs (c .before .before .before .before .args .d)
+four c = rw (back16 (c .before .before .before .before .fits .d)) at (c .abs324 .ensures)
+
+returns : tie.Need-returns
+unfolding affineOf
+returns c = rw (flag _, one (c .before .before .before), two (c .before .before), three (c .before), four c)
+
+pub affine-flag-spec : {M : Type 1} → statement M
+affine-flag-spec =
+    tie.close
+    (tie.spec
+    (λ c. search reading)
+    (λ c κs. search needs)
+    (λ c. omega (arith, one c, abs-mag (c .before .args .a)))
+    (λ c. search reading)
+    (λ c κs. search needs)
+    (λ c. omega (arith, two c, abs-mag (c .before .before .args .b)))
+    (λ c. omega (arith, one (c .before), abs-mag (c .before .before .args .a), two c, abs-mag (c .before .before .args .b)))
+    (λ c. search reading)
+    (λ c κs. search needs)
+    (λ c. omega (arith, three c, abs-mag (c .before .before .before .args .c)))
+    (λ c. search reading)
+    (λ c κs. search needs)
+    (λ c. omega (arith, four c, abs-mag (c .before .before .before .before .args .d)))
+    (λ c. omega (arith, three (c .before), abs-mag (c .before .before .before .before .args .c), four c, abs-mag (c .before .before .before .before .args .d)))
+    (λ c. search needs)
+    returns)

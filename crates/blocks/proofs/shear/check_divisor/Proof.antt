@@ -1,0 +1,16 @@
+use borrow.Author.Needs.{needs}
+use Rattle.blocks.specs.Shear.{recipOk}
+use Rattle.blocks.proofs.shear.check_divisor.Statement.{statement}
+use Rattle.blocks.proofs.shear.check_divisor.Tie as tie
+
+returns : tie.Need-returns
+unfolding recipOk
+returns c = cc
+
+pub check-divisor-spec : {M : Type 1} → statement M
+check-divisor-spec =
+    tie.close
+    (tie.spec
+    (λ c κs. search needs)  -- needed-requires
+    (λ c κs. search needs)  -- needed-requires-2
+    returns)

@@ -1,0 +1,23 @@
+use borrow.Author.Needs.{needs}
+use mir.Syntax.{w32}
+use Rattle.rows.proofs.Laws.Signed.{back, fit}
+use Rattle.blocks.specs.Shear.{recipOk}
+use Rattle.blocks.proofs.shear.check_shear.Statement.{statement}
+use Rattle.blocks.proofs.shear.check_shear.Tie as tie
+
+returns : tie.Need-returns
+unfolding recipOk
+returns c =
+    let last = c .before .before in
+    rw (c .needed3 .ensures, c .before .needed2 .ensures, last .needed .ensures, last .before .before .entries-ok .ensures, back (fit w32 (last .before .needed-arg .given)))
+
+pub check-shear-spec : {M : Type 1} → statement M
+check-shear-spec =
+    tie.close
+    (tie.spec
+    (λ c κs. search needs)  -- entries-ok-requires
+    (λ c. search needs)  -- matrix[2]
+    (λ c κs. search needs)  -- needed-requires
+    (λ c κs. search needs)  -- needed-requires-2
+    (λ c κs. search needs)  -- needed-requires-3
+    returns)

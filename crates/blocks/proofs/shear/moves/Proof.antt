@@ -1,0 +1,37 @@
+use borrow.Author.Needs.{needs}
+use Rattle.rows.proofs.Laws.Signed.{back}
+use Rattle.blocks.proofs.shear.moves.Statement.{statement}
+use Rattle.blocks.proofs.shear.moves.Tie as tie
+
+returns : tie.Need-returns
+returns c =
+    let n = c .before .before .before in let t = n .before in
+    let s = t .before .before .before .before .fits in
+    rw (
+      c .needed4 .ensures,
+      c .before .needed3 .ensures,
+      c .before .before .needed2 .ensures,
+      n .needed .ensures,
+      t .within2 .ensures,
+      t .before .within .ensures,
+      t .before .before .lies2 .ensures,
+      t .before .before .before .lies .ensures,
+      back (s .mv-x),
+      back (s .mv-y),
+      back (s .bx4),
+      back (s .by4),
+    )
+
+pub moves-spec : {M : Type 1} → statement M
+moves-spec =
+    tie.close
+    (tie.spec
+    (λ c κs. search needs)  -- lies-requires
+    (λ c κs. search needs)  -- lies-requires-2
+    (λ c κs. search needs)  -- within-requires
+    (λ c κs. search needs)  -- within-requires-2
+    (λ c κs. search needs)  -- needed-requires
+    (λ c κs. search needs)  -- needed-requires-2
+    (λ c κs. search needs)  -- needed-requires-3
+    (λ c κs. search needs)  -- needed-requires-4
+    returns)

@@ -1,0 +1,81 @@
+-- Every step is below 2^42.
+use borrow.Author.Needs.{needs}
+use native.Mathlib.Omega.{arith}
+use Prim.Native.Nat.{_≤_, _^_}
+use lib.IntN.{ℤ, pos, natAbs, _-ℤ_, _*ℤ_}
+use mir.Syntax.{w32, w64}
+use mir.Val.{SFits}
+use Rattle.rows.specs.Shear.{offsetOf}
+use Rattle.rows.proofs.Laws.Signed.{back, back32, fit-abs, abs-sub, abs-mul-le, reading}
+use Rattle.blocks.proofs.shear.offset_of.Statement.{statement}
+use Rattle.blocks.proofs.shear.offset_of.Tie as tie
+
+module _ (c : tie.Start) where
+  abbrev A : ℤ
+  A = pos 8192 *ℤ c .args .mv
+
+  abbrev B : ℤ
+  B = c .args .x *ℤ c .args .p
+
+  abbrev C : ℤ
+  C = A -ℤ B
+
+  abbrev D : ℤ
+  D = c .args .y *ℤ c .args .q
+
+  abbrev E : ℤ
+  E = C -ℤ D
+
+  la : natAbs A ≤ 2 ^ 33
+  la = abs-mul-le (pos 8192) (c .args .mv) 8192 (2 ^ 20) (omega arith) (omega arith)
+
+  lb : natAbs B ≤ 2 ^ 40
+  lb = abs-mul-le (c .args .x) (c .args .p) (2 ^ 17) (2 ^ 23) (omega arith) (omega arith)
+
+  ld : natAbs D ≤ 2 ^ 40
+  ld = abs-mul-le (c .args .y) (c .args .q) (2 ^ 17) (2 ^ 23) (omega arith) (omega arith)
+
+  a : SFits w64 A
+  a = fit-abs w64 A (omega (arith, la))
+
+  b : SFits w64 B
+  b = fit-abs w64 B (omega (arith, lb))
+
+  s : SFits w64 C
+  s = fit-abs w64 C (omega (arith, la, lb, abs-sub A B))
+
+  d : SFits w64 D
+  d = fit-abs w64 D (omega (arith, ld))
+
+  e : SFits w64 E
+  e = fit-abs w64 E (omega (arith, la, lb, ld, abs-sub A B, abs-sub C D))
+
+sub-clip-entry : tie.Need-sub-clip-entry
+sub-clip-entry c = simp (back32 (c .fits .mv), back32 (c .fits .x), back32 (c .fits .p), back (a c), back (b c)) (s c)
+
+sub-clip-entry-2 : tie.Need-sub-clip-entry-2
+sub-clip-entry-2 c = simp (back32 (c .fits .mv), back32 (c .fits .x), back32 (c .fits .p), back32 (c .fits .y), back32 (c .fits .q), back (a c), back (b c), back (s c), back (d c)) (e c)
+
+returns : tie.Need-returns
+unfolding offsetOf
+returns c =
+    let t = c .before in
+    let f : SFits w32 (c .clip-entry .result) = omega arith in
+    rw (back f, c .clip-entry .ensures, back32 (t .fits .mv), back32 (t .fits .x), back32 (t .fits .p), back32 (t .fits .y), back32 (t .fits .q), back (a t), back (b t), back (s t), back (d t), back (e t))
+
+pub offset-of-spec : {M : Type 1} → statement M
+offset-of-spec =
+    tie.close
+    (tie.spec
+    (λ c. search reading)
+    (λ c. simp (back32 (c .fits .mv)) (a c))
+    (λ c. search reading)
+    (λ c. search reading)
+    (λ c. simp (back32 (c .fits .x), back32 (c .fits .p)) (b c))
+    sub-clip-entry
+    (λ c. search reading)
+    (λ c. search reading)
+    (λ c. simp (back32 (c .fits .y), back32 (c .fits .q)) (d c))
+    sub-clip-entry-2
+    (λ c κs. search needs)
+    returns)

@@ -1,0 +1,51 @@
+-- The products are below 2^54.
+use borrow.Author.Needs.{needs}
+use mathlib.Core.Path.{_≡_}
+use native.Mathlib.Omega.{arith}
+use Prim.Native.Nat.{_*_, _≤_, _^_}
+use lib.IntN.{ℤ, pos, natAbs, _*ℤ_}
+use mir.Syntax.{w16, w32, w64}
+use mir.Val.{SFits}
+use Rattle.rows.specs.Shear.{shearC}
+use Rattle.rows.proofs.Laws.Signed.{back, back32, abs-mul-le, mag-abs, reading}
+use Rattle.blocks.proofs.shear.shear_c.Statement.{statement}
+use Rattle.blocks.proofs.shear.shear_c.Tie as tie
+
+module _ (c : tie.Start) where
+  abbrev first : ℤ
+  first = pos 65536 *ℤ c .args .m4
+
+  abbrev v : ℤ
+  v = first *ℤ c .args .y
+
+  first-le : natAbs first ≤ 2 ^ 38
+  first-le = abs-mul-le (pos 65536) (c .args .m4) 65536 (2 ^ 22) (omega arith) (omega arith)
+
+  v-le : natAbs v ≤ 2 ^ 54
+  v-le = abs-mul-le first (c .args .y) (2 ^ 38) 65536 first-le (omega arith)
+
+  first-fits : SFits w64 first
+  first-fits = omega (arith, first-le, mag-abs first)
+
+  v-fits : SFits w64 v
+  v-fits = omega (arith, v-le, mag-abs v)
+
+returns : tie.Need-returns
+unfolding shearC
+returns c =
+    let s = c .before .before in
+    let r : SFits w16 (c .iclip-wmp .result) = omega arith in
+    let q : SFits w32 (c .before .round-shift .result) = omega arith in
+    rw (back r, c .iclip-wmp .ensures, back q, c .before .round-shift .ensures, back32 (s .fits .m4), back32 (s .fits .y), back (first-fits s), back (v-fits s))
+
+pub shear-c-spec : {M : Type 1} → statement M
+shear-c-spec =
+    tie.close
+    (tie.spec
+    (λ c. search reading)
+    (λ c. rw (back32 (c .fits .m4)) (first-fits c))
+    (λ c. search reading)
+    (λ c. rw (back32 (c .fits .m4), back32 (c .fits .y), back (first-fits c)) (v-fits c))
+    (λ c κs. rw (back32 (c .fits .m4), back32 (c .fits .y), back (first-fits c), back (v-fits c)) (omega (arith, v-le c)))
+    (λ c κs. search needs)
+    returns)

@@ -1,0 +1,128 @@
+use borrow.Author.Needs.{needs}
+use mathlib.Core.Path.{_≡_, ap, _∙_}
+use native.Mathlib.Omega.{arith}
+use Prim.Native.Nat.{ℕ, _^_, _<_, _≤_}
+use lib.IntN.{ℤ, pos, natAbs}
+use lib.ListN.{getD}
+use mir.Syntax.{w16, w32}
+use mir.Val.{SFits, toZ, ofZ}
+use Rattle.rows.specs.Numbers.{at}
+use Rattle.rows.specs.Shear.{topBit, recipPlace, recipOf, shiftOf, shearA, shearB}
+use Rattle.rows.proofs.Laws.Signed.{back, backs, fit, fit-abs}
+use Rattle.blocks.specs.Shear.{sheared}
+use Rattle.blocks.specs.declared.shear.Divisor.{Divisor}
+use Rattle.blocks.proofs.Laws.Shears.{Top, top-is, div-y, div-shift}
+use Rattle.blocks.proofs.shear.with_shears.Statement.{statement}
+use Rattle.blocks.proofs.shear.with_shears.Tie as tie
+
+-- where the entries are read
+module _ (c : tie.After-m5) where
+  abbrev S : tie.Start
+  S = c .before .before .before .before .before .before
+
+  abbrev M : ℕ → ℤ
+  M i = at (S .args .wm .matrix) i
+
+  f2 : SFits w32 (M 2)
+  f2 = fit w32 (c .before .before .before .m2 .given)
+
+  f3 : SFits w32 (M 3)
+  f3 = fit w32 (c .before .before .m3 .given)
+
+  f4 : SFits w32 (M 4)
+  f4 = fit w32 (c .before .m4 .given)
+
+  f5 : SFits w32 (M 5)
+  f5 = fit w32 (c .m5 .given)
+
+  abbrev Y : ℤ
+  Y = recipOf (S .args .recip .now) (natAbs (M 2))
+
+  abbrev K : ℕ
+  K = shiftOf (natAbs (M 2))
+
+  small-y : natAbs Y < 2 ^ 16
+  unfolding recipOf
+  small-y = omega (arith, c .before .before .before .before .before .shared-slice-known .given (recipPlace (natAbs (M 2))))
+
+  small-k : (9 ≤ K) × (K ≤ 40)
+  unfolding shiftOf
+  small-k = let p = S .pre .1 in omega (arith, top-is (natAbs (M 2)) (p .least) (omega (arith, p)))
+
+-- what the divisor is
+module _ (c : tie.After-resolve-divisor-32) where
+  abbrev E : tie.After-m5
+  E = c .before .before
+
+  abs : c .before .abs32 .result ≡ natAbs (M E 2)
+  abs = rw (back (f2 E)) at (c .before .abs32 .ensures)
+
+  y-is : toZ w32 (ofZ w32 (c .resolve-divisor-32 .result .y)) ≡ Y E
+  y-is =
+      let e : c .resolve-divisor-32 .result .y ≡ Y E = ap (λ (x : Divisor). x .y) (rw abs at (c .resolve-divisor-32 .ensures)) ∙ div-y (natAbs (M E 2)) _ (S E .pre .1) in
+      backs w32 e (fit-abs w32 (Y E) (omega (arith, small-y E)))
+
+  k-is : toZ w32 (ofZ w32 (c .resolve-divisor-32 .result .shift)) ≡ pos (K E)
+  k-is =
+      let e : c .resolve-divisor-32 .result .shift ≡ pos (K E) = ap (λ (x : Divisor). x .shift) (rw abs at (c .resolve-divisor-32 .ensures)) ∙ div-shift (natAbs (M E 2)) _ (S E .pre .1) in
+      backs w32 e (omega (arith, small-k E))
+
+shear-c-requires : tie.Need-shear-c-requires
+shear-c-requires c κs =
+    let r = c .before .before .before .before .before .before in
+    rw (back (f4 (E r)), y-is r, k-is r) (omega (arith, S (E r) .pre, small-y (E r), small-k (E r)))
+
+shear-d-requires : tie.Need-shear-d-requires
+shear-d-requires c κs =
+    let r = c .before .before .before .before .before .before .before in
+    rw (back (f3 (E r)), back (f4 (E r)), y-is r, k-is r) (omega (arith, S (E r) .pre, small-y (E r), small-k (E r)))
+
+returns : tie.Need-returns
+unfolding sheared shearA shearB
+returns c =
+    let d = c .before .shear-d in let cc = c .before .before .shear-c in
+    let b = c .before .before .before .iclip-wmp2 in let a = c .before .before .before .before .iclip-wmp in
+    let sub = c .before .before .before .before .before .wrapping-sub32 in
+    let r = c .before .before .before .before .before .before .before .before .before in
+    let fa : SFits w16 (a .result) = omega arith in let fb : SFits w16 (b .result) = omega arith in
+    let fc : SFits w16 (cc .result) = omega arith in let fd : SFits w16 (d .result) = omega arith in
+    let fs : SFits w32 (sub .result) = omega arith in let ff : SFits w32 (c .affine-flag .result) = omega arith in
+    rw (
+      back ff,
+      c .affine-flag .ensures,
+      back fa,
+      back fb,
+      back fc,
+      back fd,
+      a .ensures,
+      b .ensures,
+      cc .ensures,
+      d .ensures,
+      back fs,
+      sub .ensures,
+      back (f2 (E r)),
+      back (f3 (E r)),
+      back (f4 (E r)),
+      back (f5 (E r)),
+      y-is r,
+      k-is r,
+    )
+
+pub with-shears-spec : {M : Type 1} → statement M
+with-shears-spec =
+    tie.close
+    (tie.spec
+    (λ c. search needs)  -- matrix[2]
+    (λ c. search needs)  -- matrix[3]
+    (λ c. search needs)  -- matrix[4]
+    (λ c. search needs)  -- matrix[5]
+    (λ c κs. search needs)  -- abs32-requires
+    (λ c κs. search needs)  -- resolve-divisor-32-requires
+    (λ c. let r = c .before .before .before in rw (k-is r) (tt, omega (arith, small-k (E r))))  -- cast-k
+    (λ c κs. search needs)  -- wrapping-sub32-requires
+    (λ c κs. search needs)  -- iclip-wmp-requires
+    (λ c κs. search needs)  -- iclip-wmp-requires-2
+    shear-c-requires
+    shear-d-requires
+    (λ c κs. search needs)  -- affine-flag-requires
+    returns)
