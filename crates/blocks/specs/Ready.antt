@@ -1,6 +1,5 @@
 -- What the tests tell where none refuses: what the rows of a kernel rely on. Assumes nothing.
-use Prim.Native.Nat.{ℕ, _+_, _-_, _*_, _≤_, min}
-use Prim.Native.Nat.{ℕ, _+_, _-_, _*_, _^_, _≤_}
+use Prim.Native.Nat.{ℕ, _+_, _-_, _*_, _≤_, min, _^_}
 use mathlib.Core.Path.{_≡_}
 use mathlib.Core.List.{List}
 use lib.IntN.{ℤ, natAbs}
@@ -61,6 +60,7 @@ pub record Bilin (dl ds sl ss w h f g : ℕ) : Type 0 where
   pub fits : (h + min g 1 - 1) * ss + (w + min f 1) ≤ sl
   pub f15 : f ≤ 15
   pub g15 : g ≤ 15
+
 -- a divisor, and a table of reciprocals that has its place
 pub record Divides (d rl : ℕ) : Type 0 where
   pub least : 1 ≤ d

@@ -10,9 +10,6 @@ ghost use Rattle.blocks.specs.Ready.{Block, Rows, Bits};
 ghost use Rattle.blocks.specs.Copy.{putTests, prepTests, PutAnswer, PrepAnswer};
 use crate::refuse::depth_numbers;
 use crate::refuse::depth_ok;
-ghost use Rattle.blocks.specs.Refuse.{lowest, orSame};
-ghost use Rattle.blocks.specs.Ready.{Block, Rows, Bits};
-ghost use Rattle.blocks.specs.Copy.{putTests, prepTests};
 use crate::refuse::held;
 use crate::refuse::needed;
 use crate::refuse::sizes;
@@ -53,14 +50,7 @@ fn check_prep(
     )
 }
 
-pub fn put_rows8(
-    dst: &mut [u8],
-    dst_stride: usize,
-    src: &[u8],
-    src_stride: usize,
-    w: usize,
-    h: usize,
-)
+fn put_rows8(dst: &mut [u8], dst_stride: usize, src: &[u8], src_stride: usize, w: usize, h: usize)
     requires { ⌜ Block w h × Rows (length (now dst)) «dst_stride» w h × Rows (length (now src)) «src_stride» w h ⌝ }
     ensures { λ _. ⌜ now (dst .exit) ≡ fill (now (dst .entry)) «dst_stride» w h (λ i j. put (pixel (now (src .entry)) «src_stride» i j)) ⌝ }
 {
@@ -91,7 +81,6 @@ pub extern "C" fn hv_put_8bpc(
 }
 
 fn put_rows16(
-pub fn put_rows16(
     dst: &mut [u16],
     dst_stride: usize,
     src: &[u16],
@@ -129,14 +118,6 @@ pub extern "C" fn hv_put_16bpc(
 }
 
 fn prep_rows8(tmp: &mut [i16], tmp_stride: usize, src: &[u8], src_stride: usize, w: usize, h: usize)
-pub fn prep_rows8(
-    tmp: &mut [i16],
-    tmp_stride: usize,
-    src: &[u8],
-    src_stride: usize,
-    w: usize,
-    h: usize,
-)
     requires { ⌜ Block w h × Rows (length (now tmp)) «tmp_stride» w h × Rows (length (now src)) «src_stride» w h ⌝ }
     ensures { λ _. ⌜ now (tmp .exit) ≡ fill (now (tmp .entry)) «tmp_stride» w h (λ i j. prep 4 0 (pixel (now (src .entry)) «src_stride» i j)) ⌝ }
 {
@@ -149,7 +130,6 @@ pub fn prep_rows8(
 }
 
 fn prep_rows16(
-pub fn prep_rows16(
     tmp: &mut [i16],
     tmp_stride: usize,
     src: &[u16],

@@ -1,14 +1,11 @@
 use native.Mathlib.Omega.{arith}
 use Prim.Native.Nat.{_+_, _-_, _*_, _≤_}
-use Prim.Native.Nat.{ℕ, _+_, _-_, _*_, _≤_}
-use mathlib.Core.Path.{_≡_}
 use lib.IntN.{pos}
 use lib.ListN.{length}
 use borrow.Author.Needs.{needs}
 use Rattle.rows.specs.Places.{pixel}
 use Rattle.rows.specs.Copy.{prep}
 use Rattle.blocks.proofs.Laws.Rows.{Filled, filled-none, filled-more, filled-all, Turn, turn, row-in}
-use Rattle.blocks.proofs.Laws.Rows.{Filled, filled-none, filled-more, filled-all, filled-span, row-in}
 use Rattle.blocks.proofs.copy.prep_rows8.Statement.{statement}
 use Rattle.blocks.proofs.copy.prep_rows8.Tie as tie
 
@@ -17,10 +14,6 @@ Inv-loop tmp₀ ts src ss w h y₀ tmp y = Filled ts w (λ i j. prep 4 0 (pixel 
 
 abbrev μ-loop : tie.MeasureT-loop
 μ-loop tmp₀ ts src ss w h y₀ tmp y = h - y
-Inv-loop tmp₀ ds src ss w h y₀ tmp y = Filled ds w (λ i j. prep 4 0 (pixel src ss i j)) tmp₀ h y tmp
-
-abbrev μ-loop : tie.MeasureT-loop
-μ-loop tmp₀ ds src ss w h y₀ tmp y = h - y
 
 -- the function's entry, from a turn of the loop
 abbrev entry : tie.In-loop Inv-loop μ-loop → tie.Start Inv-loop μ-loop
@@ -31,15 +24,6 @@ row : (c : tie.In-loop Inv-loop μ-loop) → let a = entry c .args in let y = c 
 row c =
     let p = entry c .pre in let y = c .before .loop .y in let lt = c .loop-test .taken in
     (turn (pos 0) (c .before .loop .inv) (p .1) lt, row-in y (p .2) lt)
--- in a turn, row y is within both buffers, and the part lent is as long as the row
-row : (c : tie.In-loop Inv-loop μ-loop) → let a = entry c .args in let y = c .before .loop .y in
-    (y * a .tmp-stride + a .w ≤ length (c .before .loop .tmp)) × (y * a .src-stride + a .w ≤ length (a .src .now))
-row c =
-    let p = entry c .pre in let y = c .before .loop .y in let lt = c .loop-test .taken in
-    (omega (arith, row-in y (p .1) lt, c .before .loop .inv .len), row-in y (p .2) lt)
-
-prep-row8-requires : tie.Need-prep-row8-requires Inv-loop μ-loop
-prep-row8-requires c κs = omega (arith, row (c .before), filled-span (pos 0) (c .before .before .loop .inv) (entry (c .before) .pre .1) (c .before .loop-test .taken))
 
 loop-again : tie.Need-loop-again Inv-loop μ-loop
 loop-again c =
@@ -62,7 +46,6 @@ prep-rows8-spec =
     (λ c. omega (arith, row c))  -- part-prep-row8-end
     (λ c. omega (arith, row (c .before)))  -- mul-prep-row8-2
     (λ c κs. omega (arith, row (c .before)))  -- prep-row8-requires
-    prep-row8-requires
     (λ c. search needs)  -- add-y
     (λ c. search needs)  -- loop-less
     loop-again

@@ -1,13 +1,10 @@
 use native.Mathlib.Omega.{arith}
 use Prim.Native.Nat.{_+_, _-_, _*_, _≤_}
-use Prim.Native.Nat.{ℕ, _+_, _-_, _*_, _≤_}
-use mathlib.Core.Path.{_≡_}
 use lib.ListN.{length}
 use borrow.Author.Needs.{needs}
 use Rattle.rows.specs.Places.{pixel}
 use Rattle.rows.specs.Copy.{put}
 use Rattle.blocks.proofs.Laws.Rows.{Filled, filled-none, filled-more, filled-all, Turn, turn, row-in}
-use Rattle.blocks.proofs.Laws.Rows.{Filled, filled-none, filled-more, filled-all, filled-span, row-in}
 use Rattle.blocks.proofs.copy.put_rows16.Statement.{statement}
 use Rattle.blocks.proofs.copy.put_rows16.Tie as tie
 
@@ -26,15 +23,6 @@ row : (c : tie.In-loop Inv-loop μ-loop) → let a = entry c .args in let y = c 
 row c =
     let p = entry c .pre in let y = c .before .loop .y in let lt = c .loop-test .taken in
     (turn 0 (c .before .loop .inv) (p .1) lt, row-in y (p .2) lt)
--- in a turn, row y is within both buffers, and the part lent is as long as the row
-row : (c : tie.In-loop Inv-loop μ-loop) → let a = entry c .args in let y = c .before .loop .y in
-    (y * a .dst-stride + a .w ≤ length (c .before .loop .dst)) × (y * a .src-stride + a .w ≤ length (a .src .now))
-row c =
-    let p = entry c .pre in let y = c .before .loop .y in let lt = c .loop-test .taken in
-    (omega (arith, row-in y (p .1) lt, c .before .loop .inv .len), row-in y (p .2) lt)
-
-copy-row16-requires : tie.Need-copy-row16-requires Inv-loop μ-loop
-copy-row16-requires c κs = omega (arith, row (c .before), filled-span 0 (c .before .before .loop .inv) (entry (c .before) .pre .1) (c .before .loop-test .taken))
 
 loop-again : tie.Need-loop-again Inv-loop μ-loop
 loop-again c =
@@ -57,7 +45,6 @@ put-rows16-spec =
     (λ c. omega (arith, row c))  -- part-copy-row16-end
     (λ c. omega (arith, row (c .before)))  -- mul-copy-row16-2
     (λ c κs. omega (arith, row (c .before)))  -- copy-row16-requires
-    copy-row16-requires
     (λ c. search needs)  -- add-y
     (λ c. search needs)  -- loop-less
     loop-again
