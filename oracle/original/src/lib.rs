@@ -4,4 +4,7 @@
 include!(concat!(env!("OUT_DIR"), "/modules.rs"));
 
 pub mod cpu;
+#[cfg(not(feature = "real"))]
 pub mod tables;
+#[cfg(feature = "real")]
+pub use real_tables as tables;
