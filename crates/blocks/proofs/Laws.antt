@@ -12,3 +12,4 @@ pub mod EdgeReady
 pub mod CombineReady
 pub mod BilinReady
 pub mod Shears
+pub mod CombineBlocks

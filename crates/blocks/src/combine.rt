@@ -37,25 +37,12 @@ fn check_combine(
 ) -> u32
     ensures { λ r. ⌜ r ≡ lowest (combineTests dl «dst_stride» l1 l2 w h other mask) ⌝ }
 {
-    let buffers = held(
-        l1,
-        w,
-        w,
-        h,
-        5,
-        held(
-            l2,
-            w,
-            w,
-            h,
-            5,
-            needed(mask, 5, held(dl, dst_stride, w, h, 6, 0)),
-        ),
-    );
+    let last = needed(mask, 5, held(dl, dst_stride, w, h, 6, 0));
+    let buffers = held(l1, w, w, h, 5, held(l2, w, w, h, 5, last));
     sizes(w, h, stride(w, dst_stride, needed(other, 3, buffers)))
 }
 
-// -16 to 32
+// A weight from -16 to 32.
 fn weight_ok(weight: i32) -> bool
     ensures { λ r. ⌜ r ≡ weightOk weight ⌝ }
 {

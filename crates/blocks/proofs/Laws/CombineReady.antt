@@ -54,15 +54,15 @@ mask-ready deep dl ds l1 l2 w h ml e =
 -- ---- one call, one answer
 pub avg-unique : (deep : Bool) (depth : ℕ) (dst : List ℕ) (ds : ℕ) (tmp1 tmp2 : List ℤ) (w h : ℕ) (r r′ : ℕ) (d d′ : List ℕ)
     → AvgAnswer deep depth dst ds tmp1 tmp2 w h r d → AvgAnswer deep depth dst ds tmp1 tmp2 w h r′ d′ → (r ≡ r′) × (d ≡ d′)
-avg-unique deep depth dst ds tmp1 tmp2 w h r r′ d d′ a b = unique _ _ _ a b
+avg-unique deep depth dst ds tmp1 tmp2 w h r r′ d d′ a b = unique _ _ a b
 
 pub w-avg-unique : (deep : Bool) (depth : ℕ) (dst : List ℕ) (ds : ℕ) (tmp1 tmp2 : List ℤ) (w h : ℕ) (weight : ℤ) (r r′ : ℕ) (d d′ : List ℕ)
     → WAvgAnswer deep depth dst ds tmp1 tmp2 w h weight r d → WAvgAnswer deep depth dst ds tmp1 tmp2 w h weight r′ d′ → (r ≡ r′) × (d ≡ d′)
-w-avg-unique deep depth dst ds tmp1 tmp2 w h weight r r′ d d′ a b = unique _ _ _ a b
+w-avg-unique deep depth dst ds tmp1 tmp2 w h weight r r′ d d′ a b = unique _ _ a b
 
 pub mask-unique : (deep : Bool) (depth : ℕ) (dst : List ℕ) (ds : ℕ) (tmp1 tmp2 : List ℤ) (w h : ℕ) (mask : List ℕ) (r r′ : ℕ) (d d′ : List ℕ)
     → MaskAnswer deep depth dst ds tmp1 tmp2 w h mask r d → MaskAnswer deep depth dst ds tmp1 tmp2 w h mask r′ d′ → (r ≡ r′) × (d ≡ d′)
-mask-unique deep depth dst ds tmp1 tmp2 w h mask r r′ d d′ a b = unique _ _ _ a b
+mask-unique deep depth dst ds tmp1 tmp2 w h mask r r′ d d′ a b = unique _ _ a b
 
 -- ---- calls that are accepted: one pixel, and the ends of the weight
 avg-accepts : lowest (avgTests true 1 1 1 1 1 1) ≡ 0

@@ -20,7 +20,8 @@ put-ready dl ds sl ss w h e =
       rows-met sl ss w h (t .1 .0) (t .1 .1 .0),
     )
 
-pub prep-ready : (deep : Bool) (tl ts sl ss w h : ℕ) → lowest (prepTests deep tl ts sl ss w h) ≡ 0 → (deep ≡ true) × (Block w h × Rows tl ts w h × Rows sl ss w h)
+pub prep-ready : (deep : Bool) (tl ts sl ss w h : ℕ) → lowest (prepTests deep tl ts sl ss w h) ≡ 0
+    → (deep ≡ true) × (Block w h × Rows tl ts w h × Rows sl ss w h)
 prep-ready deep tl ts sl ss w h e =
     let m = all-met (prepTests deep tl ts sl ss w h) e in
     let t = m .1 .1 in
@@ -32,11 +33,11 @@ prep-ready deep tl ts sl ss w h e =
 -- ---- one call, one answer
 pub put-unique : (dst : List ℕ) (ds : ℕ) (src : List ℕ) (ss w h : ℕ) (r r′ : ℕ) (d d′ : List ℕ)
     → PutAnswer dst ds src ss w h r d → PutAnswer dst ds src ss w h r′ d′ → (r ≡ r′) × (d ≡ d′)
-put-unique dst ds src ss w h r r′ d d′ a b = unique _ _ _ a b
+put-unique dst ds src ss w h r r′ d d′ a b = unique _ _ a b
 
 pub prep-unique : (deep : Bool) (depth : ℕ) (tmp : List ℤ) (ts : ℕ) (src : List ℕ) (ss w h : ℕ) (r r′ : ℕ) (t t′ : List ℤ)
     → PrepAnswer deep depth tmp ts src ss w h r t → PrepAnswer deep depth tmp ts src ss w h r′ t′ → (r ≡ r′) × (t ≡ t′)
-prep-unique deep depth tmp ts src ss w h r r′ t t′ a b = unique _ _ _ a b
+prep-unique deep depth tmp ts src ss w h r r′ t t′ a b = unique _ _ a b
 
 -- ---- calls that are accepted: one pixel
 put-accepts : lowest (putTests 1 1 1 1 1 1) ≡ 0

@@ -17,7 +17,8 @@ abbrev entry : tie.After-check-combine → tie.Start
 entry c = c .before .before .before .before .before
 
 number : (c : tie.After-check-combine) → let a = entry c .args in
-    c .check-combine .result ≡ lowest (maskTests (depthOk (a .depth)) (length (a .dst .now)) (a .dst-stride) (length (a .tmp1 .now)) (length (a .tmp2 .now)) (a .w) (a .h) (length (a .mask .now)))
+    let t1 = length (a .tmp1 .now) in let t2 = length (a .tmp2 .now) in
+    c .check-combine .result ≡ lowest (maskTests (depthOk (a .depth)) (length (a .dst .now)) (a .dst-stride) t1 t2 (a .w) (a .h) (length (a .mask .now)))
 number c = rw (c .before .before .depth-ok .ensures, c .before .holds-rows .ensures, back (entry c .fits .depth)) at (c .check-combine .ensures)
 
 depth : (c : tie.After-depth-numbers) → c .depth-numbers .result ≡ numbersOf (up (entry (c .before .before) .args .depth))

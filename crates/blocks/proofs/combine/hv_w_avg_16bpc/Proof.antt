@@ -17,8 +17,11 @@ abbrev entry : tie.After-check-combine → tie.Start
 entry c = c .before .before .before .before
 
 number : (c : tie.After-check-combine) → let a = entry c .args in
-    c .check-combine .result ≡ lowest (wAvgTests (depthOk (a .depth)) (length (a .dst .now)) (a .dst-stride) (length (a .tmp1 .now)) (length (a .tmp2 .now)) (a .w) (a .h) (a .weight))
-number c = rw (c .before .before .depth-ok .ensures, c .before .weight-ok .ensures, back (entry c .fits .depth), back (entry c .fits .weight)) at (c .check-combine .ensures)
+    let t1 = length (a .tmp1 .now) in let t2 = length (a .tmp2 .now) in
+    c .check-combine .result ≡ lowest (wAvgTests (depthOk (a .depth)) (length (a .dst .now)) (a .dst-stride) t1 t2 (a .w) (a .h) (a .weight))
+number c =
+    let f = entry c .fits in
+    rw (c .before .before .depth-ok .ensures, c .before .weight-ok .ensures, back (f .depth), back (f .weight)) at (c .check-combine .ensures)
 
 depth : (c : tie.After-depth-numbers) → c .depth-numbers .result ≡ numbersOf (up (entry (c .before .before) .args .depth))
 depth c = c .depth-numbers .ensures ∙ ap (λ (z : ℤ). numbersOf (up z)) (back (entry (c .before .before) .fits .depth))
@@ -35,7 +38,8 @@ w-avg-rows16-requires c κs =
 returns : tie.Need-returns
 returns c =
     let n = c .before .before .before .before in
-    (number (n .before .before), rw (depth n, back (entry (n .before .before) .fits .weight)) at (c .before .before .w-avg-rows16 .ensures) ∙ sym (done _ _ _ (n .before .if1 .taken)))
+    let e = back (entry (n .before .before) .fits .weight) in
+    (number (n .before .before), rw (depth n, e) at (c .before .before .w-avg-rows16 .ensures) ∙ sym (done _ _ _ (n .before .if1 .taken)))
 
 pub hv-w-avg-16bpc-spec : {M : Type 1} → statement M
 hv-w-avg-16bpc-spec =

@@ -14,7 +14,8 @@ abbrev entry : tie.After-check-combine → tie.Start
 entry c = c .before .before .before
 
 number : (c : tie.After-check-combine) → let a = entry c .args in
-    c .check-combine .result ≡ lowest (wAvgTests true (length (a .dst .now)) (a .dst-stride) (length (a .tmp1 .now)) (length (a .tmp2 .now)) (a .w) (a .h) (a .weight))
+    let t1 = length (a .tmp1 .now) in let t2 = length (a .tmp2 .now) in
+    c .check-combine .result ≡ lowest (wAvgTests true (length (a .dst .now)) (a .dst-stride) t1 t2 (a .w) (a .h) (a .weight))
 number c = rw (c .before .weight-ok .ensures, back (entry c .fits .weight)) at (c .check-combine .ensures)
 
 w-avg-rows8-requires : tie.Need-w-avg-rows8-requires

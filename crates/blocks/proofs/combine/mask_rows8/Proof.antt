@@ -19,7 +19,8 @@ abbrev entry : tie.In-loop Inv-loop μ-loop → tie.Start Inv-loop μ-loop
 entry c = c .before .before .before .before
 
 row : (c : tie.In-loop Inv-loop μ-loop) → let a = entry c .args in let y = c .before .loop .y in
-    Turn (a .dst-stride) (a .w) y (c .before .loop .dst) × (y * a .w + a .w ≤ length (a .tmp1 .now)) × (y * a .w + a .w ≤ length (a .tmp2 .now)) × (y * a .w + a .w ≤ length (a .mask .now))
+    Turn (a .dst-stride) (a .w) y (c .before .loop .dst) × (y * a .w + a .w ≤ length (a .tmp1 .now))
+    × (y * a .w + a .w ≤ length (a .tmp2 .now)) × (y * a .w + a .w ≤ length (a .mask .now))
 row c =
     let p = entry c .pre in let y = c .before .loop .y in let lt = c .loop-test .taken in
     (turn 0 (c .before .loop .inv) (p .1) lt, row-in y (p .2) lt, row-in y (p .3) lt, row-in y (p .4) lt)

@@ -11,7 +11,8 @@ use Rattle.blocks.proofs.combine.w_avg_rows16.Statement.{statement}
 use Rattle.blocks.proofs.combine.w_avg_rows16.Tie as tie
 
 abbrev Inv-loop : tie.InvT-loop
-Inv-loop dst₀ ds tmp1 tmp2 w h weight bits bias max y₀ dst y = Filled ds w (λ i j. both (weighted max bits bias (toZ w32 weight)) tmp1 tmp2 (j * w) i) dst₀ h y dst
+Inv-loop dst₀ ds tmp1 tmp2 w h weight bits bias max y₀ dst y =
+    Filled ds w (λ i j. both (weighted max bits bias (toZ w32 weight)) tmp1 tmp2 (j * w) i) dst₀ h y dst
 
 abbrev μ-loop : tie.MeasureT-loop
 μ-loop dst₀ ds tmp1 tmp2 w h weight bits bias max y₀ dst y = h - y
