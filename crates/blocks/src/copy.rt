@@ -74,7 +74,7 @@ pub extern "C" fn hv_put_8bpc(
     ensures { λ r. ⌜ PutAnswer (now (dst .entry)) «dst_stride» (now (src .entry)) «src_stride» w h r (now (dst .exit)) ⌝ }
 {
     let number = check_put(dst.len(), dst_stride, src.len(), src_stride, w, h);
-    if number == 0 {
+    if number == 0 { // else dst stays
         put_rows8(dst, dst_stride, src, src_stride, w, h);
     }
     number

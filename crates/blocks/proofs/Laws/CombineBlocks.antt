@@ -1,5 +1,5 @@
 -- The combining laws of demand 3 as equations of what calls answer: their numbers, and their whole destinations. Assumes nothing.
-use mathlib.Core.Path.{_≡_, refl, sym, ap, ap₂, _∙_, fun-ext}
+use mathlib.Core.Path.{_≡_, refl, sym, ap, _∙_, fun-ext}
 use mathlib.Core.Bool.{Bool, true, false, _&&_}
 use mathlib.Core.List.{List}
 use Prim.Native.Nat.{ℕ, _+_, _*_, _<_, _≤_}
@@ -11,12 +11,12 @@ use borrow.Author.Tests.{le-leb}
 use Rattle.rows.specs.Numbers.{up, dn, at}
 use Rattle.rows.specs.Depth.{bitsOf, biasOf, maxOf}
 use Rattle.rows.specs.Places.{pixel, fill}
-use Rattle.rows.specs.Combine.{avg, weighted, masked, both}
+use Rattle.rows.specs.Combine.{masked}
 use Rattle.rows.proofs.Laws.Signed.{le-yes, le-no, sub-parts}
 use Rattle.rows.proofs.Laws.Fill.{and-true, fill-same}
 use Rattle.rows.proofs.Laws.Combine.{swap-avg, swap-weight, mask-weight}
 use Rattle.blocks.specs.Refuse.{need, lowest, holds, holdsAll}
-use Rattle.blocks.specs.Combine.{combineTests, avgTests, wAvgTests, maskTests, weightOk, AvgAnswer, WAvgAnswer, MaskAnswer}
+use Rattle.blocks.specs.Combine.{combineTests, wAvgTests, maskTests, weightOk, AvgAnswer, WAvgAnswer, MaskAnswer}
 use Rattle.blocks.proofs.Laws.Answer.{same-answer}
 use Rattle.blocks.proofs.Laws.CombineReady.{mask-ready}
 
@@ -74,45 +74,43 @@ mask-tests : (deep : Bool) (dl ds l1 l2 w h ml k : ℕ) → holdsAll ml w h ≡ 
     → lowest (maskTests deep dl ds l1 l2 w h ml) ≡ lowest (wAvgTests deep dl ds l1 l2 w h (pos k))
 mask-tests deep dl ds l1 l2 w h ml k held h32 = rw (held, weight-ok k h32) (ap (λ (t : Bool). lowest (combineTests dl ds l1 l2 w h t true)) (and-right deep))
 
--- ---- the laws
-
--- "swapping two inputs" of avg: the same number, the same destination
-pub swap-avg-block : (deep : Bool) (depth : ℕ) (dst : List ℕ) (ds : ℕ) (tmp1 tmp2 : List ℤ) (w h : ℕ) {r r′ : ℕ} {d d′ : List ℕ}
-    → AvgAnswer deep depth dst ds tmp1 tmp2 w h r d → AvgAnswer deep depth dst ds tmp2 tmp1 w h r′ d′ → (r ≡ r′) × (d ≡ d′)
-swap-avg-block deep depth dst ds tmp1 tmp2 w h =
-    same-answer dst (swap-tests (length dst) ds (length tmp1) (length tmp2) w h deep true)
-    λ _. ap (fill dst ds w h) (fun-ext λ i. fun-ext λ j. swap-avg (maxOf depth) (bitsOf depth) (biasOf depth) (at tmp1 (j * w + i)) (at tmp2 (j * w + i)))
-
--- "swapping two inputs equals changing weight k to 16 minus k"
-pub swap-weight-block : (deep : Bool) (depth : ℕ) (dst : List ℕ) (ds : ℕ) (tmp1 tmp2 : List ℤ) (w h : ℕ) (k : ℤ) {r r′ : ℕ} {d d′ : List ℕ}
-    → WAvgAnswer deep depth dst ds tmp1 tmp2 w h k r d → WAvgAnswer deep depth dst ds tmp2 tmp1 w h (pos 16 -ℤ k) r′ d′ → (r ≡ r′) × (d ≡ d′)
-swap-weight-block deep depth dst ds tmp1 tmp2 w h k =
-    same-answer dst
-    (swap-tests (length dst) ds (length tmp1) (length tmp2) w h (deep && weightOk k) true
-    ∙ ap (λ (t : Bool). lowest (combineTests (length dst) ds (length tmp2) (length tmp1) w h (deep && t) true)) (partner-ok k))
-    λ _. ap (fill dst ds w h) (fun-ext λ i. fun-ext λ j. swap-weight (maxOf depth) (bitsOf depth) (biasOf depth) k (at tmp1 (j * w + i)) (at tmp2 (j * w + i)))
-
 -- a mask of m at each place of the block
 abbrev pub Everywhere : (m : ℕ) (mask : List ℕ) (w h : ℕ) → Type 0
 Everywhere m mask w h = (i j : ℕ) → i < w → j < h → pixel mask w i j ≡ m
 
--- "for k from 0 to 32, a mask of 4k everywhere equals weight k": the same number, the same destination, where the mask holds the block
-pub mask-weight-block : (deep : Bool) (depth : ℕ) (dst : List ℕ) (ds : ℕ) (tmp1 tmp2 : List ℤ) (w h : ℕ) (mask : List ℕ) (k : ℕ) {r r′ : ℕ} {d d′ : List ℕ}
-    → k ≤ 32 → Everywhere (4 * k) mask w h → holdsAll (length mask) w h ≡ true
-    → MaskAnswer deep depth dst ds tmp1 tmp2 w h mask r d → WAvgAnswer deep depth dst ds tmp1 tmp2 w h (pos k) r′ d′ → (r ≡ r′) × (d ≡ d′)
-mask-weight-block deep depth dst ds tmp1 tmp2 w h mask k h32 all held =
-    same-answer dst (mask-tests deep (length dst) ds (length tmp1) (length tmp2) w h (length mask) k held h32) λ z.
-    let p = mask-ready deep (length dst) ds (length tmp1) (length tmp2) w h (length mask) z in
-    fill-same 0 ds (omega arith) dst w h _ _ λ i j iw jh.
-    let a = at tmp1 (j * w + i) in let b = at tmp2 (j * w + i) in
-    ap (λ (m : ℕ). masked (maxOf depth) (bitsOf depth) (biasOf depth) m a b) (all i j iw jh)
-    ∙ mask-weight (maxOf depth) (bitsOf depth) (biasOf depth) k a b
+-- ---- the laws, of two calls on one destination
+module _ (deep : Bool) (depth : ℕ) (dst : List ℕ) (ds : ℕ) (tmp1 tmp2 : List ℤ) (w h : ℕ) {r r′ : ℕ} {d d′ : List ℕ} where
+  -- "swapping two inputs" of avg: the same number, the same destination
+  pub swap-avg-block : AvgAnswer deep depth dst ds tmp1 tmp2 w h r d → AvgAnswer deep depth dst ds tmp2 tmp1 w h r′ d′ → (r ≡ r′) × (d ≡ d′)
+  swap-avg-block =
+      same-answer dst (swap-tests (length dst) ds (length tmp1) (length tmp2) w h deep true)
+      λ _. ap (fill dst ds w h) (fun-ext λ i. fun-ext λ j. swap-avg (maxOf depth) (bitsOf depth) (biasOf depth) (at tmp1 (j * w + i)) (at tmp2 (j * w + i)))
 
--- so where the mask's call is accepted, the weight's is, with the same destination
-pub mask-weight-done : (deep : Bool) (depth : ℕ) (dst : List ℕ) (ds : ℕ) (tmp1 tmp2 : List ℤ) (w h : ℕ) (mask : List ℕ) (k : ℕ) {r′ : ℕ} {d d′ : List ℕ}
-    → k ≤ 32 → Everywhere (4 * k) mask w h
-    → MaskAnswer deep depth dst ds tmp1 tmp2 w h mask 0 d → WAvgAnswer deep depth dst ds tmp1 tmp2 w h (pos k) r′ d′ → (0 ≡ r′) × (d ≡ d′)
-unfolding holds
-mask-weight-done deep depth dst ds tmp1 tmp2 w h mask k h32 all a =
-    let p = mask-ready deep (length dst) ds (length tmp1) (length tmp2) w h (length mask) (sym (a .0)) in
-    mask-weight-block deep depth dst ds tmp1 tmp2 w h mask k h32 all (le-leb _ _ (p .1 .4 .fits)) a
+  -- "swapping two inputs equals changing weight k to 16 minus k"
+  pub swap-weight-block : (k : ℤ) → WAvgAnswer deep depth dst ds tmp1 tmp2 w h k r d → WAvgAnswer deep depth dst ds tmp2 tmp1 w h (pos 16 -ℤ k) r′ d′
+      → (r ≡ r′) × (d ≡ d′)
+  swap-weight-block k =
+      same-answer dst
+      (swap-tests (length dst) ds (length tmp1) (length tmp2) w h (deep && weightOk k) true
+      ∙ ap (λ (t : Bool). lowest (combineTests (length dst) ds (length tmp2) (length tmp1) w h (deep && t) true)) (partner-ok k))
+      λ _. ap (fill dst ds w h) (fun-ext λ i. fun-ext λ j. swap-weight (maxOf depth) (bitsOf depth) (biasOf depth) k (at tmp1 (j * w + i)) (at tmp2 (j * w + i)))
+
+  -- "for k from 0 to 32, a mask of 4k everywhere equals weight k": the same number, the same destination, where the mask holds the block
+  pub mask-weight-block : (mask : List ℕ) (k : ℕ) → k ≤ 32 → Everywhere (4 * k) mask w h → holdsAll (length mask) w h ≡ true
+      → MaskAnswer deep depth dst ds tmp1 tmp2 w h mask r d → WAvgAnswer deep depth dst ds tmp1 tmp2 w h (pos k) r′ d′ → (r ≡ r′) × (d ≡ d′)
+  mask-weight-block mask k h32 all held =
+      same-answer dst (mask-tests deep (length dst) ds (length tmp1) (length tmp2) w h (length mask) k held h32) λ z.
+      let p = mask-ready deep (length dst) ds (length tmp1) (length tmp2) w h (length mask) z in
+      fill-same 0 ds (omega arith) dst w h _ _ λ i j iw jh.
+      let a = at tmp1 (j * w + i) in let b = at tmp2 (j * w + i) in
+      ap (λ (m : ℕ). masked (maxOf depth) (bitsOf depth) (biasOf depth) m a b) (all i j iw jh)
+      ∙ mask-weight (maxOf depth) (bitsOf depth) (biasOf depth) k a b
+
+  -- so where the mask's call is accepted, the weight's is, with the same destination
+  pub mask-weight-done : (mask : List ℕ) (k : ℕ) → k ≤ 32 → Everywhere (4 * k) mask w h
+      → MaskAnswer deep depth dst ds tmp1 tmp2 w h mask r d → r ≡ 0 → WAvgAnswer deep depth dst ds tmp1 tmp2 w h (pos k) r′ d′ → (r′ ≡ 0) × (d ≡ d′)
+  unfolding holds
+  mask-weight-done mask k h32 all a z b =
+      let p = mask-ready deep (length dst) ds (length tmp1) (length tmp2) w h (length mask) (sym (a .0) ∙ z) in
+      let q = mask-weight-block mask k h32 all (le-leb _ _ (p .1 .4 .fits)) a b in
+      (sym (q .0) ∙ z, q .1)

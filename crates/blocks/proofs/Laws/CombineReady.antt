@@ -8,7 +8,7 @@ use borrow.Author.Tests.{leb-true}
 use lib.IntN.{ℤ, pos, negsuc}
 use lib.Signed.{mag, leZ}
 use Rattle.rows.proofs.Laws.Fill.{and-true}
-use Rattle.blocks.specs.Refuse.{need, lowest, sizeOk, strideOk, holds}
+use Rattle.blocks.specs.Refuse.{need, lowest, sizeOk, strideOk, holds, depthOk}
 use Rattle.blocks.specs.Ready.{Block, Rows}
 use Rattle.blocks.specs.Combine.{combineTests, avgTests, wAvgTests, maskTests, weightOk, AvgAnswer, WAvgAnswer, MaskAnswer}
 use Rattle.blocks.proofs.Laws.Refuse.{all-met, holds-met}
@@ -28,12 +28,13 @@ combine-ready dl ds l1 l2 w h other mask e =
     let b = block-met w h (m .0) (m .1 .0) in
     (t .1 .0, u .1 .1 .0, (b, rows-met dl ds w h (t .0) (u .1 .1 .1 .0), whole-met l1 b (u .0), whole-met l2 b (u .1 .0)))
 
+-- the largest weight is 32, the smallest -16
 weight-met : (k : ℤ) → weightOk k ≡ true → mag k < 33
 unfolding weightOk
 weight-met (pos n) e = omega (arith, leb-true n 32 (and-true (leZ (negsuc 15) (pos n)) (leZ (pos n) (pos 32)) e .1))
 weight-met (negsuc n) e = omega (arith, leb-true n 15 (and-true (leZ (negsuc 15) (negsuc n)) (leZ (negsuc n) (pos 32)) e .0))
 
--- the rows of all three: a block, the destination, two intermediates
+-- ---- each kernel: what its rows take, and the outcome of the depth's test
 pub avg-ready : (deep : Bool) (dl ds l1 l2 w h : ℕ) → lowest (avgTests deep dl ds l1 l2 w h) ≡ 0
     → (deep ≡ true) × (Block w h × Rows dl ds w h × Rows l1 w w h × Rows l2 w w h)
 avg-ready deep dl ds l1 l2 w h e = let p = combine-ready dl ds l1 l2 w h deep true e in (p .0, p .2)
@@ -52,27 +53,25 @@ mask-ready deep dl ds l1 l2 w h ml e =
     (p .0, (p .2 .0, p .2 .1, p .2 .2, p .2 .3, whole-met ml (p .2 .0) (p .1)))
 
 -- ---- one call, one answer
-pub avg-unique : (deep : Bool) (depth : ℕ) (dst : List ℕ) (ds : ℕ) (tmp1 tmp2 : List ℤ) (w h : ℕ) (r r′ : ℕ) (d d′ : List ℕ)
-    → AvgAnswer deep depth dst ds tmp1 tmp2 w h r d → AvgAnswer deep depth dst ds tmp1 tmp2 w h r′ d′ → (r ≡ r′) × (d ≡ d′)
-avg-unique deep depth dst ds tmp1 tmp2 w h r r′ d d′ a b = unique _ _ a b
+module _ (deep : Bool) (depth : ℕ) (dst : List ℕ) (ds : ℕ) (tmp1 tmp2 : List ℤ) (w h : ℕ) {r r′ : ℕ} {d d′ : List ℕ} where
+  pub avg-unique : AvgAnswer deep depth dst ds tmp1 tmp2 w h r d → AvgAnswer deep depth dst ds tmp1 tmp2 w h r′ d′ → (r ≡ r′) × (d ≡ d′)
+  avg-unique a b = unique _ _ a b
 
-pub w-avg-unique : (deep : Bool) (depth : ℕ) (dst : List ℕ) (ds : ℕ) (tmp1 tmp2 : List ℤ) (w h : ℕ) (weight : ℤ) (r r′ : ℕ) (d d′ : List ℕ)
-    → WAvgAnswer deep depth dst ds tmp1 tmp2 w h weight r d → WAvgAnswer deep depth dst ds tmp1 tmp2 w h weight r′ d′ → (r ≡ r′) × (d ≡ d′)
-w-avg-unique deep depth dst ds tmp1 tmp2 w h weight r r′ d d′ a b = unique _ _ a b
+  pub w-avg-unique : (k : ℤ) → WAvgAnswer deep depth dst ds tmp1 tmp2 w h k r d → WAvgAnswer deep depth dst ds tmp1 tmp2 w h k r′ d′ → (r ≡ r′) × (d ≡ d′)
+  w-avg-unique k a b = unique _ _ a b
 
-pub mask-unique : (deep : Bool) (depth : ℕ) (dst : List ℕ) (ds : ℕ) (tmp1 tmp2 : List ℤ) (w h : ℕ) (mask : List ℕ) (r r′ : ℕ) (d d′ : List ℕ)
-    → MaskAnswer deep depth dst ds tmp1 tmp2 w h mask r d → MaskAnswer deep depth dst ds tmp1 tmp2 w h mask r′ d′ → (r ≡ r′) × (d ≡ d′)
-mask-unique deep depth dst ds tmp1 tmp2 w h mask r r′ d d′ a b = unique _ _ a b
+  pub mask-unique : (m : List ℕ) → MaskAnswer deep depth dst ds tmp1 tmp2 w h m r d → MaskAnswer deep depth dst ds tmp1 tmp2 w h m r′ d′ → (r ≡ r′) × (d ≡ d′)
+  mask-unique m a b = unique _ _ a b
 
--- ---- calls that are accepted: one pixel, and the ends of the weight
-avg-accepts : lowest (avgTests true 1 1 1 1 1 1) ≡ 0
-unfolding need sizeOk strideOk holds
-avg-accepts = refl
+-- ---- calls that are accepted: one pixel, of bytes and of depth 10; the ends of the weight
+avg-accepts : (lowest (avgTests true 1 1 1 1 1 1) ≡ 0) × (lowest (avgTests (depthOk (pos 10)) 1 1 1 1 1 1) ≡ 0)
+unfolding need sizeOk strideOk holds depthOk
+avg-accepts = (refl, refl)
 
-w-avg-accepts : (lowest (wAvgTests true 1 1 1 1 1 1 (negsuc 15)) ≡ 0) × (lowest (wAvgTests true 1 1 1 1 1 1 (pos 32)) ≡ 0)
-unfolding need sizeOk strideOk holds weightOk
+w-avg-accepts : (lowest (wAvgTests true 1 1 1 1 1 1 (negsuc 15)) ≡ 0) × (lowest (wAvgTests (depthOk (pos 10)) 1 1 1 1 1 1 (pos 32)) ≡ 0)
+unfolding need sizeOk strideOk holds depthOk weightOk
 w-avg-accepts = (refl, refl)
 
-mask-accepts : lowest (maskTests true 1 1 1 1 1 1 1) ≡ 0
-unfolding need sizeOk strideOk holds
-mask-accepts = refl
+mask-accepts : (lowest (maskTests true 1 1 1 1 1 1 1) ≡ 0) × (lowest (maskTests (depthOk (pos 10)) 1 1 1 1 1 1 1) ≡ 0)
+unfolding need sizeOk strideOk holds depthOk
+mask-accepts = (refl, refl)

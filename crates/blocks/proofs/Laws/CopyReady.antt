@@ -3,8 +3,8 @@ use mathlib.Core.Path.{_≡_, refl}
 use mathlib.Core.Bool.{Bool, true}
 use mathlib.Core.List.{List}
 use Prim.Native.Nat.{ℕ}
-use lib.IntN.{ℤ}
-use Rattle.blocks.specs.Refuse.{need, lowest, sizeOk, strideOk, holds}
+use lib.IntN.{ℤ, pos}
+use Rattle.blocks.specs.Refuse.{need, lowest, sizeOk, strideOk, holds, depthOk}
 use Rattle.blocks.specs.Ready.{Block, Rows}
 use Rattle.blocks.specs.Copy.{putTests, prepTests, PutAnswer, PrepAnswer}
 use Rattle.blocks.proofs.Laws.Refuse.{all-met}
@@ -31,19 +31,19 @@ prep-ready deep tl ts sl ss w h e =
     )
 
 -- ---- one call, one answer
-pub put-unique : (dst : List ℕ) (ds : ℕ) (src : List ℕ) (ss w h : ℕ) (r r′ : ℕ) (d d′ : List ℕ)
+pub put-unique : (dst : List ℕ) (ds : ℕ) (src : List ℕ) (ss w h : ℕ) {r r′ : ℕ} {d d′ : List ℕ}
     → PutAnswer dst ds src ss w h r d → PutAnswer dst ds src ss w h r′ d′ → (r ≡ r′) × (d ≡ d′)
-put-unique dst ds src ss w h r r′ d d′ a b = unique _ _ a b
+put-unique dst ds src ss w h a b = unique _ _ a b
 
-pub prep-unique : (deep : Bool) (depth : ℕ) (tmp : List ℤ) (ts : ℕ) (src : List ℕ) (ss w h : ℕ) (r r′ : ℕ) (t t′ : List ℤ)
+pub prep-unique : (deep : Bool) (depth : ℕ) (tmp : List ℤ) (ts : ℕ) (src : List ℕ) (ss w h : ℕ) {r r′ : ℕ} {t t′ : List ℤ}
     → PrepAnswer deep depth tmp ts src ss w h r t → PrepAnswer deep depth tmp ts src ss w h r′ t′ → (r ≡ r′) × (t ≡ t′)
-prep-unique deep depth tmp ts src ss w h r r′ t t′ a b = unique _ _ a b
+prep-unique deep depth tmp ts src ss w h a b = unique _ _ a b
 
--- ---- calls that are accepted: one pixel
+-- ---- calls that are accepted: one pixel, of bytes and of depth 10
 put-accepts : lowest (putTests 1 1 1 1 1 1) ≡ 0
 unfolding need sizeOk strideOk holds
 put-accepts = refl
 
-prep-accepts : lowest (prepTests true 1 1 1 1 1 1) ≡ 0
-unfolding need sizeOk strideOk holds
-prep-accepts = refl
+prep-accepts : (lowest (prepTests true 1 1 1 1 1 1) ≡ 0) × (lowest (prepTests (depthOk (pos 10)) 1 1 1 1 1 1) ≡ 0)
+unfolding need sizeOk strideOk holds depthOk
+prep-accepts = (refl, refl)

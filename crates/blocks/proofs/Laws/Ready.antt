@@ -1,6 +1,6 @@
 -- Tests that are met give what the rows rely on. Assumes nothing.
 use mathlib.Core.Path.{_≡_}
-use mathlib.Core.Bool.{Bool, true}
+use mathlib.Core.Bool.{true}
 use Prim.Native.Nat.{ℕ}
 use Rattle.blocks.specs.Refuse.{sizeOk, strideOk, holds}
 use Rattle.blocks.specs.Ready.{Block, Rows}
