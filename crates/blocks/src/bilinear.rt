@@ -7,7 +7,18 @@ ghost use lib.Signed.{shrZ};
 ghost use Rattle.rows.specs.Numbers.{at, px, clip, low16, minus16};
 ghost use Rattle.rows.specs.Places.{fill, around};
 ghost use Rattle.rows.specs.Bilinear.{R, bilinAt, putBilin, prepBilin};
+ghost use Rattle.blocks.specs.Refuse.{lowest};
+ghost use Rattle.blocks.specs.Subpel.{on, sixteenthOk};
+ghost use Rattle.blocks.specs.Bilinear.{bilinTests};
 ghost use Rattle.blocks.specs.Ready.{Pairs, Bilin, Bits};
+use crate::copy::prep_rows8;
+use crate::copy::prep_rows16;
+use crate::copy::put_rows8;
+use crate::copy::put_rows16;
+use crate::refuse::held;
+use crate::refuse::needed;
+use crate::refuse::sizes;
+use crate::refuse::stride;
 use rows::bilinear::mid_bilin_prep_row;
 use rows::bilinear::mid_bilin_row8;
 use rows::bilinear::mid_bilin_row16;
@@ -15,6 +26,49 @@ use rows::bilinear::prep_bilin_row8;
 use rows::bilinear::prep_bilin_row16;
 use rows::bilinear::put_bilin_row8;
 use rows::bilinear::put_bilin_row16;
+use rows::warp::half_power;
+
+// A fraction of sixteenths.
+fn sixteenth_ok(f: i32) -> bool
+    ensures { λ r. ⌜ r ≡ sixteenthOk f ⌝ }
+{
+    (0 <= f) & (f <= 15)
+}
+
+// 1 where the fraction isn't 0, which reads a place more.
+fn on_axis(f: i32) -> usize
+    ensures { λ r. ⌜ r ≡ on f ⌝ }
+{
+    if f <= 0 { 0 } else { 1 }
+}
+
+// deep is the outcome of the depth's test, true for bytes.
+fn check_bilin(
+    deep: bool,
+    dl: usize,
+    dst_stride: usize,
+    sl: usize,
+    src_stride: usize,
+    w: usize,
+    h: usize,
+    mx: i32,
+    my: i32,
+) -> u32
+    ensures { λ r. ⌜ r ≡ lowest (bilinTests deep dl «dst_stride» sl «src_stride» w h mx my) ⌝ }
+{
+    let size = sizes(w, h, 0);
+    if size != 0 {
+        return size;
+    }
+    let dst = held(dl, dst_stride, w, h, 6, 0);
+    let buffers = held(sl, src_stride, w + on_axis(mx), h + on_axis(my), 5, dst);
+    let fractions = needed(sixteenth_ok(mx), 3, needed(sixteenth_ok(my), 3, buffers));
+    stride(
+        w,
+        dst_stride,
+        stride(w, src_stride, needed(deep, 3, fractions)),
+    )
+}
 
 // Intermediates from the 64 apart rows of a first pass: prep, the second pass.
 fn mid_bilin_prep_rows(
@@ -145,6 +199,71 @@ fn prep_bilin_both8(
     mid_bilin_prep_rows(tmp, tmp_stride, &mid, w, h, g, 4, 0);
 }
 
+// The four cases: both fractions, the horizontal alone, the vertical alone, none.
+fn put_bilin_rows8(
+    dst: &mut [u8],
+    dst_stride: usize,
+    src: &[u8],
+    src_stride: usize,
+    w: usize,
+    h: usize,
+    f: u32,
+    g: u32,
+)
+    requires { ⌜ Bilin (length (now dst)) «dst_stride» (length (now src)) «src_stride» w h f g ⌝ }
+    ensures { λ _. ⌜ now (dst .exit) ≡ fill (now (dst .entry)) «dst_stride» w h (λ i j. putBilin 255 4 f g (around 0 (now (src .entry)) 0 «src_stride» i j)) ⌝ }
+{
+    if f != 0 {
+        if g != 0 {
+            put_bilin_both8(dst, dst_stride, src, src_stride, w, h, f, g);
+        } else {
+            put_bilin_axis8(dst, dst_stride, src, src_stride, w, h, 1, f, 0, 8, 4);
+        }
+    } else if g != 0 {
+        put_bilin_axis8(
+            dst,
+            dst_stride,
+            src,
+            src_stride,
+            w,
+            h,
+            src_stride,
+            g,
+            4,
+            0,
+            0,
+        );
+    } else {
+        put_rows8(dst, dst_stride, src, src_stride, w, h);
+    }
+}
+
+fn prep_bilin_rows8(
+    tmp: &mut [i16],
+    tmp_stride: usize,
+    src: &[u8],
+    src_stride: usize,
+    w: usize,
+    h: usize,
+    f: u32,
+    g: u32,
+)
+    requires { ⌜ Bilin (length (now tmp)) «tmp_stride» (length (now src)) «src_stride» w h f g ⌝ }
+    ensures { λ _. ⌜ now (tmp .exit) ≡ fill (now (tmp .entry)) «tmp_stride» w h (λ i j. prepBilin 4 0 f g (around 0 (now (src .entry)) 0 «src_stride» i j)) ⌝ }
+{
+    if f != 0 {
+        if g != 0 {
+            prep_bilin_both8(tmp, tmp_stride, src, src_stride, w, h, f, g);
+        } else {
+            prep_bilin_axis8(tmp, tmp_stride, src, src_stride, w, h, 1, f, 0, 0);
+        }
+    } else if g != 0 {
+        prep_bilin_axis8(tmp, tmp_stride, src, src_stride, w, h, src_stride, g, 0, 0);
+    } else {
+        prep_rows8(tmp, tmp_stride, src, src_stride, w, h);
+    }
+}
+
 fn put_bilin_axis16(
     dst: &mut [u16],
     dst_stride: usize,
@@ -262,4 +381,108 @@ fn prep_bilin_both16(
     let mut mid = [0i16; 4160];
     prep_bilin_axis16(&mut mid, 64, src, src_stride, w, h + 1, 1, f, 4 - bits, 0);
     mid_bilin_prep_rows(tmp, tmp_stride, &mid, w, h, g, 4, bias as i16);
+}
+
+fn put_bilin_rows16(
+    dst: &mut [u16],
+    dst_stride: usize,
+    src: &[u16],
+    src_stride: usize,
+    w: usize,
+    h: usize,
+    f: u32,
+    g: u32,
+    bits: u32,
+    max: u16,
+)
+    requires { ⌜ Bilin (length (now dst)) «dst_stride» (length (now src)) «src_stride» w h f g × (1 ≤ bits) × (bits ≤ 4) ⌝ }
+    ensures { λ _. ⌜ now (dst .exit) ≡ fill (now (dst .entry)) «dst_stride» w h (λ i j. putBilin max bits f g (around 0 (now (src .entry)) 0 «src_stride» i j)) ⌝ }
+{
+    if f != 0 {
+        if g != 0 {
+            put_bilin_both16(dst, dst_stride, src, src_stride, w, h, f, g, bits, max);
+        } else {
+            put_bilin_axis16(
+                dst,
+                dst_stride,
+                src,
+                src_stride,
+                w,
+                h,
+                1,
+                f,
+                4 - bits,
+                half_power(bits),
+                bits,
+                max,
+            );
+        }
+    } else if g != 0 {
+        put_bilin_axis16(
+            dst,
+            dst_stride,
+            src,
+            src_stride,
+            w,
+            h,
+            src_stride,
+            g,
+            4,
+            0,
+            0,
+            max,
+        );
+    } else {
+        put_rows16(dst, dst_stride, src, src_stride, w, h);
+    }
+}
+
+fn prep_bilin_rows16(
+    tmp: &mut [i16],
+    tmp_stride: usize,
+    src: &[u16],
+    src_stride: usize,
+    w: usize,
+    h: usize,
+    f: u32,
+    g: u32,
+    bits: u32,
+    bias: u32,
+)
+    requires { ⌜ Bilin (length (now tmp)) «tmp_stride» (length (now src)) «src_stride» w h f g × Bits bits bias ⌝ }
+    ensures { λ _. ⌜ now (tmp .exit) ≡ fill (now (tmp .entry)) «tmp_stride» w h (λ i j. prepBilin bits bias f g (around 0 (now (src .entry)) 0 «src_stride» i j)) ⌝ }
+{
+    if f != 0 {
+        if g != 0 {
+            prep_bilin_both16(tmp, tmp_stride, src, src_stride, w, h, f, g, bits, bias);
+        } else {
+            prep_bilin_axis16(
+                tmp,
+                tmp_stride,
+                src,
+                src_stride,
+                w,
+                h,
+                1,
+                f,
+                4 - bits,
+                bias as i16,
+            );
+        }
+    } else if g != 0 {
+        prep_bilin_axis16(
+            tmp,
+            tmp_stride,
+            src,
+            src_stride,
+            w,
+            h,
+            src_stride,
+            g,
+            4 - bits,
+            bias as i16,
+        );
+    } else {
+        prep_rows16(tmp, tmp_stride, src, src_stride, w, h, bits, bias);
+    }
 }

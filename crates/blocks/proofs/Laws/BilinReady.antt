@@ -1,21 +1,54 @@
 -- Bilinear blocks: what the tests tell is what each case's rows rely on, and what the rows compute is the pixel rule. Assumes nothing.
 use mathlib.Core.Path.{_≡_, refl, sym, ap, ap₂, _∙_}
-use mathlib.Core.List.{List}
+use mathlib.Core.Bool.{Bool, true, false}
+use mathlib.Core.List.{List, [], _∷_}
 use Prim.Native.Nat.{ℕ, zero, suc, _+_, _-_, _*_, _^_, _≤_, _<_, min}
+use native.Mathlib.Nat.{pow-le-pow-right}
 use native.Mathlib.Omega.{arith}
+use borrow.Author.Tests.{le-leb, lt-leb, le-ltb, lt-ltb}
 use lib.IntN.{ℤ, pos, _+ℤ_}
 use lib.ListN.{length, getD}
 use lib.Signed.{shrZ}
-use Rattle.rows.specs.Numbers.{at, px, clip, low16, minus16}
+use Rattle.rows.specs.Numbers.{at, px, clip, half, low16, minus16}
 use Rattle.rows.specs.Places.{pixel, fill, around}
 use Rattle.rows.specs.Copy.{put, prep}
 use Rattle.rows.specs.Bilinear.{bilin, bilinAt, R, along, down, bilinMid, putBilin, prepBilin}
-use Rattle.rows.proofs.Laws.Places.{row-fits}
+use Rattle.rows.proofs.Laws.Places.{by-lt, row-fits}
 use Rattle.rows.proofs.Laws.Fill.{fill-in, fill-same}
 use Rattle.rows.proofs.Laws.Low.{low16-again}
 use Rattle.rows.proofs.Laws.Bilinear.{shr-none}
+use Rattle.blocks.specs.Refuse.{size, _asks_, need, sizeOk, blockSide, holds, reads}
 use Rattle.blocks.specs.Ready.{Block, Rows, Pairs, Bilin}
+use Rattle.blocks.proofs.Laws.Refuse.{all-met}
+use Rattle.blocks.proofs.Laws.Ready.{block-met}
 use Rattle.blocks.proofs.Laws.Rows.{Filled, row-in}
+
+-- ---- the number
+
+-- where a side is refused the later tests don't count, and where none is they alone do
+pub sides-stop : (a b : Bool) (rest : ℕ) → (need a 1 (need b 1 0) ≡ 0 → ⊥) → need a 1 (need b 1 0) ≡ need a 1 (need b 1 rest)
+unfolding need
+sides-stop true true rest n = absurd (n refl)
+sides-stop true false rest n = refl
+sides-stop false b rest n = refl
+
+pub sides-pass : (a b : Bool) (rest : ℕ) → need a 1 (need b 1 0) ≡ 0 → rest ≡ need a 1 (need b 1 rest)
+unfolding need
+sides-pass true true rest e = refl
+sides-pass true false rest e = absurd (omega arith)
+sides-pass false b rest e = absurd (omega arith)
+
+pub sides-block : (w h : ℕ) → need (sizeOk blockSide w) 1 (need (sizeOk blockSide h) 1 0) ≡ 0 → Block w h
+sides-block w h e = let m = all-met (size asks sizeOk blockSide w ∷ size asks sizeOk blockSide h ∷ []) e in block-met w h (m .0) (m .1 .0)
+
+-- from place 0 on, a block with x columns and y rows more is read where the buffer holds as many rows of that length
+pub reads-holds : (l s : ℕ) {w h : ℕ} (x y : ℕ) → Block w h → holds l s (w + x) (h + y) ≡ reads l 0 s w h 0 x 0 y
+unfolding holds reads
+reads-holds l s {w} {h} x y b =
+    let e : h + y - 1 ≡ h - 1 + y = omega (arith, b) in
+    rw (e, le-leb (0 * s + 0) 0 (omega arith)) (by-lt (0 + (h - 1 + y) * s + (w - 1 + x)) l
+    (λ p. le-leb ((h - 1 + y) * s + (w + x)) l (omega (arith, b)) ∙ sym (lt-ltb (0 + (h - 1 + y) * s + (w - 1 + x)) l p))
+    λ p. lt-leb ((h - 1 + y) * s + (w + x)) l (omega (arith, b)) ∙ sym (le-ltb (0 + (h - 1 + y) * s + (w - 1 + x)) l p))
 
 -- ---- a pass over rows
 
@@ -68,6 +101,10 @@ module _ {dl ds sl ss w h f g : ℕ} (p : Bilin dl ds sl ss w h f g) where
 
       pub second : Pairs dl ds ml 64 64 w h g n
       second = record { w1 = p .block .w1; dst = p .dst; src = omega (arith, p .block); f15 = p .g15; n8 = n8 }
+
+-- what put adds before its second shift is small
+pub half-small : {r B : ℕ} → r ≡ half B → B ≤ 4 → r ≤ 8
+half-small {r} {B} e b = let h : 2 ^ B ≤ 16 = pow-le-pow-right {n = 2} (omega arith) b in omega arith
 
 -- ---- the pixel rules by case
 module _ (M B : ℕ) (q : ℕ → ℕ → ℕ) where
@@ -146,48 +183,58 @@ module _ (src : List ℕ) (s : ℕ) where
         ap₂ (λ (a b : ℤ). bilin a b g) (mid-at i j 0 _ (omega arith) x (omega arith)) (mid-at i j 1 _ (omega arith) x (omega arith))
 
 -- ---- the block in each case
-module _ (M B : ℕ) (src : List ℕ) (s ds : ℕ) (some : 0 < ds) (d : List ℕ) (w h f g : ℕ) where
-  abbrev putBlock : List ℕ
-  putBlock = fill d ds w h (λ i j. putBilin M B f g (around 0 src 0 s i j))
+module _ (M B : ℕ) (src d : List ℕ) {s ds w h f g : ℕ} (p : Bilin (length d) ds (length src) s w h f g) where
+  put-same : (rule : ℕ → ℕ → ℕ) → ((i j : ℕ) → i < w → j < h → rule i j ≡ putBilin M B f g (around 0 src 0 s i j))
+      → fill d ds w h rule ≡ fill d ds w h (λ i j. putBilin M B f g (around 0 src 0 s i j))
+  put-same rule e = fill-same 0 ds (omega (arith, p .dst, p .block)) d w h rule _ e
 
-  pub put-copied : f ≡ 0 → g ≡ 0 → fill d ds w h (λ i j. put (pixel src s i j)) ≡ putBlock
-  put-copied a b = fill-same 0 ds some d w h _ _ λ i j x y. here src s i j ∙ sym (put-none M B _ f g a b)
+  pub put-copied : f ≡ 0 → g ≡ 0 → fill d ds w h (λ i j. put (pixel src s i j)) ≡ fill d ds w h (λ i j. putBilin M B f g (around 0 src 0 s i j))
+  put-copied a b = put-same _ λ i j x y. here src s i j ∙ sym (put-none M B _ f g a b)
 
-  pub put-across : 0 < f → g ≡ 0 → fill d ds w h (λ i j. clip M (shrZ (R (4 - B) (bilinAt (px src) (j * s + i) 1 f) +ℤ pos (2 ^ (B - 1))) (2 ^ B))) ≡ putBlock
+  pub put-across : 0 < f → g ≡ 0
+      → fill d ds w h (λ i j. clip M (shrZ (R (4 - B) (bilinAt (px src) (j * s + i) 1 f) +ℤ pos (2 ^ (B - 1))) (2 ^ B)))
+      ≡ fill d ds w h (λ i j. putBilin M B f g (around 0 src 0 s i j))
   put-across a b =
-      fill-same 0 ds some d w h _ _ λ i j x y.
+      put-same _ λ i j x y.
       ap (λ (v : ℤ). clip M (shrZ (R (4 - B) v +ℤ pos (2 ^ (B - 1))) (2 ^ B))) (along-row src s f i j 0 _ (omega arith)) ∙ sym (put-h M B _ f g a b)
 
-  pub put-downward : f ≡ 0 → 0 < g → fill d ds w h (λ i j. clip M (shrZ (R 4 (bilinAt (px src) (j * s + i) s g) +ℤ pos 0) (2 ^ 0))) ≡ putBlock
-  put-downward a b =
-      fill-same 0 ds some d w h _ _ λ i j x y.
-      ap (clip M) (shr-none _ ∙ ap (R 4) (down-column src s g i j)) ∙ sym (put-v M B _ f g a b)
+  pub put-downward : f ≡ 0 → 0 < g
+      → fill d ds w h (λ i j. clip M (shrZ (R 4 (bilinAt (px src) (j * s + i) s g) +ℤ pos 0) (2 ^ 0)))
+      ≡ fill d ds w h (λ i j. putBilin M B f g (around 0 src 0 s i j))
+  put-downward a b = put-same _ λ i j x y. ap (clip M) (shr-none _ ∙ ap (R 4) (down-column src s g i j)) ∙ sym (put-v M B _ f g a b)
 
-  pub put-twice : 0 < f → 0 < g → (m₀ : List ℤ) → w ≤ 64 → h ≤ 64 → 4160 ≤ length m₀
-      → fill d ds w h (λ i j. clip M (R (4 + B) (bilinAt (at (mids src s B m₀ w h f)) (j * 64 + i) 64 g))) ≡ putBlock
-  put-twice a b m₀ w64 h64 room =
-      fill-same 0 ds some d w h _ _ λ i j x y.
-      ap (λ (v : ℤ). clip M (R (4 + B) v)) (mid-pair src s B m₀ w h f w64 h64 room g i j x y) ∙ sym (put-hv M B _ f g a b)
+  pub put-twice : 0 < f → 0 < g → (m₀ : List ℤ) → 4160 ≤ length m₀
+      → fill d ds w h (λ i j. clip M (R (4 + B) (bilinAt (at (mids src s B m₀ w h f)) (j * 64 + i) 64 g)))
+      ≡ fill d ds w h (λ i j. putBilin M B f g (around 0 src 0 s i j))
+  put-twice a b m₀ room =
+      put-same _ λ i j x y.
+      ap (λ (v : ℤ). clip M (R (4 + B) v)) (mid-pair src s B m₀ w h f (p .block .w64) (p .block .h64) room g i j x y) ∙ sym (put-hv M B _ f g a b)
 
-module _ (B P : ℕ) (src : List ℕ) (s ds : ℕ) (some : 0 < ds) (d : List ℤ) (w h f g : ℕ) where
-  abbrev prepBlock : List ℤ
-  prepBlock = fill d ds w h (λ i j. prepBilin B P f g (around 0 src 0 s i j))
+module _ (B P : ℕ) (src : List ℕ) (d : List ℤ) {s ds w h f g : ℕ} (p : Bilin (length d) ds (length src) s w h f g) where
+  prep-same : (rule : ℕ → ℕ → ℤ) → ((i j : ℕ) → i < w → j < h → rule i j ≡ prepBilin B P f g (around 0 src 0 s i j))
+      → fill d ds w h rule ≡ fill d ds w h (λ i j. prepBilin B P f g (around 0 src 0 s i j))
+  prep-same rule e = fill-same (pos 0) ds (omega (arith, p .dst, p .block)) d w h rule _ e
 
-  pub prep-copied : f ≡ 0 → g ≡ 0 → fill d ds w h (λ i j. prep B P (pixel src s i j)) ≡ prepBlock
-  prep-copied a b = fill-same (pos 0) ds some d w h _ _ λ i j x y. ap (prep B P) (here src s i j) ∙ sym (prep-none B P _ f g a b)
+  pub prep-copied : f ≡ 0 → g ≡ 0 → fill d ds w h (λ i j. prep B P (pixel src s i j)) ≡ fill d ds w h (λ i j. prepBilin B P f g (around 0 src 0 s i j))
+  prep-copied a b = prep-same _ λ i j x y. ap (prep B P) (here src s i j) ∙ sym (prep-none B P _ f g a b)
 
-  pub prep-across : 0 < f → g ≡ 0 → fill d ds w h (λ i j. minus16 (low16 (R (4 - B) (bilinAt (px src) (j * s + i) 1 f))) (pos P)) ≡ prepBlock
+  pub prep-across : 0 < f → g ≡ 0
+      → fill d ds w h (λ i j. minus16 (low16 (R (4 - B) (bilinAt (px src) (j * s + i) 1 f))) (pos P))
+      ≡ fill d ds w h (λ i j. prepBilin B P f g (around 0 src 0 s i j))
   prep-across a b =
-      fill-same (pos 0) ds some d w h _ _ λ i j x y.
+      prep-same _ λ i j x y.
       ap (λ (v : ℤ). minus16 (low16 (R (4 - B) v)) (pos P)) (along-row src s f i j 0 _ (omega arith)) ∙ sym (prep-h B P _ f g a b)
 
-  pub prep-downward : f ≡ 0 → 0 < g → fill d ds w h (λ i j. minus16 (low16 (R (4 - B) (bilinAt (px src) (j * s + i) s g))) (pos P)) ≡ prepBlock
+  pub prep-downward : f ≡ 0 → 0 < g
+      → fill d ds w h (λ i j. minus16 (low16 (R (4 - B) (bilinAt (px src) (j * s + i) s g))) (pos P))
+      ≡ fill d ds w h (λ i j. prepBilin B P f g (around 0 src 0 s i j))
   prep-downward a b =
-      fill-same (pos 0) ds some d w h _ _ λ i j x y.
-      ap (λ (v : ℤ). minus16 (low16 (R (4 - B) v)) (pos P)) (down-column src s g i j) ∙ sym (prep-v B P _ f g a b)
+      prep-same _ λ i j x y. ap (λ (v : ℤ). minus16 (low16 (R (4 - B) v)) (pos P)) (down-column src s g i j) ∙ sym (prep-v B P _ f g a b)
 
-  pub prep-twice : 0 < f → 0 < g → (m₀ : List ℤ) → w ≤ 64 → h ≤ 64 → 4160 ≤ length m₀
-      → fill d ds w h (λ i j. minus16 (low16 (R 4 (bilinAt (at (mids src s B m₀ w h f)) (j * 64 + i) 64 g))) (pos P)) ≡ prepBlock
-  prep-twice a b m₀ w64 h64 room =
-      fill-same (pos 0) ds some d w h _ _ λ i j x y.
-      ap (λ (v : ℤ). minus16 (low16 (R 4 v)) (pos P)) (mid-pair src s B m₀ w h f w64 h64 room g i j x y) ∙ sym (prep-hv B P _ f g a b)
+  pub prep-twice : 0 < f → 0 < g → (m₀ : List ℤ) → 4160 ≤ length m₀
+      → fill d ds w h (λ i j. minus16 (low16 (R 4 (bilinAt (at (mids src s B m₀ w h f)) (j * 64 + i) 64 g))) (pos P))
+      ≡ fill d ds w h (λ i j. prepBilin B P f g (around 0 src 0 s i j))
+  prep-twice a b m₀ room =
+      prep-same _ λ i j x y.
+      ap (λ (v : ℤ). minus16 (low16 (R 4 v)) (pos P)) (mid-pair src s B m₀ w h f (p .block .w64) (p .block .h64) room g i j x y)
+      ∙ sym (prep-hv B P _ f g a b)

@@ -11,14 +11,18 @@ use Rattle.blocks.proofs.bilinear.prep_bilin_both16.Tie as tie
 abbrev entry : tie.After-mid → tie.Start
 entry c = c .before .before
 
+second-requires : tie.Need-mid-bilin-prep-rows-requires
+second-requires c κs =
+    let m = c .before .before .before in let s = entry (m .before) in
+    second (s .pre .0) 4 (omega arith) _ (omega (arith, m .prep-bilin-axis16 .kept .0))
+
 returns : tie.Need-returns
 returns c =
     let r = c .before in
     let m = r .before .before .before .before in
-    let s = entry (m .before) in let a = s .args in let p = s .pre .0 in
+    let s = entry (m .before) in let a = s .args in
     rw (m .prep-bilin-axis16 .ensures, backn w16 (a .bias) (omega (arith, s .pre .3))) at (r .mid-bilin-prep-rows .ensures)
-    ∙ prep-twice (a .bits) (a .bias) (a .src .now) (a .src-stride) (a .tmp-stride) (omega (arith, p .dst, p .block)) (a .tmp .now) (a .w) (a .h) (a .f) (a .g)
-    (s .pre .1) (s .pre .2) _ (p .block .w64) (p .block .h64) (omega arith)
+    ∙ prep-twice (a .bits) (a .bias) (a .src .now) (a .tmp .now) (s .pre .0) (s .pre .1) (s .pre .2) _ (omega arith)
 
 pub prep-bilin-both16-spec : {M : Type 1} → statement M
 prep-bilin-both16-spec =
@@ -30,6 +34,6 @@ prep-bilin-both16-spec =
     (λ c κs. let s = entry c in first (s .pre .0) _ (omega (arith, s .pre .3)) _ (omega arith) (s .pre .1) (s .pre .2))  -- prep-bilin-axis16-requires
     (λ c. search needs)  -- slice-aggregate-mid-bilin-prep-rows
     (λ c. search needs)  -- cast-mid-bilin-prep-rows
-    (λ c κs. let m = c .before .before .before in let s = entry (m .before) in second (s .pre .0) 4 (omega (arith)) _ (omega (arith, m .prep-bilin-axis16 .kept .0)))  -- mid-bilin-prep-rows-requires
+    second-requires
     (λ c. search needs)  -- same-length
     returns)

@@ -9,14 +9,18 @@ use Rattle.blocks.proofs.bilinear.put_bilin_both16.Tie as tie
 abbrev entry : tie.After-mid → tie.Start
 entry c = c .before .before .before
 
+second-requires : tie.Need-mid-bilin-rows16-requires
+second-requires c κs =
+    let m = c .before .before .before in let s = entry (m .before) in
+    second (s .pre .0) _ (omega (arith, s .pre .3)) _ (omega (arith, m .prep-bilin-axis16 .kept .0))
+
 returns : tie.Need-returns
 returns c =
     let r = c .before .before in
     let m = r .before .before .before .before in
-    let s = entry (m .before) in let a = s .args in let p = s .pre .0 in
+    let s = entry (m .before) in let a = s .args in
     rw (m .prep-bilin-axis16 .ensures) at (r .mid-bilin-rows16 .ensures)
-    ∙ put-twice (a .max) (a .bits) (a .src .now) (a .src-stride) (a .dst-stride) (omega (arith, p .dst, p .block)) (a .dst .now) (a .w) (a .h) (a .f) (a .g)
-    (s .pre .1) (s .pre .2) _ (p .block .w64) (p .block .h64) (omega arith)
+    ∙ put-twice (a .max) (a .bits) (a .src .now) (a .dst .now) (s .pre .0) (s .pre .1) (s .pre .2) _ (omega arith)
 
 pub put-bilin-both16-spec : {M : Type 1} → statement M
 put-bilin-both16-spec =
@@ -28,6 +32,6 @@ put-bilin-both16-spec =
     (λ c κs. let s = entry c in first (s .pre .0) _ (omega (arith, s .pre .3)) _ (omega arith) (s .pre .1) (s .pre .2))  -- prep-bilin-axis16-requires
     (λ c. search needs)  -- slice-aggregate-mid-bilin-rows16
     (λ c. search needs)  -- add-mid-bilin-rows16
-    (λ c κs. let m = c .before .before .before in let s = entry (m .before) in second (s .pre .0) _ (omega (arith, s .pre .3)) _ (omega (arith, m .prep-bilin-axis16 .kept .0)))  -- mid-bilin-rows16-requires
+    second-requires
     (λ c. search needs)  -- same-length
     returns)

@@ -1,0 +1,59 @@
+use mathlib.Core.Path.{_≡_, sym, _∙_}
+use native.Mathlib.Omega.{arith}
+use borrow.Author.Needs.{needs}
+use Rattle.rows.proofs.Laws.Warp.{half-of}
+use Rattle.blocks.proofs.Laws.BilinReady.{copied, across, downward, put-copied, put-across, put-downward, half-small}
+use Rattle.blocks.proofs.bilinear.put_bilin_rows16.Statement.{statement}
+use Rattle.blocks.proofs.bilinear.put_bilin_rows16.Tie as tie
+
+-- the function's entry, from where the fractions are tested
+abbrev entry : tie.After-shared-slice-known → tie.Start
+entry c = c .before .before
+
+both-requires : tie.Need-put-bilin-both16-requires
+both-requires c κs =
+    let t = c .before in let s = entry (t .before .before) in
+    (s .pre .0, omega (arith, t .before .if1), omega (arith, t .if2), s .pre .2)
+
+across-requires : tie.Need-put-bilin-axis16-requires
+across-requires c κs = let t = c .before .before in let s = entry (t .before .before) in (across (s .pre .0) _ (omega (arith, s .pre)) (omega (arith, t .before .if1)) (t .if2 .left), half-small (c .half-power .ensures .0) (s .pre .2), s .pre .2)
+
+downward-requires : tie.Need-put-bilin-axis16-requires-2
+downward-requires c κs = let t = c .before in let s = entry (t .before .before) in (downward (s .pre .0) 4 (omega arith) (t .before .if1 .left) (omega (arith, t .if3)), omega arith, omega arith)
+
+copied-requires : tie.Need-put-rows16-requires
+copied-requires c κs = let t = c .before in let s = entry (t .before .before) in copied (s .pre .0) (t .before .if1 .left) (t .if3 .left)
+
+returns-2 : tie.Need-returns-2
+returns-2 c =
+    let r = c .before .before in let t = r .before .before .before in let s = entry (t .before .before) in let a = s .args in
+    rw (r .before .half-power .ensures .0, ← half-of (a .bits) (s .pre .1)) at (r .put-bilin-axis16 .ensures) ∙ put-across (a .max) (a .bits) (a .src .now) (a .dst .now) (s .pre .0) (omega (arith, t .before .if1)) (t .if2 .left)
+
+returns-3 : tie.Need-returns-3
+returns-3 c =
+    let r = c .before .before in let t = r .before .before in let s = entry (t .before .before) in let a = s .args in
+    r .put-bilin-axis162 .ensures ∙ put-downward (a .max) (a .bits) (a .src .now) (a .dst .now) (s .pre .0) (t .before .if1 .left) (omega (arith, t .if3))
+
+returns-4 : tie.Need-returns-4
+returns-4 c =
+    let r = c .before .before in let t = r .before .before in let s = entry (t .before .before) in let a = s .args in
+    r .put-rows16 .ensures ∙ put-copied (a .max) (a .bits) (a .src .now) (a .dst .now) (s .pre .0) (t .before .if1 .left) (t .if3 .left)
+
+pub put-bilin-rows16-spec : {M : Type 1} → statement M
+put-bilin-rows16-spec =
+    tie.close
+    (tie.spec
+    both-requires
+    (λ c. search needs)  -- sub-put-bilin-axis16
+    (λ c κs. search needs)  -- half-power-requires
+    across-requires
+    downward-requires
+    copied-requires
+    (λ c. search needs)  -- same-length
+    (λ c. c .before .before .put-bilin-both16 .ensures)  -- returns
+    (λ c. search needs)  -- same-length-2
+    returns-2
+    (λ c. search needs)  -- same-length-3
+    returns-3
+    (λ c. search needs)  -- same-length-4
+    returns-4)

@@ -1,0 +1,11 @@
+use Rattle.rows.proofs.Laws.Signed.{back}
+use Rattle.blocks.specs.Subpel.{sixteenthOk}
+use Rattle.blocks.proofs.bilinear.sixteenth_ok.Statement.{statement}
+use Rattle.blocks.proofs.bilinear.sixteenth_ok.Tie as tie
+
+returns : tie.Need-returns
+unfolding sixteenthOk
+returns c = rw (back (c .fits .f))
+
+pub sixteenth-ok-spec : {M : Type 1} → statement M
+sixteenth-ok-spec = tie.close (tie.spec returns)
