@@ -1,20 +1,24 @@
 // put_bilin and prep_bilin: blocks between whole places, by fractions of sixteenths.
 ghost use mathlib.Core.Path.{_≡_};
+ghost use mathlib.Core.Bool.{true};
 ghost use Prim.Native.Nat.{_+_, _*_, _^_, _≤_};
 ghost use lib.IntN.{pos, _+ℤ_};
 ghost use lib.ListN.{length};
 ghost use lib.Signed.{shrZ};
-ghost use Rattle.rows.specs.Numbers.{at, px, clip, low16, minus16};
+ghost use Rattle.rows.specs.Numbers.{up, at, px, clip, low16, minus16};
 ghost use Rattle.rows.specs.Places.{fill, around};
 ghost use Rattle.rows.specs.Bilinear.{R, bilinAt, putBilin, prepBilin};
-ghost use Rattle.blocks.specs.Refuse.{lowest};
+ghost use Rattle.blocks.specs.Refuse.{lowest, depthOk};
 ghost use Rattle.blocks.specs.Subpel.{on, sixteenthOk};
-ghost use Rattle.blocks.specs.Bilinear.{bilinTests};
+ghost use Rattle.blocks.specs.Bilinear.{bilinTests, PutBilinAnswer, PrepBilinAnswer};
 ghost use Rattle.blocks.specs.Ready.{Pairs, Bilin, Bits};
 use crate::copy::prep_rows8;
 use crate::copy::prep_rows16;
 use crate::copy::put_rows8;
 use crate::copy::put_rows16;
+use crate::refuse::above;
+use crate::refuse::depth_numbers;
+use crate::refuse::depth_ok;
 use crate::refuse::held;
 use crate::refuse::needed;
 use crate::refuse::sizes;
@@ -264,6 +268,66 @@ fn prep_bilin_rows8(
     }
 }
 
+#[no_mangle]
+pub extern "C" fn hv_put_bilin_8bpc(
+    dst: &mut [u8],
+    dst_stride: usize,
+    src: &[u8],
+    src_stride: usize,
+    w: usize,
+    h: usize,
+    mx: i32,
+    my: i32,
+) -> u32
+    ensures { λ r. ⌜ PutBilinAnswer true 8 (now (dst .entry)) «dst_stride» (now (src .entry)) «src_stride» w h mx my r (now (dst .exit)) ⌝ }
+{
+    let number = check_bilin(
+        true,
+        dst.len(),
+        dst_stride,
+        src.len(),
+        src_stride,
+        w,
+        h,
+        mx,
+        my,
+    );
+    if number == 0 {
+        put_bilin_rows8(dst, dst_stride, src, src_stride, w, h, above(mx), above(my));
+    }
+    number
+}
+
+#[no_mangle]
+pub extern "C" fn hv_prep_bilin_8bpc(
+    tmp: &mut [i16],
+    tmp_stride: usize,
+    src: &[u8],
+    src_stride: usize,
+    w: usize,
+    h: usize,
+    mx: i32,
+    my: i32,
+) -> u32
+    ensures { λ r. ⌜ PrepBilinAnswer true 8 (now (tmp .entry)) «tmp_stride» (now (src .entry)) «src_stride» w h mx my r (now (tmp .exit)) ⌝ }
+{
+    let number = check_bilin(
+        true,
+        tmp.len(),
+        tmp_stride,
+        src.len(),
+        src_stride,
+        w,
+        h,
+        mx,
+        my,
+    );
+    if number == 0 {
+        prep_bilin_rows8(tmp, tmp_stride, src, src_stride, w, h, above(mx), above(my));
+    }
+    number
+}
+
 fn put_bilin_axis16(
     dst: &mut [u16],
     dst_stride: usize,
@@ -485,4 +549,90 @@ fn prep_bilin_rows16(
     } else {
         prep_rows16(tmp, tmp_stride, src, src_stride, w, h, bits, bias);
     }
+}
+
+#[no_mangle]
+pub extern "C" fn hv_put_bilin_16bpc(
+    depth: i32,
+    dst: &mut [u16],
+    dst_stride: usize,
+    src: &[u16],
+    src_stride: usize,
+    w: usize,
+    h: usize,
+    mx: i32,
+    my: i32,
+) -> u32
+    ensures { λ r. ⌜ PutBilinAnswer (depthOk depth) (up depth) (now (dst .entry)) «dst_stride» (now (src .entry)) «src_stride» w h mx my r (now (dst .exit)) ⌝ }
+{
+    let number = check_bilin(
+        depth_ok(depth),
+        dst.len(),
+        dst_stride,
+        src.len(),
+        src_stride,
+        w,
+        h,
+        mx,
+        my,
+    );
+    if number == 0 {
+        let n = depth_numbers(depth);
+        put_bilin_rows16(
+            dst,
+            dst_stride,
+            src,
+            src_stride,
+            w,
+            h,
+            above(mx),
+            above(my),
+            n.bits,
+            n.max,
+        );
+    }
+    number
+}
+
+#[no_mangle]
+pub extern "C" fn hv_prep_bilin_16bpc(
+    depth: i32,
+    tmp: &mut [i16],
+    tmp_stride: usize,
+    src: &[u16],
+    src_stride: usize,
+    w: usize,
+    h: usize,
+    mx: i32,
+    my: i32,
+) -> u32
+    ensures { λ r. ⌜ PrepBilinAnswer (depthOk depth) (up depth) (now (tmp .entry)) «tmp_stride» (now (src .entry)) «src_stride» w h mx my r (now (tmp .exit)) ⌝ }
+{
+    let number = check_bilin(
+        depth_ok(depth),
+        tmp.len(),
+        tmp_stride,
+        src.len(),
+        src_stride,
+        w,
+        h,
+        mx,
+        my,
+    );
+    if number == 0 {
+        let n = depth_numbers(depth);
+        prep_bilin_rows16(
+            tmp,
+            tmp_stride,
+            src,
+            src_stride,
+            w,
+            h,
+            above(mx),
+            above(my),
+            n.bits,
+            n.bias,
+        );
+    }
+    number
 }

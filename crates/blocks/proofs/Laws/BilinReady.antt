@@ -8,19 +8,22 @@ use native.Mathlib.Omega.{arith}
 use borrow.Author.Tests.{le-leb, lt-leb, le-ltb, lt-ltb}
 use lib.IntN.{ℤ, pos, _+ℤ_}
 use lib.ListN.{length, getD}
-use lib.Signed.{shrZ}
-use Rattle.rows.specs.Numbers.{at, px, clip, half, low16, minus16}
+use lib.Signed.{leZ, shrZ}
+use Rattle.rows.specs.Numbers.{up, at, px, clip, half, low16, minus16}
 use Rattle.rows.specs.Places.{pixel, fill, around}
 use Rattle.rows.specs.Copy.{put, prep}
 use Rattle.rows.specs.Bilinear.{bilin, bilinAt, R, along, down, bilinMid, putBilin, prepBilin}
 use Rattle.rows.proofs.Laws.Places.{by-lt, row-fits}
-use Rattle.rows.proofs.Laws.Fill.{fill-in, fill-same}
+use Rattle.rows.proofs.Laws.Fill.{and-true, fill-in, fill-same}
+use Rattle.rows.proofs.Laws.Signed.{le-yes, one-part}
 use Rattle.rows.proofs.Laws.Low.{low16-again}
 use Rattle.rows.proofs.Laws.Bilinear.{shr-none}
-use Rattle.blocks.specs.Refuse.{size, _asks_, need, sizeOk, blockSide, holds, reads}
+use Rattle.blocks.specs.Refuse.{size, _asks_, need, lowest, sizeOk, blockSide, holds, reads}
+use Rattle.blocks.specs.Subpel.{on, sixteenthOk}
+use Rattle.blocks.specs.Bilinear.{bilinTests}
 use Rattle.blocks.specs.Ready.{Block, Rows, Pairs, Bilin}
-use Rattle.blocks.proofs.Laws.Refuse.{all-met}
-use Rattle.blocks.proofs.Laws.Ready.{block-met}
+use Rattle.blocks.proofs.Laws.Refuse.{all-met, stride-met, holds-met}
+use Rattle.blocks.proofs.Laws.Ready.{block-met, rows-met}
 use Rattle.blocks.proofs.Laws.Rows.{Filled, row-in}
 
 -- ---- the number
@@ -49,6 +52,29 @@ reads-holds l s {w} {h} x y b =
     rw (e, le-leb (0 * s + 0) 0 (omega arith)) (by-lt (0 + (h - 1 + y) * s + (w - 1 + x)) l
     (λ p. le-leb ((h - 1 + y) * s + (w + x)) l (omega (arith, b)) ∙ sym (lt-ltb (0 + (h - 1 + y) * s + (w - 1 + x)) l p))
     λ p. lt-leb ((h - 1 + y) * s + (w + x)) l (omega (arith, b)) ∙ sym (le-ltb (0 + (h - 1 + y) * s + (w - 1 + x)) l p))
+
+pub sixteenth-met : (f : ℤ) → sixteenthOk f ≡ true → up f ≤ 15
+unfolding sixteenthOk
+sixteenth-met f e =
+    let p = and-true (leZ (pos 0) f) (leZ f (pos 15)) e in
+    omega (arith, le-yes (pos 0) f (p .0), le-yes f (pos 15) (p .1), one-part f)
+
+pub bilin-ready : (deep : Bool) (dl ds sl ss w h : ℕ) (mx my : ℤ) → lowest (bilinTests deep dl ds sl ss w h mx my) ≡ 0
+    → (deep ≡ true) × Bilin dl ds sl ss w h (up mx) (up my)
+bilin-ready deep dl ds sl ss w h mx my e =
+    let m = all-met (bilinTests deep dl ds sl ss w h mx my) e in
+    let t = m .1 .1 in let n = t .1 .1 in let r = n .1 .1 .1 in
+    let b = block-met w h (m .0) (m .1 .0) in let s = stride-met w ss (t .1 .0) in
+    let q : Bilin dl ds sl ss w h (up mx) (up my) = record {
+      block = b;
+      dst = rows-met dl ds w h (t .0) (r .1 .0);
+      wide = s .0;
+      most = s .1;
+      fits = holds-met sl ss (w + on mx) (h + on my) (reads-holds sl ss (on mx) (on my) b ∙ r .0);
+      f15 = sixteenth-met mx (n .1 .0);
+      g15 = sixteenth-met my (n .1 .1 .0);
+    } in
+    (n .0, q)
 
 -- ---- a pass over rows
 

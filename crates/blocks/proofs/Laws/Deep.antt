@@ -2,7 +2,7 @@
 use mathlib.Core.Path.{_≡_, refl}
 use mathlib.Core.Bool.{Bool, true, false, _||_}
 use mathlib.Core.Logic.{_⊎_, inl, inr}
-use Prim.Native.Nat.{ℕ}
+use Prim.Native.Nat.{ℕ, _≤_}
 use native.Mathlib.Omega.{arith}
 use borrow.Author.Tests.{eqb-true}
 use lib.Dec.{eqb}
@@ -29,3 +29,7 @@ deep-bits depth e =
     high (λ (n : ℕ). Bits (bitsOf n) (biasOf n)) (deep-high depth e)
     (record { bits4 = omega arith; bias13 = omega arith })
     (record { bits4 = omega arith; bias13 = omega arith })
+
+-- and put's second shift is by something
+pub deep-some : (depth : ℤ) → depthOk depth ≡ true → 1 ≤ bitsOf (up depth)
+deep-some depth e = high (λ (n : ℕ). 1 ≤ bitsOf n) (deep-high depth e) (omega arith) (omega arith)
