@@ -13,3 +13,8 @@ pub mod CombineReady
 pub mod BilinReady
 pub mod Shears
 pub mod CombineBlocks
+pub mod Above
+pub mod InPlace
+pub mod Gapless
+pub mod BlendReady
+pub mod BlendAnswers

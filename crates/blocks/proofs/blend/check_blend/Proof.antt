@@ -1,0 +1,14 @@
+use borrow.Author.Needs.{needs}
+use Rattle.blocks.proofs.blend.check_blend.Statement.{statement}
+use Rattle.blocks.proofs.blend.check_blend.Tie as tie
+
+pub check-blend-spec : {M : Type 1} → statement M
+check-blend-spec =
+    tie.close
+    (tie.spec
+    (λ c κs. search needs)  -- held-requires
+    (λ c κs. search needs)  -- held-requires-2
+    (λ c κs. search needs)  -- held-requires-3
+    (λ c κs. search needs)  -- stride-requires
+    (λ c κs. search needs)  -- sizes-requires
+    (λ c. cc))  -- returns

@@ -1,0 +1,33 @@
+use native.Mathlib.Omega.{arith}
+use Prim.Native.Nat.{ℕ, _-_, _≤_}
+use borrow.Author.Needs.{needs}
+use Rattle.rows.specs.Combine.{AtMost}
+use Rattle.blocks.proofs.Laws.Above.{at-most-none, at-most-more, at-most-wider}
+use Rattle.blocks.proofs.blend.largest.Statement.{statement}
+use Rattle.blocks.proofs.blend.largest.Tie as tie
+
+abbrev Inv-loop : tie.InvT-loop
+Inv-loop mask n m₀ i₀ m i = (i ≤ n) × AtMost m mask 0 i
+
+abbrev μ-loop : tie.MeasureT-loop
+μ-loop mask n m₀ i₀ m i = n - i
+
+loop-again : tie.Need-loop-again Inv-loop μ-loop
+loop-again c =
+    let t = c .before .before .before in
+    let l = t .before .before .args .mask .now in
+    (omega arith, at-most-more (c .larger .result) l (t .loop .i) (at-most-wider (t .loop .m) l (c .larger .result) (t .loop .i) (c .larger .ensures .0) (t .loop .inv .1)) (c .larger .ensures .1))
+
+pub largest-spec : {M : Type 1} → statement M
+largest-spec =
+    tie.close
+    (tie.spec
+    Inv-loop
+    μ-loop
+    (λ c. (omega arith, at-most-none 0 (c .before .args .mask .now) 0))  -- loop-holds
+    (λ c. search needs)  -- shared-slice-read-larger
+    (λ c κs. search needs)  -- larger-requires
+    (λ c. search needs)  -- add-i
+    (λ c. search needs)  -- loop-less
+    loop-again
+    (λ c i b. c .before .loop .inv .1 i (omega arith)))  -- returns
