@@ -18,3 +18,4 @@ pub mod InPlace
 pub mod Gapless
 pub mod BlendReady
 pub mod BlendAnswers
+pub mod SearchReady

@@ -82,3 +82,16 @@ pub record Moves (bw4 bh4 mvx mvy bx4 by4 : ℤ) : Type 0 where
   pub mv-y : natAbs mvy ≤ 2 ^ 20
   pub column : natAbs bx4 ≤ 16384
   pub row : natAbs by4 ≤ 16384
+-- two blocks of w columns and h rows, from place o0 of l0 places and from place o1 of l1 places on
+pub record Blocks (l0 o0 s0 l1 o1 s1 w h : ℕ) : Type 0 where
+  pub w68 : w ≤ 68
+  pub h1 : 1 ≤ h
+  pub h68 : h ≤ 68
+  pub first : o0 + (h - 1) * s0 + w ≤ l0
+  pub second : o1 + (h - 1) * s1 + w ≤ l1
+
+-- two buffers of l0 and l1 places that each hold 8 columns and 8 rows more than a block
+pub record Wider (l0 s0 l1 s1 w h : ℕ) : Type 0 where
+  pub block : Block w h
+  pub first : Rows l0 s0 (w + 8) (h + 8)
+  pub second : Rows l1 s1 (w + 8) (h + 8)

@@ -6,5 +6,6 @@ pub mod copy;
 pub mod edge;
 pub mod order;
 pub mod refuse;
+pub mod search;
 pub mod shear;
 pub mod window;

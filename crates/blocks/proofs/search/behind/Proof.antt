@@ -1,0 +1,12 @@
+use Rattle.rows.proofs.Laws.Signed.{back}
+use Rattle.blocks.proofs.Laws.SearchReady.{behind-start, start-cast, start-is}
+use Rattle.blocks.proofs.search.behind.Statement.{statement}
+use Rattle.blocks.proofs.search.behind.Tie as tie
+
+pub behind-spec : {M : Type 1} → statement M
+behind-spec =
+    tie.close
+    (tie.spec
+    (λ c. rw (back (c .fits .d)) (behind-start (c .args .d) (c .pre) .fits))  -- sub-result
+    (λ c. rw (back (c .fits .d)) (start-cast (behind-start (c .args .d) (c .pre))))  -- cast-result
+    (λ c. rw (back (c .fits .d)) (start-is (behind-start (c .args .d) (c .pre)))))  -- returns
