@@ -2,14 +2,14 @@
 ghost use mathlib.Core.Path.{_≡_};
 ghost use mathlib.Core.Bool.{true};
 ghost use Prim.Native.Nat.{ℕ, _+_, _*_, _/_, _^_, _≤_};
-ghost use lib.Dec.{eqb};
+ghost use lib.Dec.{ltb, eqb};
 ghost use lib.IntN.{pos, natAbs, _+ℤ_, _-ℤ_};
 ghost use lib.ListN.{length, getD};
 ghost use Rattle.rows.specs.Numbers.{up};
 ghost use Rattle.rows.specs.Places.{pixel};
-ghost use Rattle.rows.specs.Search.{sad, sadAt, better, visit, through, steps, search};
+ghost use Rattle.rows.specs.Search.{sad, sadAt, better, visit, through, steps, search, answer, refine};
 ghost use Rattle.blocks.specs.Refuse.{lowest, depthOk};
-ghost use Rattle.blocks.specs.Ready.{Blocks, Wider};
+ghost use Rattle.blocks.specs.Ready.{Block, Blocks, Wider};
 ghost use Rattle.blocks.specs.Search.{bestOf, sadsTests, SadAnswer, RefineAnswer};
 use crate::refuse::held;
 use crate::refuse::needed;
@@ -224,4 +224,101 @@ fn search8(p0: &[u8], s0: usize, p1: &[u8], s1: usize, w: usize, h: usize, b: Be
     let b = visit_row8(p0, s0, p1, s1, w, h, 0, b);
     let b = visit_row8(p0, s0, p1, s1, w, h, 1, b);
     visit_row8(p0, s0, p1, s1, w, h, 2, b)
+}
+
+// The offset of the best; the centre where nothing was found.
+fn offset_of(b: Best) -> Offset
+    ensures { λ r. ⌜ record { dx = r .dx; dy = r .dy } ≡ answer (bestOf b) ⌝ }
+{
+    if b.found {
+        let dx = b.dx;
+        let dy = b.dy;
+        Offset { dx, dy }
+    } else {
+        Offset { dx: 0, dy: 0 }
+    }
+}
+
+// What implicit mode keeps of the centre's sum, and whether that is enough.
+fn kept_of(sum: u32) -> u32
+    requires { ⌜ sum ≤ 2 ^ 28 ⌝ }
+    ensures { λ r. ⌜ r ≡ (7 * sum + 7) / 2 ^ 3 ⌝ }
+{
+    (7 * sum + 7) >> 3
+}
+
+fn is_enough(kept: u32, w: usize, h: usize) -> bool
+    requires { ⌜ Block w h ⌝ }
+    ensures { λ r. ⌜ r ≡ ltb kept (2 * (w + 4) * (h + 4)) ⌝ }
+{
+    (kept as usize) < 2 * (w + 4) * (h + 4)
+}
+
+fn implicit8(p0: &[u8], s0: usize, p1: &[u8], s1: usize, w: usize, h: usize) -> Best
+    requires { ⌜ Wider (length (now p0)) s0 (length (now p1)) s1 w h ⌝ }
+    ensures { λ r. ⌜ answer (bestOf r) ≡ refine 8 true (pixel (now (p0 .entry)) s0) (pixel (now (p1 .entry)) s1) w h ⌝ }
+{
+    let sum = kept_of(sad_at8(p0, s0, p1, s1, w, h, 0, 0));
+    let b = Best {
+        found: true,
+        sum,
+        dx: 0,
+        dy: 0,
+    };
+    if is_enough(sum, w, h) {
+        return b;
+    }
+    search8(p0, s0, p1, s1, w, h, b)
+}
+
+fn refine8(
+    p0: &[u8],
+    s0: usize,
+    p1: &[u8],
+    s1: usize,
+    w: usize,
+    h: usize,
+    is_implicit: bool,
+) -> Offset
+    requires { ⌜ Wider (length (now p0)) s0 (length (now p1)) s1 w h ⌝ }
+    ensures { λ r. ⌜ record { dx = r .dx; dy = r .dy } ≡ refine 8 «is_implicit» (pixel (now (p0 .entry)) s0) (pixel (now (p1 .entry)) s1) w h ⌝ }
+{
+    if is_implicit {
+        return offset_of(implicit8(p0, s0, p1, s1, w, h));
+    }
+    let b = Best {
+        found: false,
+        sum: 0,
+        dx: 0,
+        dy: 0,
+    };
+    offset_of(search8(p0, s0, p1, s1, w, h, b))
+}
+
+#[no_mangle]
+pub extern "C" fn hv_sad_refine_mv_8bpc(
+    p0: &[u8],
+    p0_stride: usize,
+    p1: &[u8],
+    p1_stride: usize,
+    w: usize,
+    h: usize,
+    is_implicit: bool,
+    dx: &mut i32,
+    dy: &mut i32,
+) -> u32
+    ensures { λ r. ⌜ RefineAnswer true 8 (now (p0 .entry)) «p0_stride» (now (p1 .entry)) «p1_stride» w h «is_implicit» r (now (dx .exit)) (now (dy .exit)) ⌝ }
+{
+    let number = check_sads(8, true, p0.len(), p0_stride, p1.len(), p1_stride, w, h);
+    if number == 0 {
+        let o = refine8(p0, p0_stride, p1, p1_stride, w, h, is_implicit);
+        let x = o.dx;
+        let y = o.dy;
+        *dx = x;
+        *dy = y;
+    } else {
+        *dx = 0;
+        *dy = 0;
+    }
+    number
 }

@@ -6,7 +6,7 @@ use Prim.Native.Nat.{ℕ, zero, suc, _+_, _-_, _*_, _/_, _^_, _≤_, _<_}
 use native.Mathlib.Nat.{add-zero, mul-le-mul-right, add-mul}
 use native.Mathlib.Omega.{arith}
 use borrow.Author.Tests.{lt-ltb, le-ltb, eqb-true, eqb-false, eq-eqb, ne-eqb}
-use lib.Dec.{T, eqb}
+use lib.Dec.{T, ltb, eqb}
 use lib.IntN.{ℤ, pos, negsuc, natAbs, _+ℤ_, _-ℤ_}
 use lib.Signed.{nonNeg}
 use lib.ListN.{length, getD}
@@ -14,7 +14,7 @@ use mir.Syntax.{w32, w64}
 use mir.Val.{SFits, Fits, toZ, ofZ}
 use Rattle.rows.specs.Numbers.{up, dn, px, apart, sum}
 use Rattle.rows.specs.Places.{pixel}
-use Rattle.rows.specs.Search.{rowApart, sad, moved, sadAt, Offset, Best, none, best, better, visit, through, steps}
+use Rattle.rows.specs.Search.{rowApart, sad, moved, sadAt, Offset, Best, none, best, better, visit, through, steps, search, answer, centre, refine}
 use Rattle.rows.proofs.Laws.Signed.{back, backn, fit-abs, add-parts, sub-parts, one-part, abs-parts, nonNeg-of}
 use Rattle.blocks.specs.Refuse.{size, _asks_, need, lowest, orSame, sizeOk, strideOk, holds}
 use Rattle.blocks.specs.Ready.{Block, Rows, Blocks, Wider}
@@ -195,3 +195,43 @@ pub five : (f : ℤ → Best → Best) {a b c d e g : Best} → b ≡ f (negsuc 
     → g ≡ through steps f a
 unfolding through
 five f p q r s t = t ∙ ap (f (pos 2)) (s ∙ ap (f (pos 1)) (r ∙ ap (f (pos 0)) (q ∙ ap (f (negsuc 0)) p)))
+
+-- ---- the answer of a search
+pub answer-found : (b : code.Best) → b .found ≡ true → record { dx = b .dx; dy = b .dy } ≡ answer (bestOf b)
+unfolding answer bestOf
+answer-found b e = rw e refl
+
+pub answer-none : (b : code.Best) → b .found ≡ false → centre ≡ answer (bestOf b)
+unfolding answer bestOf
+answer-none b e = rw e refl
+
+-- 2 (w + 4) (h + 4) is small
+pub enough-fits : {w h : ℕ} → Block w h → 2 * (w + 4) * (h + 4) ≤ 2 * 68 * 68
+enough-fits {w} {h} b = omega (arith, b, mul-le-mul-right {m = 2 * (w + 4)} {n = 2 * 68} (h + 4) (omega (arith, b)))
+
+module _ (depth : ℕ) (p q : ℕ → ℕ → ℕ) (w h : ℕ) where
+  pub refine-explicit : {m : Best} → m ≡ search (sadAt depth p q w h) none → answer m ≡ refine depth false p q w h
+  unfolding refine
+  refine-explicit e = ap answer e
+
+  module _ {n kept : ℕ} (e : n ≡ sadAt depth p q w h centre) (k : kept ≡ (7 * n + 7) / 2 ^ 3) where
+    kept-is : kept ≡ (7 * sadAt depth p q w h centre + 7) / 2 ^ 3
+    kept-is = k ∙ ap (λ (m : ℕ). (7 * m + 7) / 2 ^ 3) e
+
+    pub refine-at-once : ltb kept (2 * (w + 4) * (h + 4)) ≡ true → centre ≡ refine depth true p q w h
+    unfolding refine
+    refine-at-once t = rw (rw kept-is at t) refl
+
+    pub refine-searched : {m : Best} → ltb kept (2 * (w + 4) * (h + 4)) ≡ false → m ≡ search (sadAt depth p q w h) (best kept centre)
+        → answer m ≡ refine depth true p q w h
+    unfolding refine
+    refine-searched t g = rw (rw kept-is at t) (ap answer (rw kept-is at g))
+
+-- ---- what the rows of `sad_refine_mv` rely on, and its answer as it is handed back
+pub refine-ready : (deep : Bool) (l0 s0 l1 s1 w h : ℕ) → lowest (refineTests deep l0 s0 l1 s1 w h) ≡ 0 → Wider l0 s0 l1 s1 w h
+refine-ready deep l0 s0 l1 s1 w h e =
+    let r = sads-ready 8 deep l0 s0 l1 s1 w h e in record { block = r .0; first = r .1; second = r .2 }
+
+pub refine-done : {number : ℕ} {x y : ℤ} {o : Offset} → number ≡ 0 → SFits w32 x → SFits w32 y → record { dx = x; dy = y } ≡ o
+    → record { dx = toZ w32 (ofZ w32 x); dy = toZ w32 (ofZ w32 y) } ≡ orSame number o centre
+refine-done z f g e = rw (back f, back g) (e ∙ sym (done _ _ _ z))

@@ -1,0 +1,15 @@
+use native.Mathlib.Omega.{arith}
+use Rattle.blocks.proofs.Laws.SearchReady.{enough-fits}
+use borrow.Author.Needs.{needs}
+use Rattle.blocks.proofs.search.is_enough.Statement.{statement}
+use Rattle.blocks.proofs.search.is_enough.Tie as tie
+
+pub is-enough-spec : {M : Type 1} → statement M
+is-enough-spec =
+    tie.close
+    (tie.spec
+    (λ c. search needs)  -- add-result
+    (λ c. search needs)  -- mul-result
+    (λ c. search needs)  -- add-result-2
+    (λ c. omega (arith, enough-fits (c .pre)))  -- mul-result-2
+    (λ c. search needs))  -- returns

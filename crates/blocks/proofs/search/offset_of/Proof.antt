@@ -1,0 +1,19 @@
+use mathlib.Core.Path.{_≡_}
+use mir.Syntax.{w32}
+use mir.Val.{toZ, ofZ}
+use Rattle.rows.proofs.Laws.Signed.{back, fit}
+use Rattle.blocks.proofs.Laws.SearchReady.{answer-found, answer-none}
+use Rattle.blocks.proofs.search.offset_of.Statement.{statement}
+use Rattle.blocks.proofs.search.offset_of.Tie as tie
+
+returns : tie.Need-returns
+returns c =
+    let g = c .struct-told2 .given .1 .1 in let t = c .before .before in
+    rw (back (fit w32 (g .0 .1)), back (fit w32 (g .1 .0 .1))) (answer-found (t .before .args .b) (t .if1 .taken))
+
+pub offset-of-spec : {M : Type 1} → statement M
+offset-of-spec =
+    tie.close
+    (tie.spec
+    returns
+    (λ c. answer-none (c .before .args .b) (c .if1 .left)))  -- returns-2
