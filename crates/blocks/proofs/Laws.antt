@@ -19,3 +19,6 @@ pub mod Gapless
 pub mod BlendReady
 pub mod BlendAnswers
 pub mod SearchReady
+pub mod Corners
+pub mod WarpReady
+pub mod Passes

@@ -1,9 +1,10 @@
 -- What the tests tell where none refuses: what the rows of a kernel rely on. Assumes nothing.
-use Prim.Native.Nat.{ℕ, _+_, _-_, _*_, _≤_, min, _^_}
+use Prim.Native.Nat.{ℕ, _+_, _-_, _*_, _≤_, min, _^_, _<_}
 use mathlib.Core.Path.{_≡_}
 use mathlib.Core.List.{List}
 use lib.IntN.{ℤ, natAbs}
 use Rattle.rows.specs.Numbers.{at}
+use Rattle.rows.specs.Warp.{RowThere}
 use Rattle.rows.specs.Depth.{bitsOf, biasOf, maxOf}
 use Rattle.blocks.specs.declared.refuse.DepthNumbers.{DepthNumbers}
 
@@ -60,6 +61,16 @@ pub record Bilin (dl ds sl ss w h f g : ℕ) : Type 0 where
   pub fits : (h + min g 1 - 1) * ss + (w + min f 1) ≤ sl
   pub f15 : f ≤ 15
   pub g15 : g ≤ 15
+-- a pass of warp over its first `rows` rows, by a table of n filters that has all of theirs
+pub record Pass (n : ℕ) (m a b : ℤ) (rows : ℕ) : Type 0 where
+  pub near : natAbs m ≤ 2 ^ 20
+  pub there : (r : ℕ) → r < rows → RowThere n m a b r
+
+-- a source of sl places that holds warp's block at place o with its margins
+pub record Margins (sl o s : ℕ) : Type 0 where
+  pub most : s ≤ 32768
+  pub before : 3 * s + 3 ≤ o
+  pub after : o + 11 * s + 11 < sl
 
 -- a divisor, and a table of reciprocals that has its place
 pub record Divides (d rl : ℕ) : Type 0 where

@@ -8,4 +8,5 @@ pub mod order;
 pub mod refuse;
 pub mod search;
 pub mod shear;
+pub mod warp;
 pub mod window;

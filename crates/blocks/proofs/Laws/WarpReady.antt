@@ -1,0 +1,101 @@
+-- Warp's number 0 gives what its passes rely on; its tests in two parts. Assumes nothing.
+use mathlib.Core.Path.{_≡_, refl, sym, ap, _∙_}
+use mathlib.Core.Bool.{Bool, true, false, _&&_}
+use mathlib.Core.List.{List, [], _∷_, _++_}
+use Prim.Native.Nat.{ℕ, suc, _+_, _*_, _/_, _^_, _≤_, _<_}
+use native.Mathlib.Omega.{arith}
+use borrow.Author.Tests.{leb-true, ltb-true}
+use lib.Dec.{leb, ltb}
+use lib.IntN.{ℤ, natAbs}
+use Rattle.rows.specs.Warp.{filterNo, isThere, every, allThere}
+use Rattle.rows.proofs.Laws.Fill.{and-true}
+use Rattle.blocks.specs.Refuse.{Test, stride, number, table, read, written, _asks_, numberOf, need, lowest, strideOk, holds, reads, wholeFilters}
+use Rattle.blocks.specs.Ready.{Rows, Pass, Margins}
+use Rattle.blocks.specs.Warp.{warpPlaceOk, warpTests}
+use Rattle.blocks.proofs.Laws.Refuse.{all-met, stride-met}
+use Rattle.blocks.proofs.Laws.Ready.{rows-met}
+use Rattle.blocks.proofs.Laws.Corners.{every-at}
+
+-- ---- tests in two parts: the second part counts where the first refuses nothing
+need-rest : (b : Bool) (n : ℕ) {k m : ℕ} → (b ≡ true → k ≡ m) → need b n k ≡ need b n m
+unfolding need
+need-rest true n f = f refl
+need-rest false n f = refl
+
+first-part : (ts us : List Test) → (lowest ts ≡ 0 → ⊥) → lowest (ts ++ us) ≡ lowest ts
+unfolding need
+first-part [] us h = absurd (h refl)
+first-part (t ∷ ts) us h = need-rest (t .meets) (numberOf (t .reason)) λ e. first-part ts us λ z. h (rw (e, z))
+
+second-part : (ts us : List Test) → lowest ts ≡ 0 → lowest (ts ++ us) ≡ lowest us
+unfolding need
+second-part [] us e = refl
+second-part (t ∷ ts) us e = let m = all-met (t ∷ ts) e in rw (m .0) (second-part ts us (rw (m .0) at e))
+
+-- ---- the first part of warp's tests
+abbrev pub numberTests : (deep : Bool) (dstStride srcStride : ℕ) (mx my : ℤ) → List Test
+numberTests deep dstStride srcStride mx my =
+    stride asks strideOk 8 dstStride
+    ∷ stride asks strideOk 8 srcStride
+    ∷ number asks deep
+    ∷ number asks warpPlaceOk mx
+    ∷ number asks warpPlaceOk my
+    ∷ []
+
+place-met : (m : ℤ) → warpPlaceOk m ≡ true → natAbs m ≤ 2 ^ 20
+unfolding warpPlaceOk
+place-met m e = leb-true _ _ e
+
+pub numbers-ready : (deep : Bool) (ds ss : ℕ) (mx my : ℤ) → lowest (numberTests deep ds ss mx my) ≡ 0
+    → (ss ≤ 32768) × (natAbs mx ≤ 2 ^ 20) × (natAbs my ≤ 2 ^ 20)
+numbers-ready deep ds ss mx my e =
+    let m = all-met (numberTests deep ds ss mx my) e in
+    let p = m .1 .1 .1 in
+    (stride-met 8 ss (m .1 .0) .1, place-met mx (p .0), place-met my (p .1 .0))
+
+-- and the second
+abbrev bufferTests : (dl dstStride sl srcStride srcOff : ℕ) (a b c d mx my : ℤ) (tl : ℕ) → List Test
+bufferTests dl dstStride sl srcStride srcOff a b c d mx my tl =
+    table asks wholeFilters tl
+    ∷ table asks allThere (tl / 8) mx my a b c d
+    ∷ read asks reads sl srcOff srcStride 8 8 3 4 3 4
+    ∷ written asks holds dl dstStride 8 8
+    ∷ []
+
+module _ (deep : Bool) (dl ds sl ss off : ℕ) (a b c d mx my : ℤ) (tl : ℕ) where
+  pub warp-stop : (lowest (numberTests deep ds ss mx my) ≡ 0 → ⊥) → lowest (warpTests deep dl ds sl ss off a b c d mx my tl) ≡ lowest (numberTests deep ds ss mx my)
+  warp-stop h = first-part (numberTests deep ds ss mx my) (bufferTests dl ds sl ss off a b c d mx my tl) h
+
+  pub warp-go : lowest (numberTests deep ds ss mx my) ≡ 0 → lowest (warpTests deep dl ds sl ss off a b c d mx my tl) ≡ lowest (bufferTests dl ds sl ss off a b c d mx my tl)
+  warp-go e = second-part (numberTests deep ds ss mx my) (bufferTests dl ds sl ss off a b c d mx my tl) e
+
+-- ---- all of them
+margins-met : (sl o s : ℕ) → strideOk 8 s ≡ true → reads sl o s 8 8 3 4 3 4 ≡ true → Margins sl o s
+unfolding reads
+margins-met sl o s a b =
+    let p = and-true (leb (3 * s + 3) o) (ltb (o + 11 * s + 11) sl) b in
+    record { most = stride-met 8 s a .1; before = leb-true _ _ (p .0); after = ltb-true _ _ (p .1) }
+
+pass-met : (n rows : ℕ) (m a b : ℤ) → warpPlaceOk m ≡ true → every rows (λ r. every 8 (λ i. isThere n (filterNo m a b r i))) ≡ true → Pass n m a b rows
+pass-met n rows m a b p e =
+    record { near = place-met m p; there = λ r h c k. every-at 8 (λ i. isThere n (filterNo m a b r i)) (every-at rows _ e r h) c k }
+
+both : (n : ℕ) (mx my a b c d : ℤ) → allThere n mx my a b c d ≡ true
+    → (every 15 (λ r. every 8 (λ i. isThere n (filterNo mx a b r i))) ≡ true) × (every 8 (λ r. every 8 (λ i. isThere n (filterNo my c d r i))) ≡ true)
+unfolding allThere
+both n mx my a b c d e = and-true (every 15 (λ r. every 8 (λ i. isThere n (filterNo mx a b r i)))) _ e
+
+pub warp-ready : (deep : Bool) (dl ds sl ss off : ℕ) (a b c d mx my : ℤ) (tl : ℕ) → lowest (warpTests deep dl ds sl ss off a b c d mx my tl) ≡ 0
+    → (deep ≡ true) × (Rows dl ds 8 8 × Margins sl off ss × Pass (tl / 8) mx a b 15 × Pass (tl / 8) my c d 8)
+warp-ready deep dl ds sl ss off a b c d mx my tl e =
+    let m = all-met (warpTests deep dl ds sl ss off a b c d mx my tl) e in
+    let p = m .1 .1 in let t = p .1 .1 .1 in let r = t .1 .1 in
+    let f = both (tl / 8) mx my a b c d (t .1 .0) in (
+      p .0,
+      (
+        rows-met dl ds 8 8 (m .0) (r .1 .0),
+        margins-met sl off ss (m .1 .0) (r .0),
+        pass-met (tl / 8) 15 mx a b (p .1 .0) (f .0),
+        pass-met (tl / 8) 8 my c d (p .1 .1 .0) (f .1),
+      ),
+    )

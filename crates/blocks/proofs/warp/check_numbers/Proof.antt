@@ -1,0 +1,35 @@
+use borrow.Author.Needs.{needs}
+use Rattle.rows.proofs.Laws.Signed.{back}
+use Rattle.blocks.specs.Warp.{warpPlaceOk}
+use Rattle.blocks.proofs.warp.check_numbers.Statement.{statement}
+use Rattle.blocks.proofs.warp.check_numbers.Tie as tie
+
+returns : tie.Need-returns
+unfolding warpPlaceOk
+returns c =
+    let n = c .before .before in let t = n .before .before .before in
+    let f = t .before .before .fits in
+    rw (
+      c .stride2 .ensures,
+      c .before .stride .ensures,
+      n .needed3 .ensures,
+      n .before .needed2 .ensures,
+      n .before .before .needed .ensures,
+      t .within2 .ensures,
+      t .before .within .ensures,
+      back (f .mx),
+      back (f .my),
+    )
+
+pub check-numbers-spec : {M : Type 1} → statement M
+check-numbers-spec =
+    tie.close
+    (tie.spec
+    (λ c κs. search needs)  -- within-requires
+    (λ c κs. search needs)  -- within-requires-2
+    (λ c κs. search needs)  -- needed-requires
+    (λ c κs. search needs)  -- needed-requires-2
+    (λ c κs. search needs)  -- needed-requires-3
+    (λ c κs. search needs)  -- stride-requires
+    (λ c κs. search needs)  -- stride-requires-2
+    returns)

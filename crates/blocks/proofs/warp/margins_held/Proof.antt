@@ -1,0 +1,35 @@
+use borrow.Author.Needs.{needs}
+use mathlib.Core.Path.{_≡_, sym}
+use native.Mathlib.Omega.{arith}
+use Prim.Native.Nat.{_+_, _*_, _-_}
+use borrow.Author.Tests.{le-ltb}
+use lib.Dec.{leb}
+use Rattle.rows.proofs.Laws.Fill.{and-false}
+use Rattle.blocks.specs.Refuse.{reads}
+use Rattle.blocks.proofs.Laws.Corners.{same-lt}
+use Rattle.blocks.proofs.warp.margins_held.Statement.{statement}
+use Rattle.blocks.proofs.warp.margins_held.Tie as tie
+
+returns : tie.Need-returns
+unfolding reads
+returns c =
+    let a = c .before .args in
+    rw (same-lt (11 * a .s + 11) (a .sl - a .o) (a .o + 11 * a .s + 11) (a .sl) (λ h. omega arith) (λ h. omega arith))
+
+returns-2 : tie.Need-returns-2
+unfolding reads
+returns-2 c =
+    let a = c .before .args in
+    rw (le-ltb (a .o + 11 * a .s + 11) (a .sl) (omega arith)) (sym (and-false (leb (3 * a .s + 3) (a .o))))
+
+pub margins-held-spec : {M : Type 1} → statement M
+margins-held-spec =
+    tie.close
+    (tie.spec
+    (λ c. search needs)  -- 3 s
+    (λ c. search needs)  -- 3 s + 3
+    (λ c. search needs)  -- 11 s
+    (λ c. search needs)  -- 11 s + 11
+    (λ c. search needs)  -- sl - o
+    returns
+    returns-2)

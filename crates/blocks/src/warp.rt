@@ -1,0 +1,299 @@
+// warp_affine_8x8 and 8x8t: blocks of eight by eight, each pixel with filters of its own.
+ghost use mathlib.Core.Path.{_≡_};
+ghost use mathlib.Core.Bool.{true};
+ghost use Prim.Native.Nat.{ℕ, suc, _+_, _-_, _*_, _/_, _^_, _≤_};
+ghost use lib.IntN.{ℤ, pos, natAbs};
+ghost use lib.ListN.{length};
+ghost use Rattle.rows.specs.Numbers.{at, px, clip, low16};
+ghost use Rattle.rows.specs.Places.{fill, around};
+ghost use Rattle.rows.specs.Warp.{filterNo, isThere, every, allThere, warped, warpPut};
+ghost use Rattle.blocks.specs.Refuse.{need, lowest, strideOk, holds, reads, wholeFilters};
+ghost use Rattle.blocks.specs.Ready.{Rows, Pass, Margins};
+ghost use Rattle.blocks.specs.Warp.{warpPlaceOk, warpTests, WarpAnswer};
+use crate::refuse::held;
+use crate::refuse::needed;
+use crate::refuse::stride;
+use crate::shear::within;
+use rows::warp::filter_no;
+use rows::warp::warp_put_row8;
+use rows::warp::warp_row8;
+
+// The filter of column c of row r of a pass is one of the table's n.
+fn corner_there(m: i32, a: i16, b: i16, r: u32, c: u32, n: usize) -> bool
+    requires { ⌜ (natAbs m ≤ 2 ^ 20) × (r ≤ 14) × (c ≤ 7) ⌝ }
+    ensures { λ v. ⌜ v ≡ isThere n (filterNo m a b r c) ⌝ }
+{
+    let f = filter_no(m, a, b, r, c);
+    if f < 0 { false } else { (f as usize) < n }
+}
+
+// All filters of a pass whose last row is `last` are: its number grows or falls with the row and with the column, so the corners tell.
+fn pass_there(m: i32, a: i16, b: i16, last: u32, n: usize) -> bool
+    requires { ⌜ (natAbs m ≤ 2 ^ 20) × (last ≤ 14) ⌝ }
+    ensures { λ v. ⌜ v ≡ every (suc last) (λ r. every 8 (λ i. isThere n (filterNo m a b r i))) ⌝ }
+{
+    corner_there(m, a, b, 0, 0, n)
+        & corner_there(m, a, b, 0, 7, n)
+        & corner_there(m, a, b, last, 0, n)
+        & corner_there(m, a, b, last, 7, n)
+}
+
+fn filters_there(a: i16, b: i16, c: i16, d: i16, mx: i32, my: i32, n: usize) -> bool
+    requires { ⌜ (natAbs mx ≤ 2 ^ 20) × (natAbs my ≤ 2 ^ 20) ⌝ }
+    ensures { λ v. ⌜ v ≡ allThere n mx my a b c d ⌝ }
+{
+    pass_there(mx, a, b, 14, n) & pass_there(my, c, d, 7, n)
+}
+
+// The source holds the block at place o with its margins, exactly and without a sum that could wrap.
+fn margins_held(sl: usize, o: usize, s: usize) -> bool
+    requires { ⌜ s ≤ 32768 ⌝ }
+    ensures { λ v. ⌜ v ≡ reads sl o s 8 8 3 4 3 4 ⌝ }
+{
+    if o < sl {
+        (3 * s + 3 <= o) & (11 * s + 11 < sl - o)
+    } else {
+        false
+    }
+}
+
+fn check_numbers(deep: bool, dst_stride: usize, src_stride: usize, mx: i32, my: i32) -> u32
+    ensures { λ r. ⌜ r ≡ need (strideOk 8 «dst_stride») 2 (need (strideOk 8 «src_stride») 2
+        (need deep 3 (need (warpPlaceOk mx) 3 (need (warpPlaceOk my) 3 0)))) ⌝ }
+{
+    stride(
+        8,
+        dst_stride,
+        stride(
+            8,
+            src_stride,
+            needed(
+                deep,
+                3,
+                needed(within(mx, 1048576), 3, needed(within(my, 1048576), 3, 0)),
+            ),
+        ),
+    )
+}
+
+fn check_buffers(
+    dl: usize,
+    dst_stride: usize,
+    sl: usize,
+    src_stride: usize,
+    src_off: usize,
+    a: i16,
+    b: i16,
+    c: i16,
+    d: i16,
+    mx: i32,
+    my: i32,
+    tl: usize,
+) -> u32
+    requires { ⌜ («src_stride» ≤ 32768) × (natAbs mx ≤ 2 ^ 20) × (natAbs my ≤ 2 ^ 20) ⌝ }
+    ensures { λ r. ⌜ r ≡ need (wholeFilters tl) 4 (need (allThere (tl / 8) mx my a b c d) 4
+        (need (reads sl «src_off» «src_stride» 8 8 3 4 3 4) 5 (need (holds dl «dst_stride» 8 8) 6 0))) ⌝ }
+{
+    needed(
+        tl % 8 == 0,
+        4,
+        needed(
+            filters_there(a, b, c, d, mx, my, tl / 8),
+            4,
+            needed(
+                margins_held(sl, src_off, src_stride),
+                5,
+                held(dl, dst_stride, 8, 8, 6, 0),
+            ),
+        ),
+    )
+}
+
+fn check_warp(
+    deep: bool,
+    dl: usize,
+    dst_stride: usize,
+    sl: usize,
+    src_stride: usize,
+    src_off: usize,
+    a: i16,
+    b: i16,
+    c: i16,
+    d: i16,
+    mx: i32,
+    my: i32,
+    tl: usize,
+) -> u32
+    ensures { λ r. ⌜ r ≡ lowest (warpTests deep dl «dst_stride» sl «src_stride» «src_off» a b c d mx my tl) ⌝ }
+{
+    let number = check_numbers(deep, dst_stride, src_stride, mx, my);
+    if number != 0 {
+        return number;
+    }
+    check_buffers(
+        dl,
+        dst_stride,
+        sl,
+        src_stride,
+        src_off,
+        a,
+        b,
+        c,
+        d,
+        mx,
+        my,
+        tl,
+    )
+}
+
+// The first pass: fifteen rows of eight intermediates; the first tap of the first stands at place o.
+fn warp_mid8(
+    mid: &mut [i16],
+    src: &[u8],
+    o: usize,
+    s: usize,
+    table: &[i8],
+    m: i32,
+    a: i16,
+    b: i16,
+    bits: u32,
+)
+    requires { ⌜ (length (now mid) ≡ 120) × (o + 14 * s + 15 ≤ length (now src)) × Pass (length (now table) / 8) m a b 15 × (bits ≤ 4) ⌝ }
+    ensures { λ _. ⌜ now (mid .exit) ≡ fill (now (mid .entry)) 8 8 15
+        (λ i r. low16 (warped (now (table .entry)) m a b (7 - bits) r i (λ u. px (now (src .entry)) (o + r * s + i + u)))) ⌝ }
+{
+    let mut y = 0;
+    while y < 15 {
+        let d = y * 8;
+        warp_row8(
+            &mut mid[d..d + 8],
+            src,
+            o + y * s,
+            table,
+            m,
+            a,
+            b,
+            y as u32,
+            7 - bits,
+        );
+        y += 1;
+    }
+}
+
+// The second pass, put.
+fn warp_put_rows8(
+    dst: &mut [u8],
+    dst_stride: usize,
+    mid: &[i16],
+    table: &[i8],
+    m: i32,
+    a: i16,
+    b: i16,
+    bits: u32,
+)
+    requires { ⌜ Rows (length (now dst)) «dst_stride» 8 8 × (length (now mid) ≡ 120) × Pass (length (now table) / 8) m a b 8 × (bits ≤ 4) ⌝ }
+    ensures { λ _. ⌜ now (dst .exit) ≡ fill (now (dst .entry)) «dst_stride» 8 8
+        (λ i j. clip 255 (low16 (warped (now (table .entry)) m a b (7 + bits) j i (λ v. at (now (mid .entry)) (j * 8 + i + v * 8))))) ⌝ }
+{
+    let mut y = 0;
+    while y < 8 {
+        let d = y * dst_stride;
+        warp_put_row8(
+            &mut dst[d..d + 8],
+            mid,
+            y * 8,
+            table,
+            m,
+            a,
+            b,
+            y as u32,
+            7 + bits,
+        );
+        y += 1;
+    }
+}
+
+fn warp_put8(
+    dst: &mut [u8],
+    dst_stride: usize,
+    src: &[u8],
+    src_stride: usize,
+    src_off: usize,
+    a: i16,
+    b: i16,
+    c: i16,
+    d: i16,
+    mx: i32,
+    my: i32,
+    warp: &[i8],
+)
+    requires { ⌜ Rows (length (now dst)) «dst_stride» 8 8 × Margins (length (now src)) «src_off» «src_stride»
+        × Pass (length (now warp) / 8) mx a b 15 × Pass (length (now warp) / 8) my c d 8 ⌝ }
+    ensures { λ _. ⌜ now (dst .exit) ≡ fill (now (dst .entry)) «dst_stride» 8 8
+        (λ i j. warpPut 255 4 (now (warp .entry)) mx my a b c d i j (around 3 (now (src .entry)) «src_off» «src_stride» i j)) ⌝ }
+{
+    let mut mid = [0i16; 120];
+    warp_mid8(
+        &mut mid,
+        src,
+        src_off - (3 * src_stride + 3),
+        src_stride,
+        warp,
+        mx,
+        a,
+        b,
+        4,
+    );
+    warp_put_rows8(dst, dst_stride, &mid, warp, my, c, d, 4);
+}
+
+#[no_mangle]
+pub extern "C" fn hv_warp_affine_8x8_8bpc(
+    dst: &mut [u8],
+    dst_stride: usize,
+    src: &[u8],
+    src_stride: usize,
+    src_off: usize,
+    a: i16,
+    b: i16,
+    c: i16,
+    d: i16,
+    mx: i32,
+    my: i32,
+    warp: &[i8],
+) -> u32
+    ensures { λ r. ⌜ WarpAnswer true 8 (now (dst .entry)) «dst_stride» (now (src .entry)) «src_stride» «src_off» a b c d mx my (now (warp .entry)) r (now (dst .exit)) ⌝ }
+{
+    let number = check_warp(
+        true,
+        dst.len(),
+        dst_stride,
+        src.len(),
+        src_stride,
+        src_off,
+        a,
+        b,
+        c,
+        d,
+        mx,
+        my,
+        warp.len(),
+    );
+    if number == 0 {
+        warp_put8(
+            dst,
+            dst_stride,
+            src,
+            src_stride,
+            src_off,
+            a,
+            b,
+            c,
+            d,
+            mx,
+            my,
+            warp,
+        );
+    }
+    number
+}
