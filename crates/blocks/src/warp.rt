@@ -4,17 +4,18 @@ ghost use mathlib.Core.Bool.{true};
 ghost use Prim.Native.Nat.{ℕ, suc, _+_, _-_, _*_, _/_, _^_, _≤_};
 ghost use lib.IntN.{ℤ, pos, natAbs};
 ghost use lib.ListN.{length};
-ghost use Rattle.rows.specs.Numbers.{at, px, clip, low16};
+ghost use Rattle.rows.specs.Numbers.{at, px, clip, low16, minus16};
 ghost use Rattle.rows.specs.Places.{fill, around};
-ghost use Rattle.rows.specs.Warp.{filterNo, isThere, every, allThere, warped, warpPut};
+ghost use Rattle.rows.specs.Warp.{filterNo, isThere, every, allThere, warped, warpPut, warpPrep};
 ghost use Rattle.blocks.specs.Refuse.{need, lowest, strideOk, holds, reads, wholeFilters};
 ghost use Rattle.blocks.specs.Ready.{Rows, Pass, Margins};
-ghost use Rattle.blocks.specs.Warp.{warpPlaceOk, warpTests, WarpAnswer};
+ghost use Rattle.blocks.specs.Warp.{warpPlaceOk, warpTests, WarpAnswer, WarpTAnswer};
 use crate::refuse::held;
 use crate::refuse::needed;
 use crate::refuse::stride;
 use crate::shear::within;
 use rows::warp::filter_no;
+use rows::warp::warp_prep_row;
 use rows::warp::warp_put_row8;
 use rows::warp::warp_row8;
 
@@ -213,6 +214,40 @@ fn warp_put_rows8(
     }
 }
 
+// The second pass, as 8x8t has it.
+fn warp_prep_rows(
+    tmp: &mut [i16],
+    tmp_stride: usize,
+    mid: &[i16],
+    table: &[i8],
+    m: i32,
+    a: i16,
+    b: i16,
+    bias: u32,
+)
+    requires { ⌜ Rows (length (now tmp)) «tmp_stride» 8 8 × (length (now mid) ≡ 120) × Pass (length (now table) / 8) m a b 8 × (bias ≤ 8192) ⌝ }
+    ensures { λ _. ⌜ now (tmp .exit) ≡ fill (now (tmp .entry)) «tmp_stride» 8 8
+        (λ i j. minus16 (low16 (warped (now (table .entry)) m a b 7 j i (λ v. at (now (mid .entry)) (j * 8 + i + v * 8)))) (pos bias)) ⌝ }
+{
+    let mut y = 0;
+    while y < 8 {
+        let d = y * tmp_stride;
+        warp_prep_row(
+            &mut tmp[d..d + 8],
+            mid,
+            y * 8,
+            table,
+            m,
+            a,
+            b,
+            y as u32,
+            7,
+            bias as i16,
+        );
+        y += 1;
+    }
+}
+
 fn warp_put8(
     dst: &mut [u8],
     dst_stride: usize,
@@ -245,6 +280,40 @@ fn warp_put8(
         4,
     );
     warp_put_rows8(dst, dst_stride, &mid, warp, my, c, d, 4);
+}
+
+fn warp_prep8(
+    tmp: &mut [i16],
+    tmp_stride: usize,
+    src: &[u8],
+    src_stride: usize,
+    src_off: usize,
+    a: i16,
+    b: i16,
+    c: i16,
+    d: i16,
+    mx: i32,
+    my: i32,
+    warp: &[i8],
+)
+    requires { ⌜ Rows (length (now tmp)) «tmp_stride» 8 8 × Margins (length (now src)) «src_off» «src_stride»
+        × Pass (length (now warp) / 8) mx a b 15 × Pass (length (now warp) / 8) my c d 8 ⌝ }
+    ensures { λ _. ⌜ now (tmp .exit) ≡ fill (now (tmp .entry)) «tmp_stride» 8 8
+        (λ i j. warpPrep 4 0 (now (warp .entry)) mx my a b c d i j (around 3 (now (src .entry)) «src_off» «src_stride» i j)) ⌝ }
+{
+    let mut mid = [0i16; 120];
+    warp_mid8(
+        &mut mid,
+        src,
+        src_off - (3 * src_stride + 3),
+        src_stride,
+        warp,
+        mx,
+        a,
+        b,
+        4,
+    );
+    warp_prep_rows(tmp, tmp_stride, &mid, warp, my, c, d, 0);
 }
 
 #[no_mangle]
@@ -283,6 +352,57 @@ pub extern "C" fn hv_warp_affine_8x8_8bpc(
         warp_put8(
             dst,
             dst_stride,
+            src,
+            src_stride,
+            src_off,
+            a,
+            b,
+            c,
+            d,
+            mx,
+            my,
+            warp,
+        );
+    }
+    number
+}
+
+#[no_mangle]
+pub extern "C" fn hv_warp_affine_8x8t_8bpc(
+    tmp: &mut [i16],
+    tmp_stride: usize,
+    src: &[u8],
+    src_stride: usize,
+    src_off: usize,
+    a: i16,
+    b: i16,
+    c: i16,
+    d: i16,
+    mx: i32,
+    my: i32,
+    warp: &[i8],
+) -> u32
+    ensures { λ r. ⌜ WarpTAnswer true 8 (now (tmp .entry)) «tmp_stride» (now (src .entry)) «src_stride» «src_off» a b c d mx my (now (warp .entry)) r (now (tmp .exit)) ⌝ }
+{
+    let number = check_warp(
+        true,
+        tmp.len(),
+        tmp_stride,
+        src.len(),
+        src_stride,
+        src_off,
+        a,
+        b,
+        c,
+        d,
+        mx,
+        my,
+        warp.len(),
+    );
+    if number == 0 {
+        warp_prep8(
+            tmp,
+            tmp_stride,
             src,
             src_stride,
             src_off,
