@@ -61,6 +61,7 @@ pub record Bilin (dl ds sl ss w h f g : ℕ) : Type 0 where
   pub fits : (h + min g 1 - 1) * ss + (w + min f 1) ≤ sl
   pub f15 : f ≤ 15
   pub g15 : g ≤ 15
+
 -- a pass of warp over its first `rows` rows, by a table of n filters that has all of theirs
 pub record Pass (n : ℕ) (m a b : ℤ) (rows : ℕ) : Type 0 where
   pub near : natAbs m ≤ 2 ^ 20
@@ -93,6 +94,7 @@ pub record Moves (bw4 bh4 mvx mvy bx4 by4 : ℤ) : Type 0 where
   pub mv-y : natAbs mvy ≤ 2 ^ 20
   pub column : natAbs bx4 ≤ 16384
   pub row : natAbs by4 ≤ 16384
+
 -- two blocks of w columns and h rows, from place o0 of l0 places and from place o1 of l1 places on
 pub record Blocks (l0 o0 s0 l1 o1 s1 w h : ℕ) : Type 0 where
   pub w68 : w ≤ 68
