@@ -50,7 +50,14 @@ fn check_prep(
     )
 }
 
-fn put_rows8(dst: &mut [u8], dst_stride: usize, src: &[u8], src_stride: usize, w: usize, h: usize)
+pub fn put_rows8(
+    dst: &mut [u8],
+    dst_stride: usize,
+    src: &[u8],
+    src_stride: usize,
+    w: usize,
+    h: usize,
+)
     requires { ⌜ Block w h × Rows (length (now dst)) «dst_stride» w h × Rows (length (now src)) «src_stride» w h ⌝ }
     ensures { λ _. ⌜ now (dst .exit) ≡ fill (now (dst .entry)) «dst_stride» w h (λ i j. put (pixel (now (src .entry)) «src_stride» i j)) ⌝ }
 {
@@ -80,7 +87,7 @@ pub extern "C" fn hv_put_8bpc(
     number
 }
 
-fn put_rows16(
+pub fn put_rows16(
     dst: &mut [u16],
     dst_stride: usize,
     src: &[u16],
@@ -117,7 +124,14 @@ pub extern "C" fn hv_put_16bpc(
     number
 }
 
-fn prep_rows8(tmp: &mut [i16], tmp_stride: usize, src: &[u8], src_stride: usize, w: usize, h: usize)
+pub fn prep_rows8(
+    tmp: &mut [i16],
+    tmp_stride: usize,
+    src: &[u8],
+    src_stride: usize,
+    w: usize,
+    h: usize,
+)
     requires { ⌜ Block w h × Rows (length (now tmp)) «tmp_stride» w h × Rows (length (now src)) «src_stride» w h ⌝ }
     ensures { λ _. ⌜ now (tmp .exit) ≡ fill (now (tmp .entry)) «tmp_stride» w h (λ i j. prep 4 0 (pixel (now (src .entry)) «src_stride» i j)) ⌝ }
 {
@@ -129,7 +143,7 @@ fn prep_rows8(tmp: &mut [i16], tmp_stride: usize, src: &[u8], src_stride: usize,
     }
 }
 
-fn prep_rows16(
+pub fn prep_rows16(
     tmp: &mut [i16],
     tmp_stride: usize,
     src: &[u16],
