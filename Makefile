@@ -5,7 +5,7 @@
 # make bench     measure speed against the Rust
 # make clean     remove what the others made
 #
-# Nothing needs the network. Wanted: the kit (rt) and make; python3 for `make wrong`, cargo for what runs the Rust.
+# Nothing needs the network. Wanted: the kit (rt) and make; python3 for `make wrong` and tools/reading, cargo for what runs the Rust.
 
 RAV2D_SRC ?= ../shared/docs/src
 N ?= 20000
@@ -13,7 +13,7 @@ SEED ?=
 
 # The oracle stands one folder deeper, so it is given the whole path.
 SOURCE := $(abspath $(RAV2D_SRC))
-ORACLE = cd oracle && RAV2D_SRC='$(SOURCE)' cargo run --offline
+ORACLE = cd oracle && RAV2D_SRC='$(SOURCE)' HEMAVOLUPS_ARCHIVE=../dist/libblocks.a cargo
 
 # Prints why nothing can be compared with the Rust, in one sentence; nothing where it can.
 define lacking
@@ -43,23 +43,28 @@ check:
 	@rt check >target/check.log 2>&1 || { cat target/check.log; exit 1; }
 	@grep '^rt: ' target/check.log
 
-# Making it proves the crate once more, so it is made only after a change.
-dist/libblocks.a: crates.txt tools/native-archive $(shell find crates -name '*.rt' -o -name '*.antt') | check
+# Making it proves the crate, so it is made only after a change.
+dist/libblocks.a: crates.txt tools/native-archive $(shell find crates -name '*.rt' -o -name '*.antt')
 	@tools/native-archive blocks $@
 
-test:
-	@why=$$($(lacking)); if [ -n "$$why" ]; then echo "$$why"; else ($(ORACLE)) && ($(ORACLE) --release -- compare 300); fi
+# The verdict is the last line, so rt ci comes last; it proves everything anew.
+test: $(if $(shell $(lacking)),,$(ARCHIVE))
+	@if command -v python3 >/dev/null; then tools/reading; fi
+	@why=$$($(lacking)); if [ -n "$$why" ]; then echo "$$why"; else ($(ORACLE) run --offline) && ($(ORACLE) test --offline --release -q) \
+	    && ($(ORACLE) run --offline --release -- compare 300) && ($(ORACLE) run --offline --release -- guard 100); fi
 	@rt ci
 
-compare:
+compare: $(if $(shell $(lacking)),,$(ARCHIVE))
 	@why=$$($(lacking)); if [ -n "$$why" ]; then echo "$$why" >&2; exit 1; fi
-	@$(ORACLE) --release -- compare $(N) $(SEED)
+	@$(ORACLE) run --offline --release -- compare $(N) $(SEED)
+	@$(ORACLE) run --offline --release -- guard $(N) $(SEED)
 
 wrong:
 	@tools/wrong
 
-bench:
-	@if [ -f bench/Cargo.toml ]; then cd bench && cargo run --offline --release; else echo "Nothing is measured yet: there is no bench/Cargo.toml."; fi
+bench: $(if $(shell $(lacking)),,$(ARCHIVE))
+	@why=$$($(lacking)); if [ -n "$$why" ]; then echo "$$why" >&2; exit 1; fi
+	@cd bench && RAV2D_SRC='$(SOURCE)' HEMAVOLUPS_ARCHIVE='$(abspath dist/libblocks.a)' cargo run --offline --release
 
 clean:
 	rm -rf target dist oracle/target bench/target

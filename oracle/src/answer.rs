@@ -5,6 +5,8 @@ use std::ops::{Deref, DerefMut};
 
 use original::pixel::{BitDepth, BitDepth8, BitDepth16, Pixel};
 
+use crate::lend::Number;
+
 /// A lent buffer or table. Shown by its length and first numbers, for calls are printed.
 #[derive(Clone, PartialEq)]
 pub struct Room<T>(pub Vec<T>);
@@ -57,18 +59,28 @@ pub struct Answer {
     pub number: u32,
     pub results: Vec<i64>,
     pub buffers: Vec<Buffer>,
+    /// What the call changed though it isn't lent to be written, in words.
+    pub harm: Option<String>,
 }
 
 impl Answer {
+    /// The answer with this number, of a call that does no harm.
+    pub fn new(number: u32, results: Vec<i64>, buffers: Vec<Buffer>) -> Self {
+        Answer { number, results, buffers, harm: None }
+    }
+
     /// The answer of an accepted call.
     pub fn done(results: Vec<i64>, buffers: Vec<Buffer>) -> Self {
-        Answer { number: 0, results, buffers }
+        Answer::new(0, results, buffers)
     }
 
     /// The first place where another answer differs from this one.
     pub fn difference(&self, other: &Answer) -> Option<String> {
         if self == other {
             return None;
+        }
+        if other.harm.is_some() {
+            return other.harm.clone();
         }
         if self.number != other.number {
             return Some(format!("number: {} expected, {} given", self.number, other.number));
@@ -93,7 +105,7 @@ fn first_difference(what: &str, expected: &[i64], given: &[i64]) -> Option<Strin
 }
 
 /// The pixel type of a set: u8 for the byte set, u16 for the 16-bit set.
-pub trait Px: Pixel + PartialEq + fmt::Debug {
+pub trait Px: Pixel + Number {
     /// The original's depth type for these pixels.
     type Depth: BitDepth<Pixel = Self>;
     /// The 16-bit set is told its depth, the byte set never.

@@ -20,6 +20,8 @@ use crate::calls::warp::{WarpAffine, WarpAffineT};
 pub trait Answers<C> {
     /// Does it refuse by document 01's numbers? One that doesn't is only asked for accepted calls.
     const REFUSES: bool;
+    /// Does it have the entry? One that hasn't is never asked.
+    const THERE: bool = true;
 
     /// Its answer, every lent buffer whole.
     fn answer(call: &C) -> Answer;
@@ -275,7 +277,7 @@ impl Answers<GetShearParams> for Original {
         let mut wm = params(&call.record);
         let refused = with_tables(&[], &[], &[], &call.recip, || warpmv::get_shear_params(&mut wm));
         let record = Record { matrix: wm.matrix, abcd: wm.abcd, affine: wm.affine };
-        Answer { number: 8 * refused as u32, results: vec![], buffers: record.buffers() }
+        Answer::new(8 * refused as u32, vec![], record.buffers())
     }
 }
 

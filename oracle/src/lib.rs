@@ -1,13 +1,19 @@
-//! The oracle: the original Rust beside document 01's refusals and arithmetic, written out once more.
+//! The oracle: the original Rust and the library's C functions, beside document 01's refusals and arithmetic, written out
+//! once more.
 
 pub mod answer;
 pub mod ask;
 pub mod calls;
 pub mod compare;
 pub mod differences;
+pub mod guard;
+pub mod lend;
+pub mod library;
 pub mod limits;
+pub mod pages;
 pub mod refuse;
 pub mod rng;
 pub mod rules;
 pub mod tables;
+pub mod tally;
 pub mod worked;

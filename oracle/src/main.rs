@@ -1,22 +1,21 @@
-//! `oracle`: the worked numbers. `oracle compare [N] [SEED]`: the original against document 01's rules.
+//! `oracle`: the worked numbers. `oracle compare [N] [SEED]`: the library's C functions against the original, and the
+//! original against document 01's rules. `oracle guard [N] [SEED]`: the C functions on buffers at unreadable pages.
 //! `oracle differences`: where the original and document 01 part.
 
 use std::process::ExitCode;
 
 use oracle::compare::{self, Amount};
-use oracle::{differences, worked};
+use oracle::{differences, guard, worked};
 
-const USAGE: &str = "usage: oracle | oracle compare [N] [SEED] | oracle differences";
+const USAGE: &str = "usage: oracle | oracle compare [N] [SEED] | oracle guard [N] [SEED] | oracle differences";
 
 fn main() -> ExitCode {
     let arguments: Vec<String> = std::env::args().skip(1).collect();
     let words: Vec<&str> = arguments.iter().map(String::as_str).collect();
     let well = match words.as_slice() {
         [] => worked::print(),
-        ["compare", numbers @ ..] => match amount(numbers) {
-            Some(amount) => compare::original(amount),
-            None => usage(),
-        },
+        ["compare", numbers @ ..] => amount(numbers).map_or_else(usage, compare::library),
+        ["guard", numbers @ ..] => amount(numbers).map_or_else(usage, guard::run),
         ["differences"] => {
             differences::print();
             true
@@ -26,7 +25,7 @@ fn main() -> ExitCode {
     if well { ExitCode::SUCCESS } else { ExitCode::FAILURE }
 }
 
-/// Number of calls and seed from the words after `compare`.
+/// Number of calls and seed from the words after a command.
 fn amount(numbers: &[&str]) -> Option<Amount> {
     let parsed: Result<Vec<u64>, _> = numbers.iter().map(|word| word.parse()).collect();
     match parsed.ok()?.as_slice() {

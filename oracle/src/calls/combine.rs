@@ -222,7 +222,7 @@ impl<P: Px> Call for Blend<P> {
     fn refused(&self, number: u32) -> Answer {
         let place = if number == 7 { first_above_64(self) } else { None };
         let (row, col) = place.unwrap_or((0, 0));
-        Answer { number, results: vec![row as i64, col as i64], buffers: self.lent() }
+        Answer::new(number, vec![row as i64, col as i64], self.lent())
     }
 }
 

@@ -31,7 +31,7 @@ pub trait Call: Sized + Debug {
 
     /// The answer to this call if it is refused with this number.
     fn refused(&self, number: u32) -> Answer {
-        Answer { number, results: vec![0; Self::RESULTS], buffers: self.lent() }
+        Answer::new(number, vec![0; Self::RESULTS], self.lent())
     }
 }
 
