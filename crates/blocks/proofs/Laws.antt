@@ -22,3 +22,4 @@ pub mod SearchReady
 pub mod Corners
 pub mod WarpReady
 pub mod Passes
+pub mod BilinRule

@@ -6,7 +6,6 @@ use Rattle.rows.proofs.Laws.Signed.{back}
 use Rattle.blocks.specs.Refuse.{depthOk, lowest}
 use Rattle.blocks.specs.Bilinear.{bilinTests}
 use Rattle.blocks.proofs.Laws.Refuse.{done, refused}
-use Rattle.rows.specs.Depth.{bitsOf, biasOf, maxOf}
 use Rattle.blocks.specs.Ready.{numbersOf}
 use Rattle.blocks.proofs.Laws.Deep.{deep-bits}
 use Rattle.blocks.proofs.Laws.BilinReady.{bilin-ready}
@@ -18,14 +17,16 @@ abbrev entry : tie.After-check-bilin → tie.Start
 entry c = c .before .before .before
 
 number : (c : tie.After-check-bilin) → let a = entry c .args in
-    c .check-bilin .result ≡ lowest (bilinTests (depthOk (a .depth)) (length (a .tmp .now)) (a .tmp-stride) (length (a .src .now)) (a .src-stride) (a .w) (a .h) (a .mx) (a .my))
+    c .check-bilin .result
+    ≡ lowest (bilinTests (depthOk (a .depth)) (length (a .tmp .now)) (a .tmp-stride) (length (a .src .now)) (a .src-stride) (a .w) (a .h) (a .mx) (a .my))
 number c = let s = entry c in rw (c .before .depth-ok .ensures, back (s .fits .depth), back (s .fits .mx), back (s .fits .my)) at (c .check-bilin .ensures)
 
 -- the fractions, as the rows take them
-fractions : (c : tie.After-above2) → let a = entry (c .before .before .before .before .before) .args in (c .before .above .result ≡ up (a .mx)) × (c .above2 .result ≡ up (a .my))
+fractions : (c : tie.After-above2) → let a = entry (c .before .before .before .before .before) .args in
+    (c .before .above .result ≡ up (a .mx)) × (c .above2 .result ≡ up (a .my))
 fractions c =
-    let s = entry (c .before .before .before .before .before) in
-    (c .before .above .ensures ∙ ap up (back (s .fits .mx)), c .above2 .ensures ∙ ap up (back (s .fits .my)))
+    let f = entry (c .before .before .before .before .before) .fits in
+    (c .before .above .ensures ∙ ap up (back (f .mx)), c .above2 .ensures ∙ ap up (back (f .my)))
 
 numbers : (c : tie.After-depth-numbers) → c .depth-numbers .result ≡ numbersOf (up (entry (c .before .before) .args .depth))
 numbers c = c .depth-numbers .ensures ∙ ap (λ z. numbersOf (up z)) (back (entry (c .before .before) .fits .depth))
@@ -35,8 +36,9 @@ depth-numbers-requires t κs = rw (back (entry (t .before) .fits .depth)) (bilin
 
 rows-requires : tie.Need-prep-bilin-rows16-requires
 rows-requires c κs =
-    let t = c .before .before .before .before in let q = bilin-ready _ _ _ _ _ _ _ _ _ (sym (number (t .before)) ∙ t .if1 .taken) in let e = fractions c in
-    rw (e .0, e .1, numbers (c .before .before .before)) (q .1, deep-bits (entry (t .before) .args .depth) (q .0))
+    let t = c .before .before .before .before in let e = fractions c in
+    let q = bilin-ready _ _ _ _ _ _ _ _ _ (sym (number (t .before)) ∙ t .if1 .taken) in let d = entry (t .before) .args .depth in
+    rw (e .0, e .1, numbers (c .before .before .before)) (q .1, deep-bits d (q .0))
 
 returns : tie.Need-returns
 returns c =

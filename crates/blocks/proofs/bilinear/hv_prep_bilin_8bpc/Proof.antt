@@ -16,18 +16,21 @@ abbrev entry : tie.After-check-bilin → tie.Start
 entry c = c .before .before
 
 number : (c : tie.After-check-bilin) → let a = entry c .args in
-    c .check-bilin .result ≡ lowest (bilinTests true (length (a .tmp .now)) (a .tmp-stride) (length (a .src .now)) (a .src-stride) (a .w) (a .h) (a .mx) (a .my))
+    c .check-bilin .result
+    ≡ lowest (bilinTests true (length (a .tmp .now)) (a .tmp-stride) (length (a .src .now)) (a .src-stride) (a .w) (a .h) (a .mx) (a .my))
 number c = let s = entry c in rw (back (s .fits .mx), back (s .fits .my)) at (c .check-bilin .ensures)
 
 -- the fractions, as the rows take them
-fractions : (c : tie.After-above2) → let a = entry (c .before .before .before .before) .args in (c .before .above .result ≡ up (a .mx)) × (c .above2 .result ≡ up (a .my))
+fractions : (c : tie.After-above2) → let a = entry (c .before .before .before .before) .args in
+    (c .before .above .result ≡ up (a .mx)) × (c .above2 .result ≡ up (a .my))
 fractions c =
-    let s = entry (c .before .before .before .before) in
-    (c .before .above .ensures ∙ ap up (back (s .fits .mx)), c .above2 .ensures ∙ ap up (back (s .fits .my)))
+    let f = entry (c .before .before .before .before) .fits in
+    (c .before .above .ensures ∙ ap up (back (f .mx)), c .above2 .ensures ∙ ap up (back (f .my)))
 
 rows-requires : tie.Need-prep-bilin-rows8-requires
 rows-requires c κs =
-    let t = c .before .before .before in let q = bilin-ready _ _ _ _ _ _ _ _ _ (sym (number (t .before)) ∙ t .if1 .taken) in let e = fractions c in
+    let t = c .before .before .before in let e = fractions c in
+    let q = bilin-ready _ _ _ _ _ _ _ _ _ (sym (number (t .before)) ∙ t .if1 .taken) in
     rw (e .0, e .1) (q .1)
 
 returns : tie.Need-returns

@@ -14,7 +14,8 @@ use Rattle.blocks.proofs.bilinear.mid_bilin_prep_rows.Statement.{statem
 use Rattle.blocks.proofs.bilinear.mid_bilin_prep_rows.Tie as tie
 
 abbrev Inv-loop : tie.InvT-loop
-Inv-loop tmp₀ ds mid w h f n bias y₀ tmp y = Filled ds w (λ i j. minus16 (low16 (R n (bilinAt (at mid) (j * 64 + i) 64 f))) (toZ w16 bias)) tmp₀ h y tmp
+Inv-loop tmp₀ ds mid w h f n bias y₀ tmp y =
+    Filled ds w (λ i j. minus16 (low16 (R n (bilinAt (at mid) (j * 64 + i) 64 f))) (toZ w16 bias)) tmp₀ h y tmp
 
 abbrev μ-loop : tie.MeasureT-loop
 μ-loop tmp₀ ds mid w h f n bias y₀ tmp y = h - y

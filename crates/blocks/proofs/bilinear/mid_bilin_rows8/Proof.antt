@@ -10,7 +10,8 @@ use Rattle.blocks.proofs.bilinear.mid_bilin_rows8.Statement.{statement}
 use Rattle.blocks.proofs.bilinear.mid_bilin_rows8.Tie as tie
 
 abbrev Inv-loop : tie.InvT-loop
-Inv-loop dst₀ ds mid w h f n y₀ dst y = Filled ds w (λ i j. clip 255 (R n (bilinAt (at mid) (j * 64 + i) 64 f))) dst₀ h y dst
+Inv-loop dst₀ ds mid w h f n y₀ dst y =
+    Filled ds w (λ i j. clip 255 (R n (bilinAt (at mid) (j * 64 + i) 64 f))) dst₀ h y dst
 
 abbrev μ-loop : tie.MeasureT-loop
 μ-loop dst₀ ds mid w h f n y₀ dst y = h - y

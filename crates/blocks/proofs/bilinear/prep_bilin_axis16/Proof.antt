@@ -14,7 +14,8 @@ use Rattle.blocks.proofs.bilinear.prep_bilin_axis16.Statement.{statemen
 use Rattle.blocks.proofs.bilinear.prep_bilin_axis16.Tie as tie
 
 abbrev Inv-loop : tie.InvT-loop
-Inv-loop tmp₀ ds src ss w h step f n bias y₀ tmp y = Filled ds w (λ i j. minus16 (low16 (R n (bilinAt (px src) (j * ss + i) step f))) (toZ w16 bias)) tmp₀ h y tmp
+Inv-loop tmp₀ ds src ss w h step f n bias y₀ tmp y =
+    Filled ds w (λ i j. minus16 (low16 (R n (bilinAt (px src) (j * ss + i) step f))) (toZ w16 bias)) tmp₀ h y tmp
 
 abbrev μ-loop : tie.MeasureT-loop
 μ-loop tmp₀ ds src ss w h step f n bias y₀ tmp y = h - y

@@ -3,7 +3,8 @@ use native.Mathlib.Omega.{arith}
 use borrow.Author.Needs.{needs}
 use mir.Syntax.{w16}
 use Rattle.rows.proofs.Laws.Signed.{backn}
-use Rattle.blocks.proofs.Laws.BilinReady.{first, second, prep-twice}
+use Rattle.blocks.proofs.Laws.BilinReady.{first, second}
+use Rattle.blocks.proofs.Laws.BilinRule.{prep-twice}
 use Rattle.blocks.proofs.bilinear.prep_bilin_both16.Statement.{statement}
 use Rattle.blocks.proofs.bilinear.prep_bilin_both16.Tie as tie
 

@@ -1,7 +1,8 @@
 use mathlib.Core.Path.{_∙_}
 use native.Mathlib.Omega.{arith}
 use borrow.Author.Needs.{needs}
-use Rattle.blocks.proofs.Laws.BilinReady.{first, second, prep-twice}
+use Rattle.blocks.proofs.Laws.BilinReady.{first, second}
+use Rattle.blocks.proofs.Laws.BilinRule.{prep-twice}
 use Rattle.blocks.proofs.bilinear.prep_bilin_both8.Statement.{statement}
 use Rattle.blocks.proofs.bilinear.prep_bilin_both8.Tie as tie
 

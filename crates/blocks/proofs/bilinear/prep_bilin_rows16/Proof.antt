@@ -3,7 +3,8 @@ use native.Mathlib.Omega.{arith}
 use borrow.Author.Needs.{needs}
 use mir.Syntax.{w16}
 use Rattle.rows.proofs.Laws.Signed.{backn}
-use Rattle.blocks.proofs.Laws.BilinReady.{copied, across, downward, prep-copied, prep-across, prep-downward}
+use Rattle.blocks.proofs.Laws.BilinReady.{copied, across, downward}
+use Rattle.blocks.proofs.Laws.BilinRule.{prep-copied, prep-across, prep-downward}
 use Rattle.blocks.proofs.bilinear.prep_bilin_rows16.Statement.{statement}
 use Rattle.blocks.proofs.bilinear.prep_bilin_rows16.Tie as tie
 
@@ -17,28 +18,37 @@ both-requires c κs =
     (s .pre .0, omega (arith, t .before .if1), omega (arith, t .if2), s .pre .1)
 
 across-requires : tie.Need-prep-bilin-axis16-requires
-across-requires c κs = let t = c .before in let s = entry (t .before .before) in across (s .pre .0) _ (omega (arith, s .pre)) (omega (arith, t .before .if1)) (t .if2 .left)
+across-requires c κs =
+    let t = c .before in let s = entry (t .before .before) in
+    across (s .pre .0) _ (omega (arith, s .pre)) (omega (arith, t .before .if1)) (t .if2 .left)
 
 downward-requires : tie.Need-prep-bilin-axis16-requires-2
-downward-requires c κs = let t = c .before in let s = entry (t .before .before) in downward (s .pre .0) _ (omega (arith, s .pre)) (t .before .if1 .left) (omega (arith, t .if3))
+downward-requires c κs =
+    let t = c .before in let s = entry (t .before .before) in
+    downward (s .pre .0) _ (omega (arith, s .pre)) (t .before .if1 .left) (omega (arith, t .if3))
 
 copied-requires : tie.Need-prep-rows16-requires
-copied-requires c κs = let t = c .before in let s = entry (t .before .before) in let q = copied (s .pre .0) (t .before .if1 .left) (t .if3 .left) in (q .0, q .1, q .2, s .pre .1)
+copied-requires c κs =
+    let t = c .before in let s = entry (t .before .before) in
+    let q = copied (s .pre .0) (t .before .if1 .left) (t .if3 .left) in (q .0, q .1, q .2, s .pre .1)
 
 returns-2 : tie.Need-returns-2
 returns-2 c =
     let r = c .before in let t = r .before .before in let s = entry (t .before .before) in let a = s .args in
-    rw (backn w16 (a .bias) (omega (arith, s .pre .1))) at (r .prep-bilin-axis16 .ensures) ∙ prep-across (a .bits) (a .bias) (a .src .now) (a .tmp .now) (s .pre .0) (omega (arith, t .before .if1)) (t .if2 .left)
+    rw (backn w16 (a .bias) (omega (arith, s .pre .1))) at (r .prep-bilin-axis16 .ensures)
+    ∙ prep-across (a .bits) (a .bias) (a .src .now) (a .tmp .now) (s .pre .0) (omega (arith, t .before .if1)) (t .if2 .left)
 
 returns-3 : tie.Need-returns-3
 returns-3 c =
     let r = c .before in let t = r .before .before in let s = entry (t .before .before) in let a = s .args in
-    rw (backn w16 (a .bias) (omega (arith, s .pre .1))) at (r .prep-bilin-axis162 .ensures) ∙ prep-downward (a .bits) (a .bias) (a .src .now) (a .tmp .now) (s .pre .0) (t .before .if1 .left) (omega (arith, t .if3))
+    rw (backn w16 (a .bias) (omega (arith, s .pre .1))) at (r .prep-bilin-axis162 .ensures)
+    ∙ prep-downward (a .bits) (a .bias) (a .src .now) (a .tmp .now) (s .pre .0) (t .before .if1 .left) (omega (arith, t .if3))
 
 returns-4 : tie.Need-returns-4
 returns-4 c =
     let r = c .before in let t = r .before .before in let s = entry (t .before .before) in let a = s .args in
-    r .prep-rows16 .ensures ∙ prep-copied (a .bits) (a .bias) (a .src .now) (a .tmp .now) (s .pre .0) (t .before .if1 .left) (t .if3 .left)
+    r .prep-rows16 .ensures
+    ∙ prep-copied (a .bits) (a .bias) (a .src .now) (a .tmp .now) (s .pre .0) (t .before .if1 .left) (t .if3 .left)
 
 pub prep-bilin-rows16-spec : {M : Type 1} → statement M
 prep-bilin-rows16-spec =

@@ -1,7 +1,8 @@
 use mathlib.Core.Path.{_≡_, _∙_}
 use native.Mathlib.Omega.{arith}
 use borrow.Author.Needs.{needs}
-use Rattle.blocks.proofs.Laws.BilinReady.{copied, across, downward, prep-copied, prep-across, prep-downward}
+use Rattle.blocks.proofs.Laws.BilinReady.{copied, across, downward}
+use Rattle.blocks.proofs.Laws.BilinRule.{prep-copied, prep-across, prep-downward}
 use Rattle.blocks.proofs.bilinear.prep_bilin_rows8.Statement.{statement}
 use Rattle.blocks.proofs.bilinear.prep_bilin_rows8.Tie as tie
 
@@ -15,28 +16,37 @@ both-requires c κs =
     (s .pre, omega (arith, t .before .if1), omega (arith, t .if2))
 
 across-requires : tie.Need-prep-bilin-axis8-requires
-across-requires c κs = let t = c .before in let s = entry (t .before .before) in across (s .pre) 0 (omega arith) (omega (arith, t .before .if1)) (t .if2 .left)
+across-requires c κs =
+    let t = c .before in let s = entry (t .before .before) in
+    across (s .pre) 0 (omega arith) (omega (arith, t .before .if1)) (t .if2 .left)
 
 downward-requires : tie.Need-prep-bilin-axis8-requires-2
-downward-requires c κs = let t = c .before in let s = entry (t .before .before) in downward (s .pre) 0 (omega arith) (t .before .if1 .left) (omega (arith, t .if3))
+downward-requires c κs =
+    let t = c .before in let s = entry (t .before .before) in
+    downward (s .pre) 0 (omega arith) (t .before .if1 .left) (omega (arith, t .if3))
 
 copied-requires : tie.Need-prep-rows8-requires
-copied-requires c κs = let t = c .before in let s = entry (t .before .before) in copied (s .pre) (t .before .if1 .left) (t .if3 .left)
+copied-requires c κs =
+    let t = c .before in let s = entry (t .before .before) in
+    copied (s .pre) (t .before .if1 .left) (t .if3 .left)
 
 returns-2 : tie.Need-returns-2
 returns-2 c =
     let r = c .before in let t = r .before .before in let s = entry (t .before .before) in let a = s .args in
-    r .prep-bilin-axis8 .ensures ∙ prep-across 4 0 (a .src .now) (a .tmp .now) (s .pre) (omega (arith, t .before .if1)) (t .if2 .left)
+    r .prep-bilin-axis8 .ensures
+    ∙ prep-across 4 0 (a .src .now) (a .tmp .now) (s .pre) (omega (arith, t .before .if1)) (t .if2 .left)
 
 returns-3 : tie.Need-returns-3
 returns-3 c =
     let r = c .before in let t = r .before .before in let s = entry (t .before .before) in let a = s .args in
-    r .prep-bilin-axis82 .ensures ∙ prep-downward 4 0 (a .src .now) (a .tmp .now) (s .pre) (t .before .if1 .left) (omega (arith, t .if3))
+    r .prep-bilin-axis82 .ensures
+    ∙ prep-downward 4 0 (a .src .now) (a .tmp .now) (s .pre) (t .before .if1 .left) (omega (arith, t .if3))
 
 returns-4 : tie.Need-returns-4
 returns-4 c =
     let r = c .before in let t = r .before .before in let s = entry (t .before .before) in let a = s .args in
-    r .prep-rows8 .ensures ∙ prep-copied 4 0 (a .src .now) (a .tmp .now) (s .pre) (t .before .if1 .left) (t .if3 .left)
+    r .prep-rows8 .ensures
+    ∙ prep-copied 4 0 (a .src .now) (a .tmp .now) (s .pre) (t .before .if1 .left) (t .if3 .left)
 
 pub prep-bilin-rows8-spec : {M : Type 1} → statement M
 prep-bilin-rows8-spec =

@@ -12,7 +12,8 @@ use Rattle.blocks.proofs.bilinear.put_bilin_axis16.Statement.{statement
 use Rattle.blocks.proofs.bilinear.put_bilin_axis16.Tie as tie
 
 abbrev Inv-loop : tie.InvT-loop
-Inv-loop dst₀ ds src ss w h step f n r k max y₀ dst y = Filled ds w (λ i j. clip max (shrZ (R n (bilinAt (px src) (j * ss + i) step f) +ℤ pos r) (2 ^ k))) dst₀ h y dst
+Inv-loop dst₀ ds src ss w h step f n r k max y₀ dst y =
+    Filled ds w (λ i j. clip max (shrZ (R n (bilinAt (px src) (j * ss + i) step f) +ℤ pos r) (2 ^ k))) dst₀ h y dst
 
 abbrev μ-loop : tie.MeasureT-loop
 μ-loop dst₀ ds src ss w h step f n r k max y₀ dst y = h - y

@@ -1,7 +1,8 @@
 use mathlib.Core.Path.{_∙_}
 use native.Mathlib.Omega.{arith}
 use borrow.Author.Needs.{needs}
-use Rattle.blocks.proofs.Laws.BilinReady.{first, second, put-twice}
+use Rattle.blocks.proofs.Laws.BilinReady.{first, second}
+use Rattle.blocks.proofs.Laws.BilinRule.{put-twice}
 use Rattle.blocks.proofs.bilinear.put_bilin_both16.Statement.{statement}
 use Rattle.blocks.proofs.bilinear.put_bilin_both16.Tie as tie
 

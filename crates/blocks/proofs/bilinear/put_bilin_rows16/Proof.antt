@@ -2,7 +2,8 @@ use mathlib.Core.Path.{_≡_, sym, _∙_}
 use native.Mathlib.Omega.{arith}
 use borrow.Author.Needs.{needs}
 use Rattle.rows.proofs.Laws.Warp.{half-of}
-use Rattle.blocks.proofs.Laws.BilinReady.{copied, across, downward, put-copied, put-across, put-downward, half-small}
+use Rattle.blocks.proofs.Laws.BilinReady.{copied, across, downward, half-small}
+use Rattle.blocks.proofs.Laws.BilinRule.{put-copied, put-across, put-downward}
 use Rattle.blocks.proofs.bilinear.put_bilin_rows16.Statement.{statement}
 use Rattle.blocks.proofs.bilinear.put_bilin_rows16.Tie as tie
 
@@ -16,28 +17,37 @@ both-requires c κs =
     (s .pre .0, omega (arith, t .before .if1), omega (arith, t .if2), s .pre .2)
 
 across-requires : tie.Need-put-bilin-axis16-requires
-across-requires c κs = let t = c .before .before in let s = entry (t .before .before) in (across (s .pre .0) _ (omega (arith, s .pre)) (omega (arith, t .before .if1)) (t .if2 .left), half-small (c .half-power .ensures .0) (s .pre .2), s .pre .2)
+across-requires c κs =
+    let t = c .before .before in let s = entry (t .before .before) in
+    (across (s .pre .0) _ (omega (arith, s .pre)) (omega (arith, t .before .if1)) (t .if2 .left), half-small (c .half-power .ensures .0) (s .pre .2), s .pre .2)
 
 downward-requires : tie.Need-put-bilin-axis16-requires-2
-downward-requires c κs = let t = c .before in let s = entry (t .before .before) in (downward (s .pre .0) 4 (omega arith) (t .before .if1 .left) (omega (arith, t .if3)), omega arith, omega arith)
+downward-requires c κs =
+    let t = c .before in let s = entry (t .before .before) in
+    (downward (s .pre .0) 4 (omega arith) (t .before .if1 .left) (omega (arith, t .if3)), omega arith, omega arith)
 
 copied-requires : tie.Need-put-rows16-requires
-copied-requires c κs = let t = c .before in let s = entry (t .before .before) in copied (s .pre .0) (t .before .if1 .left) (t .if3 .left)
+copied-requires c κs =
+    let t = c .before in let s = entry (t .before .before) in
+    copied (s .pre .0) (t .before .if1 .left) (t .if3 .left)
 
 returns-2 : tie.Need-returns-2
 returns-2 c =
     let r = c .before .before in let t = r .before .before .before in let s = entry (t .before .before) in let a = s .args in
-    rw (r .before .half-power .ensures .0, ← half-of (a .bits) (s .pre .1)) at (r .put-bilin-axis16 .ensures) ∙ put-across (a .max) (a .bits) (a .src .now) (a .dst .now) (s .pre .0) (omega (arith, t .before .if1)) (t .if2 .left)
+    rw (r .before .half-power .ensures .0, ← half-of (a .bits) (s .pre .1)) at (r .put-bilin-axis16 .ensures)
+    ∙ put-across (a .max) (a .bits) (a .src .now) (a .dst .now) (s .pre .0) (omega (arith, t .before .if1)) (t .if2 .left)
 
 returns-3 : tie.Need-returns-3
 returns-3 c =
     let r = c .before .before in let t = r .before .before in let s = entry (t .before .before) in let a = s .args in
-    r .put-bilin-axis162 .ensures ∙ put-downward (a .max) (a .bits) (a .src .now) (a .dst .now) (s .pre .0) (t .before .if1 .left) (omega (arith, t .if3))
+    r .put-bilin-axis162 .ensures
+    ∙ put-downward (a .max) (a .bits) (a .src .now) (a .dst .now) (s .pre .0) (t .before .if1 .left) (omega (arith, t .if3))
 
 returns-4 : tie.Need-returns-4
 returns-4 c =
     let r = c .before .before in let t = r .before .before in let s = entry (t .before .before) in let a = s .args in
-    r .put-rows16 .ensures ∙ put-copied (a .max) (a .bits) (a .src .now) (a .dst .now) (s .pre .0) (t .before .if1 .left) (t .if3 .left)
+    r .put-rows16 .ensures
+    ∙ put-copied (a .max) (a .bits) (a .src .now) (a .dst .now) (s .pre .0) (t .before .if1 .left) (t .if3 .left)
 
 pub put-bilin-rows16-spec : {M : Type 1} → statement M
 put-bilin-rows16-spec =
