@@ -15,7 +15,7 @@ entry c = c .before .before
 second-requires : tie.Need-mid-bilin-prep-rows-requires
 second-requires c κs =
     let m = c .before .before .before in let s = entry (m .before) in
-    second (s .pre .0) 4 (omega arith) _ (omega (arith, m .prep-bilin-axis16 .kept .0))
+    second (s .pre .0) _ (omega (arith, s .pre .3)) _ (omega (arith, m .prep-bilin-axis16 .kept .0))
 
 returns : tie.Need-returns
 returns c =

@@ -13,7 +13,7 @@ entry c = c .before .before
 second-requires : tie.Need-mid-bilin-prep-rows-requires
 second-requires c κs =
     let m = c .before .before .before in let s = entry (m .before) in
-    second (s .pre .0) 4 (omega arith) _ (omega (arith, m .prep-bilin-axis8 .kept .0))
+    second (s .pre .0) _ (omega (arith)) _ (omega (arith, m .prep-bilin-axis8 .kept .0))
 
 returns : tie.Need-returns
 returns c =
@@ -29,7 +29,7 @@ prep-bilin-both8-spec =
     (tie.spec
     (λ c. search needs)  -- slice-aggregate-prep-bilin-axis8
     (λ c. omega (arith, entry c .pre .0 .block))  -- add-prep-bilin-axis8
-    (λ c κs. let s = entry c in first (s .pre .0) 0 (omega arith) _ (omega arith) (s .pre .1) (s .pre .2))  -- prep-bilin-axis8-requires
+    (λ c κs. let s = entry c in first (s .pre .0) _ (omega arith) _ (omega arith) (s .pre .1) (s .pre .2))  -- prep-bilin-axis8-requires
     (λ c. search needs)  -- slice-aggregate-mid-bilin-prep-rows
     second-requires
     (λ c. search needs)  -- same-length

@@ -18,12 +18,12 @@ both-requires c κs =
 across-requires : tie.Need-prep-bilin-axis8-requires
 across-requires c κs =
     let t = c .before in let s = entry (t .before .before) in
-    across (s .pre) 0 (omega arith) (omega (arith, t .before .if1)) (t .if2 .left)
+    across (s .pre) _ (omega arith) (omega (arith, t .before .if1)) (t .if2 .left)
 
 downward-requires : tie.Need-prep-bilin-axis8-requires-2
 downward-requires c κs =
     let t = c .before in let s = entry (t .before .before) in
-    downward (s .pre) 0 (omega arith) (t .before .if1 .left) (omega (arith, t .if3))
+    downward (s .pre) _ (omega arith) (t .before .if1 .left) (omega (arith, t .if3))
 
 copied-requires : tie.Need-prep-rows8-requires
 copied-requires c κs =

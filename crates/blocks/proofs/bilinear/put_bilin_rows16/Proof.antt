@@ -24,7 +24,7 @@ across-requires c κs =
 downward-requires : tie.Need-put-bilin-axis16-requires-2
 downward-requires c κs =
     let t = c .before in let s = entry (t .before .before) in
-    (downward (s .pre .0) 4 (omega arith) (t .before .if1 .left) (omega (arith, t .if3)), omega arith, omega arith)
+    (downward (s .pre .0) _ (omega arith) (t .before .if1 .left) (omega (arith, t .if3)), omega arith, omega arith)
 
 copied-requires : tie.Need-put-rows16-requires
 copied-requires c κs =

@@ -18,12 +18,12 @@ both-requires c κs =
 across-requires : tie.Need-put-bilin-axis8-requires
 across-requires c κs =
     let t = c .before in let s = entry (t .before .before) in
-    (across (s .pre) 0 (omega arith) (omega (arith, t .before .if1)) (t .if2 .left), omega arith, omega arith)
+    (across (s .pre) _ (omega arith) (omega (arith, t .before .if1)) (t .if2 .left), omega arith, omega arith)
 
 downward-requires : tie.Need-put-bilin-axis8-requires-2
 downward-requires c κs =
     let t = c .before in let s = entry (t .before .before) in
-    (downward (s .pre) 4 (omega arith) (t .before .if1 .left) (omega (arith, t .if3)), omega arith, omega arith)
+    (downward (s .pre) _ (omega arith) (t .before .if1 .left) (omega (arith, t .if3)), omega arith, omega arith)
 
 copied-requires : tie.Need-put-rows8-requires
 copied-requires c κs =
