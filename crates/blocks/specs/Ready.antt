@@ -94,6 +94,10 @@ pub record Moves (bw4 bh4 mvx mvy bx4 by4 : ℤ) : Type 0 where
   pub mv-y : natAbs mvy ≤ 2 ^ 20
   pub column : natAbs bx4 ≤ 16384
   pub row : natAbs by4 ≤ 16384
+-- a depth, as the sums shift by it
+pub record Deep (depth : ℕ) : Type 0 where
+  pub least : 8 ≤ depth
+  pub most : depth ≤ 12
 
 -- two blocks of w columns and h rows, from place o0 of l0 places and from place o1 of l1 places on
 pub record Blocks (l0 o0 s0 l1 o1 s1 w h : ℕ) : Type 0 where

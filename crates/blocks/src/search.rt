@@ -9,13 +9,16 @@ ghost use Rattle.rows.specs.Numbers.{up};
 ghost use Rattle.rows.specs.Places.{pixel};
 ghost use Rattle.rows.specs.Search.{sad, sadAt, better, visit, through, steps, search, answer, refine};
 ghost use Rattle.blocks.specs.Refuse.{lowest, depthOk};
-ghost use Rattle.blocks.specs.Ready.{Block, Blocks, Wider};
+ghost use Rattle.blocks.specs.Ready.{Block, Blocks, Wider, Deep};
 ghost use Rattle.blocks.specs.Search.{bestOf, sadsTests, SadAnswer, RefineAnswer};
+use crate::refuse::above;
+use crate::refuse::depth_ok;
 use crate::refuse::held;
 use crate::refuse::needed;
 use crate::refuse::sizes;
 use crate::refuse::stride;
 use rows::search::sad_row8;
+use rows::search::sad_row16;
 
 // The best sum so far and its offset, once one is found.
 pub struct Best {
@@ -312,6 +315,234 @@ pub extern "C" fn hv_sad_refine_mv_8bpc(
     let number = check_sads(8, true, p0.len(), p0_stride, p1.len(), p1_stride, w, h);
     if number == 0 {
         let o = refine8(p0, p0_stride, p1, p1_stride, w, h, is_implicit);
+        let x = o.dx;
+        let y = o.dy;
+        *dx = x;
+        *dy = y;
+    } else {
+        *dx = 0;
+        *dy = 0;
+    }
+    number
+}
+
+// The same for 16-bit pixels, whose sums are shifted right by depth - 8.
+fn sad_sum16(
+    depth: u32,
+    p0: &[u16],
+    o0: usize,
+    s0: usize,
+    p1: &[u16],
+    o1: usize,
+    s1: usize,
+    w: usize,
+    h: usize,
+) -> u32
+    requires { ⌜ Blocks (length (now p0)) o0 s0 (length (now p1)) o1 s1 w h × Deep depth ⌝ }
+    ensures { λ r. ⌜ (r ≡ sad depth (λ i j. getD (now (p0 .entry)) (o0 + j * s0 + i) 0) (λ i j. getD (now (p1 .entry)) (o1 + j * s1 + i) 0) w h) × (r ≤ 2 ^ 28) ⌝ }
+{
+    let n = (h + 1) / 2;
+    let mut s: u32 = 0;
+    let mut r = 0;
+    while r < n {
+        let y = 2 * r;
+        s += sad_row16(p0, o0 + y * s0, p1, o1 + y * s1, w);
+        r += 1;
+    }
+    s >> (depth - 8)
+}
+
+fn sad_at16(
+    depth: u32,
+    p0: &[u16],
+    s0: usize,
+    p1: &[u16],
+    s1: usize,
+    w: usize,
+    h: usize,
+    dx: i32,
+    dy: i32,
+) -> u32
+    requires { ⌜ Wider (length (now p0)) s0 (length (now p1)) s1 w h × (natAbs dx ≤ 2) × (natAbs dy ≤ 2) × Deep depth ⌝ }
+    ensures { λ r. ⌜ (r ≡ sadAt depth (pixel (now (p0 .entry)) s0) (pixel (now (p1 .entry)) s1) w h (record { dx = dx; dy = dy })) × (r ≤ 2 ^ 28) ⌝ }
+{
+    let o0 = first_place(s0, dx, dy);
+    let o1 = second_place(s1, dx, dy);
+    sad_sum16(depth, p0, o0, s0, p1, o1, s1, w + 4, h + 4)
+}
+
+fn visit16(
+    depth: u32,
+    p0: &[u16],
+    s0: usize,
+    p1: &[u16],
+    s1: usize,
+    w: usize,
+    h: usize,
+    dx: i32,
+    dy: i32,
+    b: Best,
+) -> Best
+    requires { ⌜ Wider (length (now p0)) s0 (length (now p1)) s1 w h × (natAbs dx ≤ 2) × (natAbs dy ≤ 2) × Deep depth ⌝ }
+    ensures { λ r. ⌜ bestOf r ≡ visit (sadAt depth (pixel (now (p0 .entry)) s0) (pixel (now (p1 .entry)) s1) w h) dy dx (bestOf b) ⌝ }
+{
+    if is_centre(dx, dy) {
+        return b;
+    }
+    let sum = sad_at16(depth, p0, s0, p1, s1, w, h, dx, dy);
+    take_better(b, sum, dx, dy)
+}
+
+fn visit_row16(
+    depth: u32,
+    p0: &[u16],
+    s0: usize,
+    p1: &[u16],
+    s1: usize,
+    w: usize,
+    h: usize,
+    dy: i32,
+    b: Best,
+) -> Best
+    requires { ⌜ Wider (length (now p0)) s0 (length (now p1)) s1 w h × (natAbs dy ≤ 2) × Deep depth ⌝ }
+    ensures { λ r. ⌜ bestOf r ≡ through steps (λ dx. visit (sadAt depth (pixel (now (p0 .entry)) s0) (pixel (now (p1 .entry)) s1) w h) dy dx) (bestOf b) ⌝ }
+{
+    let b = visit16(depth, p0, s0, p1, s1, w, h, -2, dy, b);
+    let b = visit16(depth, p0, s0, p1, s1, w, h, -1, dy, b);
+    let b = visit16(depth, p0, s0, p1, s1, w, h, 0, dy, b);
+    let b = visit16(depth, p0, s0, p1, s1, w, h, 1, dy, b);
+    visit16(depth, p0, s0, p1, s1, w, h, 2, dy, b)
+}
+
+fn search16(
+    depth: u32,
+    p0: &[u16],
+    s0: usize,
+    p1: &[u16],
+    s1: usize,
+    w: usize,
+    h: usize,
+    b: Best,
+) -> Best
+    requires { ⌜ Wider (length (now p0)) s0 (length (now p1)) s1 w h × Deep depth ⌝ }
+    ensures { λ r. ⌜ bestOf r ≡ search (sadAt depth (pixel (now (p0 .entry)) s0) (pixel (now (p1 .entry)) s1) w h) (bestOf b) ⌝ }
+{
+    let b = visit_row16(depth, p0, s0, p1, s1, w, h, -2, b);
+    let b = visit_row16(depth, p0, s0, p1, s1, w, h, -1, b);
+    let b = visit_row16(depth, p0, s0, p1, s1, w, h, 0, b);
+    let b = visit_row16(depth, p0, s0, p1, s1, w, h, 1, b);
+    visit_row16(depth, p0, s0, p1, s1, w, h, 2, b)
+}
+
+fn implicit16(depth: u32, p0: &[u16], s0: usize, p1: &[u16], s1: usize, w: usize, h: usize) -> Best
+    requires { ⌜ Wider (length (now p0)) s0 (length (now p1)) s1 w h × Deep depth ⌝ }
+    ensures { λ r. ⌜ answer (bestOf r) ≡ refine depth true (pixel (now (p0 .entry)) s0) (pixel (now (p1 .entry)) s1) w h ⌝ }
+{
+    let sum = kept_of(sad_at16(depth, p0, s0, p1, s1, w, h, 0, 0));
+    let b = Best {
+        found: true,
+        sum,
+        dx: 0,
+        dy: 0,
+    };
+    if is_enough(sum, w, h) {
+        return b;
+    }
+    search16(depth, p0, s0, p1, s1, w, h, b)
+}
+
+fn refine16(
+    depth: u32,
+    p0: &[u16],
+    s0: usize,
+    p1: &[u16],
+    s1: usize,
+    w: usize,
+    h: usize,
+    is_implicit: bool,
+) -> Offset
+    requires { ⌜ Wider (length (now p0)) s0 (length (now p1)) s1 w h × Deep depth ⌝ }
+    ensures { λ r. ⌜ record { dx = r .dx; dy = r .dy } ≡ refine depth «is_implicit» (pixel (now (p0 .entry)) s0) (pixel (now (p1 .entry)) s1) w h ⌝ }
+{
+    if is_implicit {
+        return offset_of(implicit16(depth, p0, s0, p1, s1, w, h));
+    }
+    let b = Best {
+        found: false,
+        sum: 0,
+        dx: 0,
+        dy: 0,
+    };
+    offset_of(search16(depth, p0, s0, p1, s1, w, h, b))
+}
+
+#[no_mangle]
+pub extern "C" fn hv_sad_nxn_16bpc(
+    depth: i32,
+    p0: &[u16],
+    p0_stride: usize,
+    p1: &[u16],
+    p1_stride: usize,
+    w: usize,
+    h: usize,
+    sum: &mut i32,
+) -> u32
+    ensures { λ r. ⌜ SadAnswer (depthOk depth) (up depth) (now (p0 .entry)) «p0_stride» (now (p1 .entry)) «p1_stride» w h r (now (sum .exit)) ⌝ }
+{
+    let number = check_sads(
+        0,
+        depth_ok(depth),
+        p0.len(),
+        p0_stride,
+        p1.len(),
+        p1_stride,
+        w,
+        h,
+    );
+    if number == 0 {
+        *sum = sad_sum16(above(depth), p0, 0, p0_stride, p1, 0, p1_stride, w, h) as i32;
+    } else {
+        *sum = 0;
+    }
+    number
+}
+
+#[no_mangle]
+pub extern "C" fn hv_sad_refine_mv_16bpc(
+    depth: i32,
+    p0: &[u16],
+    p0_stride: usize,
+    p1: &[u16],
+    p1_stride: usize,
+    w: usize,
+    h: usize,
+    is_implicit: bool,
+    dx: &mut i32,
+    dy: &mut i32,
+) -> u32
+    ensures { λ r. ⌜ RefineAnswer (depthOk depth) (up depth) (now (p0 .entry)) «p0_stride» (now (p1 .entry)) «p1_stride» w h «is_implicit» r (now (dx .exit)) (now (dy .exit)) ⌝ }
+{
+    let number = check_sads(
+        8,
+        depth_ok(depth),
+        p0.len(),
+        p0_stride,
+        p1.len(),
+        p1_stride,
+        w,
+        h,
+    );
+    if number == 0 {
+        let o = refine16(
+            above(depth),
+            p0,
+            p0_stride,
+            p1,
+            p1_stride,
+            w,
+            h,
+            is_implicit,
+        );
         let x = o.dx;
         let y = o.dy;
         *dx = x;

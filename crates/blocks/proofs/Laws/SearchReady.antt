@@ -3,7 +3,7 @@ use mathlib.Core.Path.{_≡_, refl, sym, ap, ap₂, _∙_, fun-ext}
 use mathlib.Core.Bool.{Bool, true, false, _&&_}
 use mathlib.Core.List.{List, [], _∷_}
 use Prim.Native.Nat.{ℕ, zero, suc, _+_, _-_, _*_, _/_, _^_, _≤_, _<_}
-use native.Mathlib.Nat.{add-zero, mul-le-mul-right, add-mul}
+use native.Mathlib.Nat.{add-zero, le-trans, div-le-self, mul-le-mul-right, add-mul}
 use native.Mathlib.Omega.{arith}
 use borrow.Author.Tests.{lt-ltb, le-ltb, eqb-true, eqb-false, eq-eqb, ne-eqb}
 use lib.Dec.{T, ltb, eqb}
@@ -16,10 +16,12 @@ use Rattle.rows.specs.Numbers.{up, dn, px, apart, sum}
 use Rattle.rows.specs.Places.{pixel}
 use Rattle.rows.specs.Search.{rowApart, sad, moved, sadAt, Offset, Best, none, best, better, visit, through, steps, search, answer, centre, refine}
 use Rattle.rows.proofs.Laws.Signed.{back, backn, fit-abs, add-parts, sub-parts, one-part, abs-parts, nonNeg-of}
-use Rattle.blocks.specs.Refuse.{size, _asks_, need, lowest, orSame, sizeOk, strideOk, holds}
-use Rattle.blocks.specs.Ready.{Block, Rows, Blocks, Wider}
+use Rattle.rows.proofs.Laws.Depth.{high}
+use Rattle.blocks.specs.Refuse.{size, _asks_, need, lowest, orSame, sizeOk, strideOk, holds, depthOk}
+use Rattle.blocks.specs.Ready.{Block, Rows, Deep, Blocks, Wider}
 use Rattle.blocks.specs.declared.search.Best as code
 use Rattle.blocks.specs.Search.{bestOf, sadsTests, sadTests, refineTests, SadAnswer, RefineAnswer}
+use Rattle.blocks.proofs.Laws.Deep.{deep-high}
 use Rattle.blocks.proofs.Laws.Refuse.{all-met, done}
 use Rattle.blocks.proofs.Laws.Ready.{block-met, rows-met}
 use Rattle.blocks.proofs.Laws.Unique.{unique}
@@ -51,6 +53,10 @@ sads-ready m deep l0 s0 l1 s1 w h e =
     let b = r .1 .1 .1 in
     (block-met w h (t .0) (t .1 .0), rows-met l0 s0 (w + m) (h + m) (r .0) (b .0), rows-met l1 s1 (w + m) (h + m) (r .1 .0) (b .1 .0), r .1 .1 .0)
 
+pub deep-limits : (depth : ℤ) → depthOk depth ≡ true → Deep (up depth)
+deep-limits depth e =
+    high Deep (deep-high depth e) (record { least = omega arith; most = omega arith }) (record { least = omega arith; most = omega arith })
+
 -- row y of both blocks is within its buffer
 pub rows-of : {l0 o0 s0 l1 o1 s1 w h : ℕ} (y : ℕ) → Blocks l0 o0 s0 l1 o1 s1 w h → y < h → (o0 + y * s0 + w ≤ l0) × (o1 + y * s1 + w ≤ l1)
 rows-of {s0} {s1} {h} y b lt =
@@ -71,6 +77,12 @@ row-apart p o s q o′ s′ w y e = e
 pub sad-bytes : (p q : ℕ → ℕ → ℕ) (w h : ℕ) {n : ℕ} → n ≡ sum ((h + 1) / 2) (λ r. rowApart p q w (2 * r)) → n ≡ sad 8 p q w h
 unfolding sad
 sad-bytes p q w h e = omega arith
+
+-- 16-bit pixels are
+pub sad-shifted : (depth : ℕ) (p q : ℕ → ℕ → ℕ) (w h : ℕ) {n : ℕ} → (n ≡ sum ((h + 1) / 2) (λ r. rowApart p q w (2 * r))) × (n ≤ 2 ^ 28)
+    → (n / 2 ^ (depth - 8) ≡ sad depth p q w h) × (n / 2 ^ (depth - 8) ≤ 2 ^ 28)
+unfolding sad
+sad-shifted depth p q w h {n} e = (ap (λ (m : ℕ). m / 2 ^ (depth - 8)) (e .0), le-trans (div-le-self n (2 ^ (depth - 8))) (e .1))
 
 -- from the first place on, or from column x of row y on, of a plane of rows
 pub from-first : (l : List ℕ) (s : ℕ) → from l 0 s ≡ pixel l s

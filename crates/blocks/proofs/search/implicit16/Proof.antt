@@ -1,0 +1,33 @@
+use borrow.Author.Needs.{needs}
+use mathlib.Core.Path.{_≡_, sym, _∙_}
+use Rattle.rows.specs.Places.{pixel}
+use Rattle.rows.specs.Search.{answer}
+use Rattle.blocks.specs.Search.{bestOf}
+use Rattle.blocks.proofs.Laws.SearchReady.{refine-at-once, refine-searched}
+use Rattle.blocks.proofs.search.implicit16.Statement.{statement}
+use Rattle.blocks.proofs.search.implicit16.Tie as tie
+
+returns : tie.Need-returns
+unfolding answer bestOf
+returns c =
+    let e = c .before in let k = e .before in let s = k .before in let a = s .before .before .before .args in
+    refine-at-once (a .depth) (pixel (a .p0 .now) (a .s0)) (pixel (a .p1 .now) (a .s1)) (a .w) (a .h) (s .sad-at16 .ensures .0) (k .kept-of .ensures)
+    (sym (e .is-enough .ensures) ∙ c .if1 .taken)
+
+returns-2 : tie.Need-returns-2
+unfolding bestOf
+returns-2 c =
+    let t = c .before in let e = t .before in let k = e .before in let s = k .before in let a = s .before .before .before .args in
+    refine-searched (a .depth) (pixel (a .p0 .now) (a .s0)) (pixel (a .p1 .now) (a .s1)) (a .w) (a .h) (s .sad-at16 .ensures .0) (k .kept-of .ensures)
+    (sym (e .is-enough .ensures) ∙ t .if1 .left) (c .search16 .ensures)
+
+pub implicit16-spec : {M : Type 1} → statement M
+implicit16-spec =
+    tie.close
+    (tie.spec
+    (λ c κs. search needs)  -- sad-at16-requires
+    (λ c κs. search needs)  -- kept-of-requires
+    (λ c κs. search needs)  -- is-enough-requires
+    returns
+    (λ c κs. search needs)  -- search16-requires
+    returns-2)
