@@ -24,12 +24,6 @@ row : (c : tie.In-loop Inv-loop μ-loop) → let a = entry c .args in let y = c 
 row c =
     let p = entry c .pre in let y = c .before .loop .y in let lt = c .loop-test .taken in
     (turn (pos 0) (c .before .loop .inv) (p .1) lt, row-in y (p .2) lt)
-    (omega (arith, row-in y (p .1) lt, c .before .loop .inv .len), row-in y (p .2) lt)
-
-prep-row16-requires : tie.Need-prep-row16-requires Inv-loop μ-loop
-prep-row16-requires c κs =
-    let t = c .before in
-    omega (arith, row t, entry t .pre .3, filled-span (pos 0) (t .before .loop .inv) (entry t .pre .1) (t .loop-test .taken))
 
 loop-again : tie.Need-loop-again Inv-loop μ-loop
 loop-again c =
