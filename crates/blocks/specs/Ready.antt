@@ -73,6 +73,13 @@ pub record Margins (sl o s : ℕ) : Type 0 where
   pub before : 3 * s + 3 ≤ o
   pub after : o + 11 * s + 11 < sl
 
+-- a block of warp: what is written and read, and its two passes
+pub record Warps (dl ds sl off ss n : ℕ) (a b c d mx my : ℤ) : Type 0 where
+  pub dst : Rows dl ds 8 8
+  pub src : Margins sl off ss
+  pub first : Pass n mx a b 15
+  pub second : Pass n my c d 8
+
 -- a divisor, and a table of reciprocals that has its place
 pub record Divides (d rl : ℕ) : Type 0 where
   pub least : 1 ≤ d

@@ -4,12 +4,14 @@ ghost use mathlib.Core.Bool.{true};
 ghost use Prim.Native.Nat.{ℕ, suc, _+_, _-_, _*_, _/_, _^_, _≤_};
 ghost use lib.IntN.{ℤ, pos, natAbs};
 ghost use lib.ListN.{length};
-ghost use Rattle.rows.specs.Numbers.{at, px, clip, low16, minus16};
+ghost use Rattle.rows.specs.Numbers.{at, px, clip, low16, minus16, up};
 ghost use Rattle.rows.specs.Places.{fill, around};
 ghost use Rattle.rows.specs.Warp.{filterNo, isThere, every, allThere, warped, warpPut, warpPrep};
-ghost use Rattle.blocks.specs.Refuse.{need, lowest, strideOk, holds, reads, wholeFilters};
-ghost use Rattle.blocks.specs.Ready.{Rows, Pass, Margins};
+ghost use Rattle.blocks.specs.Refuse.{need, lowest, strideOk, holds, reads, wholeFilters, depthOk};
+ghost use Rattle.blocks.specs.Ready.{Rows, Pass, Warps};
 ghost use Rattle.blocks.specs.Warp.{warpPlaceOk, warpTests, WarpAnswer, WarpTAnswer};
+use crate::refuse::depth_numbers;
+use crate::refuse::depth_ok;
 use crate::refuse::held;
 use crate::refuse::needed;
 use crate::refuse::stride;
@@ -17,7 +19,9 @@ use crate::shear::within;
 use rows::warp::filter_no;
 use rows::warp::warp_prep_row;
 use rows::warp::warp_put_row8;
+use rows::warp::warp_put_row16;
 use rows::warp::warp_row8;
+use rows::warp::warp_row16;
 
 // The filter of column c of row r of a pass is one of the table's n.
 fn corner_there(m: i32, a: i16, b: i16, r: u32, c: u32, n: usize) -> bool
@@ -181,6 +185,39 @@ fn warp_mid8(
     }
 }
 
+fn warp_mid16(
+    mid: &mut [i16],
+    src: &[u16],
+    o: usize,
+    s: usize,
+    table: &[i8],
+    m: i32,
+    a: i16,
+    b: i16,
+    bits: u32,
+)
+    requires { ⌜ (length (now mid) ≡ 120) × (o + 14 * s + 15 ≤ length (now src)) × Pass (length (now table) / 8) m a b 15 × (bits ≤ 4) ⌝ }
+    ensures { λ _. ⌜ now (mid .exit) ≡ fill (now (mid .entry)) 8 8 15
+        (λ i r. low16 (warped (now (table .entry)) m a b (7 - bits) r i (λ u. px (now (src .entry)) (o + r * s + i + u)))) ⌝ }
+{
+    let mut y = 0;
+    while y < 15 {
+        let d = y * 8;
+        warp_row16(
+            &mut mid[d..d + 8],
+            src,
+            o + y * s,
+            table,
+            m,
+            a,
+            b,
+            y as u32,
+            7 - bits,
+        );
+        y += 1;
+    }
+}
+
 // The second pass, put.
 fn warp_put_rows8(
     dst: &mut [u8],
@@ -209,6 +246,40 @@ fn warp_put_rows8(
             b,
             y as u32,
             7 + bits,
+        );
+        y += 1;
+    }
+}
+
+fn warp_put_rows16(
+    dst: &mut [u16],
+    dst_stride: usize,
+    mid: &[i16],
+    table: &[i8],
+    m: i32,
+    a: i16,
+    b: i16,
+    bits: u32,
+    max: u16,
+)
+    requires { ⌜ Rows (length (now dst)) «dst_stride» 8 8 × (length (now mid) ≡ 120) × Pass (length (now table) / 8) m a b 8 × (bits ≤ 4) ⌝ }
+    ensures { λ _. ⌜ now (dst .exit) ≡ fill (now (dst .entry)) «dst_stride» 8 8
+        (λ i j. clip max (low16 (warped (now (table .entry)) m a b (7 + bits) j i (λ v. at (now (mid .entry)) (j * 8 + i + v * 8))))) ⌝ }
+{
+    let mut y = 0;
+    while y < 8 {
+        let d = y * dst_stride;
+        warp_put_row16(
+            &mut dst[d..d + 8],
+            mid,
+            y * 8,
+            table,
+            m,
+            a,
+            b,
+            y as u32,
+            7 + bits,
+            max,
         );
         y += 1;
     }
@@ -262,8 +333,7 @@ fn warp_put8(
     my: i32,
     warp: &[i8],
 )
-    requires { ⌜ Rows (length (now dst)) «dst_stride» 8 8 × Margins (length (now src)) «src_off» «src_stride»
-        × Pass (length (now warp) / 8) mx a b 15 × Pass (length (now warp) / 8) my c d 8 ⌝ }
+    requires { ⌜ Warps (length (now dst)) «dst_stride» (length (now src)) «src_off» «src_stride» (length (now warp) / 8) a b c d mx my ⌝ }
     ensures { λ _. ⌜ now (dst .exit) ≡ fill (now (dst .entry)) «dst_stride» 8 8
         (λ i j. warpPut 255 4 (now (warp .entry)) mx my a b c d i j (around 3 (now (src .entry)) «src_off» «src_stride» i j)) ⌝ }
 {
@@ -282,6 +352,41 @@ fn warp_put8(
     warp_put_rows8(dst, dst_stride, &mid, warp, my, c, d, 4);
 }
 
+fn warp_put16(
+    dst: &mut [u16],
+    dst_stride: usize,
+    src: &[u16],
+    src_stride: usize,
+    src_off: usize,
+    a: i16,
+    b: i16,
+    c: i16,
+    d: i16,
+    mx: i32,
+    my: i32,
+    warp: &[i8],
+    bits: u32,
+    max: u16,
+)
+    requires { ⌜ Warps (length (now dst)) «dst_stride» (length (now src)) «src_off» «src_stride» (length (now warp) / 8) a b c d mx my × (bits ≤ 4) ⌝ }
+    ensures { λ _. ⌜ now (dst .exit) ≡ fill (now (dst .entry)) «dst_stride» 8 8
+        (λ i j. warpPut max bits (now (warp .entry)) mx my a b c d i j (around 3 (now (src .entry)) «src_off» «src_stride» i j)) ⌝ }
+{
+    let mut mid = [0i16; 120];
+    warp_mid16(
+        &mut mid,
+        src,
+        src_off - (3 * src_stride + 3),
+        src_stride,
+        warp,
+        mx,
+        a,
+        b,
+        bits,
+    );
+    warp_put_rows16(dst, dst_stride, &mid, warp, my, c, d, bits, max);
+}
+
 fn warp_prep8(
     tmp: &mut [i16],
     tmp_stride: usize,
@@ -296,8 +401,7 @@ fn warp_prep8(
     my: i32,
     warp: &[i8],
 )
-    requires { ⌜ Rows (length (now tmp)) «tmp_stride» 8 8 × Margins (length (now src)) «src_off» «src_stride»
-        × Pass (length (now warp) / 8) mx a b 15 × Pass (length (now warp) / 8) my c d 8 ⌝ }
+    requires { ⌜ Warps (length (now tmp)) «tmp_stride» (length (now src)) «src_off» «src_stride» (length (now warp) / 8) a b c d mx my ⌝ }
     ensures { λ _. ⌜ now (tmp .exit) ≡ fill (now (tmp .entry)) «tmp_stride» 8 8
         (λ i j. warpPrep 4 0 (now (warp .entry)) mx my a b c d i j (around 3 (now (src .entry)) «src_off» «src_stride» i j)) ⌝ }
 {
@@ -314,6 +418,41 @@ fn warp_prep8(
         4,
     );
     warp_prep_rows(tmp, tmp_stride, &mid, warp, my, c, d, 0);
+}
+
+fn warp_prep16(
+    tmp: &mut [i16],
+    tmp_stride: usize,
+    src: &[u16],
+    src_stride: usize,
+    src_off: usize,
+    a: i16,
+    b: i16,
+    c: i16,
+    d: i16,
+    mx: i32,
+    my: i32,
+    warp: &[i8],
+    bits: u32,
+    bias: u32,
+)
+    requires { ⌜ Warps (length (now tmp)) «tmp_stride» (length (now src)) «src_off» «src_stride» (length (now warp) / 8) a b c d mx my × (bits ≤ 4) × (bias ≤ 8192) ⌝ }
+    ensures { λ _. ⌜ now (tmp .exit) ≡ fill (now (tmp .entry)) «tmp_stride» 8 8
+        (λ i j. warpPrep bits bias (now (warp .entry)) mx my a b c d i j (around 3 (now (src .entry)) «src_off» «src_stride» i j)) ⌝ }
+{
+    let mut mid = [0i16; 120];
+    warp_mid16(
+        &mut mid,
+        src,
+        src_off - (3 * src_stride + 3),
+        src_stride,
+        warp,
+        mx,
+        a,
+        b,
+        bits,
+    );
+    warp_prep_rows(tmp, tmp_stride, &mid, warp, my, c, d, bias);
 }
 
 #[no_mangle]
@@ -368,6 +507,61 @@ pub extern "C" fn hv_warp_affine_8x8_8bpc(
 }
 
 #[no_mangle]
+pub extern "C" fn hv_warp_affine_8x8_16bpc(
+    depth: i32,
+    dst: &mut [u16],
+    dst_stride: usize,
+    src: &[u16],
+    src_stride: usize,
+    src_off: usize,
+    a: i16,
+    b: i16,
+    c: i16,
+    d: i16,
+    mx: i32,
+    my: i32,
+    warp: &[i8],
+) -> u32
+    ensures { λ r. ⌜ WarpAnswer (depthOk depth) (up depth) (now (dst .entry)) «dst_stride» (now (src .entry)) «src_stride» «src_off» a b c d mx my (now (warp .entry)) r (now (dst .exit)) ⌝ }
+{
+    let number = check_warp(
+        depth_ok(depth),
+        dst.len(),
+        dst_stride,
+        src.len(),
+        src_stride,
+        src_off,
+        a,
+        b,
+        c,
+        d,
+        mx,
+        my,
+        warp.len(),
+    );
+    if number == 0 {
+        let n = depth_numbers(depth);
+        warp_put16(
+            dst,
+            dst_stride,
+            src,
+            src_stride,
+            src_off,
+            a,
+            b,
+            c,
+            d,
+            mx,
+            my,
+            warp,
+            n.bits,
+            n.max,
+        );
+    }
+    number
+}
+
+#[no_mangle]
 pub extern "C" fn hv_warp_affine_8x8t_8bpc(
     tmp: &mut [i16],
     tmp_stride: usize,
@@ -413,6 +607,61 @@ pub extern "C" fn hv_warp_affine_8x8t_8bpc(
             mx,
             my,
             warp,
+        );
+    }
+    number
+}
+
+#[no_mangle]
+pub extern "C" fn hv_warp_affine_8x8t_16bpc(
+    depth: i32,
+    tmp: &mut [i16],
+    tmp_stride: usize,
+    src: &[u16],
+    src_stride: usize,
+    src_off: usize,
+    a: i16,
+    b: i16,
+    c: i16,
+    d: i16,
+    mx: i32,
+    my: i32,
+    warp: &[i8],
+) -> u32
+    ensures { λ r. ⌜ WarpTAnswer (depthOk depth) (up depth) (now (tmp .entry)) «tmp_stride» (now (src .entry)) «src_stride» «src_off» a b c d mx my (now (warp .entry)) r (now (tmp .exit)) ⌝ }
+{
+    let number = check_warp(
+        depth_ok(depth),
+        tmp.len(),
+        tmp_stride,
+        src.len(),
+        src_stride,
+        src_off,
+        a,
+        b,
+        c,
+        d,
+        mx,
+        my,
+        warp.len(),
+    );
+    if number == 0 {
+        let n = depth_numbers(depth);
+        warp_prep16(
+            tmp,
+            tmp_stride,
+            src,
+            src_stride,
+            src_off,
+            a,
+            b,
+            c,
+            d,
+            mx,
+            my,
+            warp,
+            n.bits,
+            n.bias,
         );
     }
     number

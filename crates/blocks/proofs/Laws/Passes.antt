@@ -11,7 +11,7 @@ use Rattle.rows.specs.Places.{rowOf, span, splice, fill, around}
 use Rattle.rows.specs.Warp.{warped, warpMid, warpPut, warpPrep}
 use Rattle.rows.proofs.Laws.Fill.{fill-in, fill-same}
 use Rattle.rows.proofs.Laws.Taps.{tapped-same}
-use Rattle.blocks.specs.Ready.{Rows}
+use Rattle.blocks.specs.Ready.{Rows, Margins}
 use Rattle.blocks.proofs.Laws.Rows.{Filled, filled-more, filled-span}
 
 -- a row kernel of eight columns left row y as the picture has it
@@ -26,6 +26,10 @@ fifteen l e = record { wide = omega arith; most = omega arith; fits = omega arit
 -- row y of the source, from its first tap on
 pub tap-row : (l o s y : ℕ) → o + 14 * s + 15 ≤ l → y < 15 → o + y * s + 15 ≤ l
 tap-row l o s y fits lt = let h : y ≤ 14 = omega arith in omega (arith, mul-le-mul-right s h)
+
+-- the first tap of a block with its margins, and the rows from there on
+pub taps-in : {l off s : ℕ} → Margins l off s → off - (3 * s + 3) + 14 * s + 15 ≤ l
+taps-in p = omega (arith, p)
 
 -- ---- the second pass over the first
 warped-same : (table : List ℤ) (m a b : ℤ) (n r c : ℕ) (x y : ℕ → ℤ) → ((t : ℕ) → t < 8 → x t ≡ y t) → warped table m a b n r c x ≡ warped table m a b n r c y

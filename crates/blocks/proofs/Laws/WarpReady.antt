@@ -10,7 +10,7 @@ use lib.IntN.{ℤ, natAbs}
 use Rattle.rows.specs.Warp.{filterNo, isThere, every, allThere}
 use Rattle.rows.proofs.Laws.Fill.{and-true}
 use Rattle.blocks.specs.Refuse.{Test, stride, number, table, read, written, _asks_, numberOf, need, lowest, strideOk, holds, reads, wholeFilters}
-use Rattle.blocks.specs.Ready.{Rows, Pass, Margins}
+use Rattle.blocks.specs.Ready.{Pass, Margins, Warps}
 use Rattle.blocks.specs.Warp.{warpPlaceOk, warpTests}
 use Rattle.blocks.proofs.Laws.Refuse.{all-met, stride-met}
 use Rattle.blocks.proofs.Laws.Ready.{rows-met}
@@ -86,16 +86,16 @@ unfolding allThere
 both n mx my a b c d e = and-true (every 15 (λ r. every 8 (λ i. isThere n (filterNo mx a b r i)))) _ e
 
 pub warp-ready : (deep : Bool) (dl ds sl ss off : ℕ) (a b c d mx my : ℤ) (tl : ℕ) → lowest (warpTests deep dl ds sl ss off a b c d mx my tl) ≡ 0
-    → (deep ≡ true) × (Rows dl ds 8 8 × Margins sl off ss × Pass (tl / 8) mx a b 15 × Pass (tl / 8) my c d 8)
+    → (deep ≡ true) × Warps dl ds sl off ss (tl / 8) a b c d mx my
 warp-ready deep dl ds sl ss off a b c d mx my tl e =
     let m = all-met (warpTests deep dl ds sl ss off a b c d mx my tl) e in
     let p = m .1 .1 in let t = p .1 .1 .1 in let r = t .1 .1 in
     let f = both (tl / 8) mx my a b c d (t .1 .0) in (
       p .0,
-      (
-        rows-met dl ds 8 8 (m .0) (r .1 .0),
-        margins-met sl off ss (m .1 .0) (r .0),
-        pass-met (tl / 8) 15 mx a b (p .1 .0) (f .0),
-        pass-met (tl / 8) 8 my c d (p .1 .1 .0) (f .1),
-      ),
+      record {
+        dst = rows-met dl ds 8 8 (m .0) (r .1 .0);
+        src = margins-met sl off ss (m .1 .0) (r .0);
+        first = pass-met (tl / 8) 15 mx a b (p .1 .0) (f .0);
+        second = pass-met (tl / 8) 8 my c d (p .1 .1 .0) (f .1);
+      },
     )

@@ -2,9 +2,14 @@ use borrow.Author.Needs.{needs}
 use mathlib.Core.Path.{_≡_, refl, _∙_}
 use native.Mathlib.Omega.{arith}
 use Rattle.rows.proofs.Laws.Signed.{back}
-use Rattle.blocks.proofs.Laws.Passes.{put-second}
+use Rattle.blocks.proofs.Laws.Passes.{taps-in, put-second}
 use Rattle.blocks.proofs.warp.warp_put8.Statement.{statement}
 use Rattle.blocks.proofs.warp.warp_put8.Tie as tie
+
+warp-mid8-requires : tie.Need-warp-mid8-requires
+warp-mid8-requires c κs =
+    let s = c .before .before .before in let f = s .fits in
+    rw (back (f .mx), back (f .a), back (f .b)) (refl, taps-in (s .pre .src), s .pre .first, omega arith)
 
 returns : tie.Need-returns
 returns c =
@@ -13,7 +18,7 @@ returns c =
     let s = one .before .before .before .before in let f = s .fits in
     let first = rw (back (f .mx), back (f .a), back (f .b)) at (one .warp-mid8 .ensures) in
     (rw (back (f .my), back (f .c), back (f .d)) at (two .warp-put-rows8 .ensures))
-    ∙ put-second 4 _ _ _ _ _ _ _ (s .pre .1 .before) _ _ refl first 255 _ _ _ _ _ (omega (arith, s .pre .0))
+    ∙ put-second 4 _ _ _ _ _ _ _ (s .pre .src .before) _ _ refl first 255 _ _ _ _ _ (omega (arith, s .pre .dst))
 
 pub warp-put8-spec : {M : Type 1} → statement M
 warp-put8-spec =
@@ -23,7 +28,7 @@ warp-put8-spec =
     (λ c. search needs)  -- 3 * src_stride
     (λ c. search needs)  -- 3 * src_stride + 3
     (λ c. search needs)  -- src_off - ..
-    (λ c κs. search needs)  -- warp-mid8-requires
+    warp-mid8-requires
     (λ c. search needs)  -- mid's length again
     (λ c κs. search needs)  -- warp-put-rows8-requires
     (λ c. search needs)  -- same-length

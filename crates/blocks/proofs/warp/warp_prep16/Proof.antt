@@ -1,0 +1,35 @@
+use borrow.Author.Needs.{needs}
+use mathlib.Core.Path.{_≡_, refl, _∙_}
+use native.Mathlib.Omega.{arith}
+use Rattle.rows.proofs.Laws.Signed.{back}
+use Rattle.blocks.proofs.Laws.Passes.{taps-in, prep-second}
+use Rattle.blocks.proofs.warp.warp_prep16.Statement.{statement}
+use Rattle.blocks.proofs.warp.warp_prep16.Tie as tie
+
+warp-mid16-requires : tie.Need-warp-mid16-requires
+warp-mid16-requires c κs =
+    let s = c .before .before in let f = s .fits in
+    rw (back (f .mx), back (f .a), back (f .b)) (refl, taps-in (s .pre .0 .src), s .pre .0 .first, s .pre .1)
+
+returns : tie.Need-returns
+returns c =
+    let two = c .before in
+    let one = two .before .before .before .before in
+    let s = one .before .before .before in let f = s .fits in
+    let first = rw (back (f .mx), back (f .a), back (f .b)) at (one .warp-mid16 .ensures) in
+    (rw (back (f .my), back (f .c), back (f .d)) at (two .warp-prep-rows .ensures))
+    ∙ prep-second _ _ _ _ _ _ _ _ (s .pre .0 .src .before) _ _ refl first _ _ _ _ _ _ (omega (arith, s .pre .0 .dst))
+
+pub warp-prep16-spec : {M : Type 1} → statement M
+warp-prep16-spec =
+    tie.close
+    (tie.spec
+    (λ c. search needs)  -- mid's length
+    (λ c. search needs)  -- 3 * src_stride
+    (λ c. search needs)  -- 3 * src_stride + 3
+    (λ c. search needs)  -- src_off - ..
+    warp-mid16-requires
+    (λ c. search needs)  -- mid's length again
+    (λ c κs. search needs)  -- warp-prep-rows-requires
+    (λ c. search needs)  -- same-length
+    returns)
