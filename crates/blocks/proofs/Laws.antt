@@ -1,4 +1,4 @@
--- Laws, by what they are about.
+-- Laws, by what they are about: refusals and answers, blocks of rows, then the families in the order of document 01.
 pub mod Refuse
 pub mod InOrder
 pub mod Limits

@@ -101,6 +101,7 @@ pub record Moves (bw4 bh4 mvx mvy bx4 by4 : ℤ) : Type 0 where
   pub mv-y : natAbs mvy ≤ 2 ^ 20
   pub column : natAbs bx4 ≤ 16384
   pub row : natAbs by4 ≤ 16384
+
 -- a depth, as the sums shift by it
 pub record Deep (depth : ℕ) : Type 0 where
   pub least : 8 ≤ depth
