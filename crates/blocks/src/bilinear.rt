@@ -77,7 +77,7 @@ fn check_bilin(
 // Intermediates from the 64 apart rows of a first pass: prep, the second pass.
 fn mid_bilin_prep_rows(
     tmp: &mut [i16],
-    tmp_stride: usize,
+    ts: usize,
     mid: &[i16],
     w: usize,
     h: usize,
@@ -85,12 +85,12 @@ fn mid_bilin_prep_rows(
     n: u32,
     bias: i16,
 )
-    requires { ⌜ Pairs (length (now tmp)) «tmp_stride» (length (now mid)) 64 64 w h f n ⌝ }
-    ensures { λ _. ⌜ now (tmp .exit) ≡ fill (now (tmp .entry)) «tmp_stride» w h (λ i j. minus16 (low16 (R n (bilinAt (at (now (mid .entry))) (j * 64 + i) 64 f))) bias) ⌝ }
+    requires { ⌜ Pairs (length (now tmp)) ts (length (now mid)) 64 64 w h f n ⌝ }
+    ensures { λ _. ⌜ now (tmp .exit) ≡ fill (now (tmp .entry)) ts w h (λ i j. minus16 (low16 (R n (bilinAt (at (now (mid .entry))) (j * 64 + i) 64 f))) bias) ⌝ }
 {
     let mut y = 0;
     while y < h {
-        let d = y * tmp_stride;
+        let d = y * ts;
         mid_bilin_prep_row(&mut tmp[d..d + w], mid, y * 64, 64, f, n, bias);
         y += 1;
     }
@@ -99,9 +99,9 @@ fn mid_bilin_prep_rows(
 // Pixels from pixels: put, one axis.
 fn put_bilin_axis8(
     dst: &mut [u8],
-    dst_stride: usize,
+    ds: usize,
     src: &[u8],
-    src_stride: usize,
+    ss: usize,
     w: usize,
     h: usize,
     step: usize,
@@ -110,13 +110,13 @@ fn put_bilin_axis8(
     r: u32,
     k: u32,
 )
-    requires { ⌜ Pairs (length (now dst)) «dst_stride» (length (now src)) «src_stride» step w h f n × (r ≤ 8) × (k ≤ 4) ⌝ }
-    ensures { λ _. ⌜ now (dst .exit) ≡ fill (now (dst .entry)) «dst_stride» w h (λ i j. clip 255 (shrZ (R n (bilinAt (px (now (src .entry))) (j * «src_stride» + i) step f) +ℤ pos r) (2 ^ k))) ⌝ }
+    requires { ⌜ Pairs (length (now dst)) ds (length (now src)) ss step w h f n × (r ≤ 8) × (k ≤ 4) ⌝ }
+    ensures { λ _. ⌜ now (dst .exit) ≡ fill (now (dst .entry)) ds w h (λ i j. clip 255 (shrZ (R n (bilinAt (px (now (src .entry))) (j * ss + i) step f) +ℤ pos r) (2 ^ k))) ⌝ }
 {
     let mut y = 0;
     while y < h {
-        let d = y * dst_stride;
-        put_bilin_row8(&mut dst[d..d + w], src, y * src_stride, step, f, n, r, k);
+        let d = y * ds;
+        put_bilin_row8(&mut dst[d..d + w], src, y * ss, step, f, n, r, k);
         y += 1;
     }
 }
@@ -124,9 +124,9 @@ fn put_bilin_axis8(
 // Intermediates from pixels: prep, one axis, and with the bias 0 the first pass of two.
 fn prep_bilin_axis8(
     tmp: &mut [i16],
-    tmp_stride: usize,
+    ts: usize,
     src: &[u8],
-    src_stride: usize,
+    ss: usize,
     w: usize,
     h: usize,
     step: usize,
@@ -134,33 +134,25 @@ fn prep_bilin_axis8(
     n: u32,
     bias: i16,
 )
-    requires { ⌜ Pairs (length (now tmp)) «tmp_stride» (length (now src)) «src_stride» step w h f n ⌝ }
-    ensures { λ _. ⌜ now (tmp .exit) ≡ fill (now (tmp .entry)) «tmp_stride» w h (λ i j. minus16 (low16 (R n (bilinAt (px (now (src .entry))) (j * «src_stride» + i) step f))) bias) ⌝ }
+    requires { ⌜ Pairs (length (now tmp)) ts (length (now src)) ss step w h f n ⌝ }
+    ensures { λ _. ⌜ now (tmp .exit) ≡ fill (now (tmp .entry)) ts w h (λ i j. minus16 (low16 (R n (bilinAt (px (now (src .entry))) (j * ss + i) step f))) bias) ⌝ }
 {
     let mut y = 0;
     while y < h {
-        let d = y * tmp_stride;
-        prep_bilin_row8(&mut tmp[d..d + w], src, y * src_stride, step, f, n, bias);
+        let d = y * ts;
+        prep_bilin_row8(&mut tmp[d..d + w], src, y * ss, step, f, n, bias);
         y += 1;
     }
 }
 
 // Pixels from the 64 apart rows of a first pass: put, the second pass.
-fn mid_bilin_rows8(
-    dst: &mut [u8],
-    dst_stride: usize,
-    mid: &[i16],
-    w: usize,
-    h: usize,
-    f: u32,
-    n: u32,
-)
-    requires { ⌜ Pairs (length (now dst)) «dst_stride» (length (now mid)) 64 64 w h f n ⌝ }
-    ensures { λ _. ⌜ now (dst .exit) ≡ fill (now (dst .entry)) «dst_stride» w h (λ i j. clip 255 (R n (bilinAt (at (now (mid .entry))) (j * 64 + i) 64 f))) ⌝ }
+fn mid_bilin_rows8(dst: &mut [u8], ds: usize, mid: &[i16], w: usize, h: usize, f: u32, n: u32)
+    requires { ⌜ Pairs (length (now dst)) ds (length (now mid)) 64 64 w h f n ⌝ }
+    ensures { λ _. ⌜ now (dst .exit) ≡ fill (now (dst .entry)) ds w h (λ i j. clip 255 (R n (bilinAt (at (now (mid .entry))) (j * 64 + i) 64 f))) ⌝ }
 {
     let mut y = 0;
     while y < h {
-        let d = y * dst_stride;
+        let d = y * ds;
         mid_bilin_row8(&mut dst[d..d + w], mid, y * 64, 64, f, n);
         y += 1;
     }
@@ -169,102 +161,90 @@ fn mid_bilin_rows8(
 // Both axes: along the rows into intermediates, a row more than the block has, then down their columns.
 fn put_bilin_both8(
     dst: &mut [u8],
-    dst_stride: usize,
+    ds: usize,
     src: &[u8],
-    src_stride: usize,
+    ss: usize,
     w: usize,
     h: usize,
     f: u32,
     g: u32,
 )
-    requires { ⌜ Bilin (length (now dst)) «dst_stride» (length (now src)) «src_stride» w h f g × (1 ≤ f) × (1 ≤ g) ⌝ }
-    ensures { λ _. ⌜ now (dst .exit) ≡ fill (now (dst .entry)) «dst_stride» w h (λ i j. putBilin 255 4 f g (around 0 (now (src .entry)) 0 «src_stride» i j)) ⌝ }
+    requires { ⌜ Bilin (length (now dst)) ds (length (now src)) ss w h f g × (1 ≤ f) × (1 ≤ g) ⌝ }
+    ensures { λ _. ⌜ now (dst .exit) ≡ fill (now (dst .entry)) ds w h (λ i j. putBilin 255 4 f g (around 0 (now (src .entry)) 0 ss i j)) ⌝ }
 {
     let mut mid = [0i16; 4160];
-    prep_bilin_axis8(&mut mid, 64, src, src_stride, w, h + 1, 1, f, 0, 0);
-    mid_bilin_rows8(dst, dst_stride, &mid, w, h, g, 8);
+    prep_bilin_axis8(&mut mid, 64, src, ss, w, h + 1, 1, f, 0, 0);
+    mid_bilin_rows8(dst, ds, &mid, w, h, g, 8);
 }
 
 fn prep_bilin_both8(
     tmp: &mut [i16],
-    tmp_stride: usize,
+    ts: usize,
     src: &[u8],
-    src_stride: usize,
+    ss: usize,
     w: usize,
     h: usize,
     f: u32,
     g: u32,
 )
-    requires { ⌜ Bilin (length (now tmp)) «tmp_stride» (length (now src)) «src_stride» w h f g × (1 ≤ f) × (1 ≤ g) ⌝ }
-    ensures { λ _. ⌜ now (tmp .exit) ≡ fill (now (tmp .entry)) «tmp_stride» w h (λ i j. prepBilin 4 0 f g (around 0 (now (src .entry)) 0 «src_stride» i j)) ⌝ }
+    requires { ⌜ Bilin (length (now tmp)) ts (length (now src)) ss w h f g × (1 ≤ f) × (1 ≤ g) ⌝ }
+    ensures { λ _. ⌜ now (tmp .exit) ≡ fill (now (tmp .entry)) ts w h (λ i j. prepBilin 4 0 f g (around 0 (now (src .entry)) 0 ss i j)) ⌝ }
 {
     let mut mid = [0i16; 4160];
-    prep_bilin_axis8(&mut mid, 64, src, src_stride, w, h + 1, 1, f, 0, 0);
-    mid_bilin_prep_rows(tmp, tmp_stride, &mid, w, h, g, 4, 0);
+    prep_bilin_axis8(&mut mid, 64, src, ss, w, h + 1, 1, f, 0, 0);
+    mid_bilin_prep_rows(tmp, ts, &mid, w, h, g, 4, 0);
 }
 
 // The four cases: both fractions, the horizontal alone, the vertical alone, none.
 fn put_bilin_rows8(
     dst: &mut [u8],
-    dst_stride: usize,
+    ds: usize,
     src: &[u8],
-    src_stride: usize,
+    ss: usize,
     w: usize,
     h: usize,
     f: u32,
     g: u32,
 )
-    requires { ⌜ Bilin (length (now dst)) «dst_stride» (length (now src)) «src_stride» w h f g ⌝ }
-    ensures { λ _. ⌜ now (dst .exit) ≡ fill (now (dst .entry)) «dst_stride» w h (λ i j. putBilin 255 4 f g (around 0 (now (src .entry)) 0 «src_stride» i j)) ⌝ }
+    requires { ⌜ Bilin (length (now dst)) ds (length (now src)) ss w h f g ⌝ }
+    ensures { λ _. ⌜ now (dst .exit) ≡ fill (now (dst .entry)) ds w h (λ i j. putBilin 255 4 f g (around 0 (now (src .entry)) 0 ss i j)) ⌝ }
 {
     if f != 0 {
         if g != 0 {
-            put_bilin_both8(dst, dst_stride, src, src_stride, w, h, f, g);
+            put_bilin_both8(dst, ds, src, ss, w, h, f, g);
         } else {
-            put_bilin_axis8(dst, dst_stride, src, src_stride, w, h, 1, f, 0, 8, 4);
+            put_bilin_axis8(dst, ds, src, ss, w, h, 1, f, 0, 8, 4);
         }
     } else if g != 0 {
-        put_bilin_axis8(
-            dst,
-            dst_stride,
-            src,
-            src_stride,
-            w,
-            h,
-            src_stride,
-            g,
-            4,
-            0,
-            0,
-        );
+        put_bilin_axis8(dst, ds, src, ss, w, h, ss, g, 4, 0, 0);
     } else {
-        put_rows8(dst, dst_stride, src, src_stride, w, h);
+        put_rows8(dst, ds, src, ss, w, h);
     }
 }
 
 fn prep_bilin_rows8(
     tmp: &mut [i16],
-    tmp_stride: usize,
+    ts: usize,
     src: &[u8],
-    src_stride: usize,
+    ss: usize,
     w: usize,
     h: usize,
     f: u32,
     g: u32,
 )
-    requires { ⌜ Bilin (length (now tmp)) «tmp_stride» (length (now src)) «src_stride» w h f g ⌝ }
-    ensures { λ _. ⌜ now (tmp .exit) ≡ fill (now (tmp .entry)) «tmp_stride» w h (λ i j. prepBilin 4 0 f g (around 0 (now (src .entry)) 0 «src_stride» i j)) ⌝ }
+    requires { ⌜ Bilin (length (now tmp)) ts (length (now src)) ss w h f g ⌝ }
+    ensures { λ _. ⌜ now (tmp .exit) ≡ fill (now (tmp .entry)) ts w h (λ i j. prepBilin 4 0 f g (around 0 (now (src .entry)) 0 ss i j)) ⌝ }
 {
     if f != 0 {
         if g != 0 {
-            prep_bilin_both8(tmp, tmp_stride, src, src_stride, w, h, f, g);
+            prep_bilin_both8(tmp, ts, src, ss, w, h, f, g);
         } else {
-            prep_bilin_axis8(tmp, tmp_stride, src, src_stride, w, h, 1, f, 0, 0);
+            prep_bilin_axis8(tmp, ts, src, ss, w, h, 1, f, 0, 0);
         }
     } else if g != 0 {
-        prep_bilin_axis8(tmp, tmp_stride, src, src_stride, w, h, src_stride, g, 0, 0);
+        prep_bilin_axis8(tmp, ts, src, ss, w, h, ss, g, 0, 0);
     } else {
-        prep_rows8(tmp, tmp_stride, src, src_stride, w, h);
+        prep_rows8(tmp, ts, src, ss, w, h);
     }
 }
 
@@ -293,7 +273,9 @@ pub extern "C" fn hv_put_bilin_8bpc(
         my,
     );
     if number == 0 {
-        put_bilin_rows8(dst, dst_stride, src, src_stride, w, h, above(mx), above(my));
+        let f = above(mx);
+        let g = above(my);
+        put_bilin_rows8(dst, dst_stride, src, src_stride, w, h, f, g);
     }
     number
 }
@@ -323,16 +305,18 @@ pub extern "C" fn hv_prep_bilin_8bpc(
         my,
     );
     if number == 0 {
-        prep_bilin_rows8(tmp, tmp_stride, src, src_stride, w, h, above(mx), above(my));
+        let f = above(mx);
+        let g = above(my);
+        prep_bilin_rows8(tmp, tmp_stride, src, src_stride, w, h, f, g);
     }
     number
 }
 
 fn put_bilin_axis16(
     dst: &mut [u16],
-    dst_stride: usize,
+    ds: usize,
     src: &[u16],
-    src_stride: usize,
+    ss: usize,
     w: usize,
     h: usize,
     step: usize,
@@ -342,32 +326,22 @@ fn put_bilin_axis16(
     k: u32,
     max: u16,
 )
-    requires { ⌜ Pairs (length (now dst)) «dst_stride» (length (now src)) «src_stride» step w h f n × (r ≤ 8) × (k ≤ 4) ⌝ }
-    ensures { λ _. ⌜ now (dst .exit) ≡ fill (now (dst .entry)) «dst_stride» w h (λ i j. clip max (shrZ (R n (bilinAt (px (now (src .entry))) (j * «src_stride» + i) step f) +ℤ pos r) (2 ^ k))) ⌝ }
+    requires { ⌜ Pairs (length (now dst)) ds (length (now src)) ss step w h f n × (r ≤ 8) × (k ≤ 4) ⌝ }
+    ensures { λ _. ⌜ now (dst .exit) ≡ fill (now (dst .entry)) ds w h (λ i j. clip max (shrZ (R n (bilinAt (px (now (src .entry))) (j * ss + i) step f) +ℤ pos r) (2 ^ k))) ⌝ }
 {
     let mut y = 0;
     while y < h {
-        let d = y * dst_stride;
-        put_bilin_row16(
-            &mut dst[d..d + w],
-            src,
-            y * src_stride,
-            step,
-            f,
-            n,
-            r,
-            k,
-            max,
-        );
+        let d = y * ds;
+        put_bilin_row16(&mut dst[d..d + w], src, y * ss, step, f, n, r, k, max);
         y += 1;
     }
 }
 
 fn prep_bilin_axis16(
     tmp: &mut [i16],
-    tmp_stride: usize,
+    ts: usize,
     src: &[u16],
-    src_stride: usize,
+    ss: usize,
     w: usize,
     h: usize,
     step: usize,
@@ -375,20 +349,20 @@ fn prep_bilin_axis16(
     n: u32,
     bias: i16,
 )
-    requires { ⌜ Pairs (length (now tmp)) «tmp_stride» (length (now src)) «src_stride» step w h f n ⌝ }
-    ensures { λ _. ⌜ now (tmp .exit) ≡ fill (now (tmp .entry)) «tmp_stride» w h (λ i j. minus16 (low16 (R n (bilinAt (px (now (src .entry))) (j * «src_stride» + i) step f))) bias) ⌝ }
+    requires { ⌜ Pairs (length (now tmp)) ts (length (now src)) ss step w h f n ⌝ }
+    ensures { λ _. ⌜ now (tmp .exit) ≡ fill (now (tmp .entry)) ts w h (λ i j. minus16 (low16 (R n (bilinAt (px (now (src .entry))) (j * ss + i) step f))) bias) ⌝ }
 {
     let mut y = 0;
     while y < h {
-        let d = y * tmp_stride;
-        prep_bilin_row16(&mut tmp[d..d + w], src, y * src_stride, step, f, n, bias);
+        let d = y * ts;
+        prep_bilin_row16(&mut tmp[d..d + w], src, y * ss, step, f, n, bias);
         y += 1;
     }
 }
 
 fn mid_bilin_rows16(
     dst: &mut [u16],
-    dst_stride: usize,
+    ds: usize,
     mid: &[i16],
     w: usize,
     h: usize,
@@ -396,12 +370,12 @@ fn mid_bilin_rows16(
     n: u32,
     max: u16,
 )
-    requires { ⌜ Pairs (length (now dst)) «dst_stride» (length (now mid)) 64 64 w h f n ⌝ }
-    ensures { λ _. ⌜ now (dst .exit) ≡ fill (now (dst .entry)) «dst_stride» w h (λ i j. clip max (R n (bilinAt (at (now (mid .entry))) (j * 64 + i) 64 f))) ⌝ }
+    requires { ⌜ Pairs (length (now dst)) ds (length (now mid)) 64 64 w h f n ⌝ }
+    ensures { λ _. ⌜ now (dst .exit) ≡ fill (now (dst .entry)) ds w h (λ i j. clip max (R n (bilinAt (at (now (mid .entry))) (j * 64 + i) 64 f))) ⌝ }
 {
     let mut y = 0;
     while y < h {
-        let d = y * dst_stride;
+        let d = y * ds;
         mid_bilin_row16(&mut dst[d..d + w], mid, y * 64, 64, f, n, max);
         y += 1;
     }
@@ -409,9 +383,9 @@ fn mid_bilin_rows16(
 
 fn put_bilin_both16(
     dst: &mut [u16],
-    dst_stride: usize,
+    ds: usize,
     src: &[u16],
-    src_stride: usize,
+    ss: usize,
     w: usize,
     h: usize,
     f: u32,
@@ -419,19 +393,19 @@ fn put_bilin_both16(
     bits: u32,
     max: u16,
 )
-    requires { ⌜ Bilin (length (now dst)) «dst_stride» (length (now src)) «src_stride» w h f g × (1 ≤ f) × (1 ≤ g) × (bits ≤ 4) ⌝ }
-    ensures { λ _. ⌜ now (dst .exit) ≡ fill (now (dst .entry)) «dst_stride» w h (λ i j. putBilin max bits f g (around 0 (now (src .entry)) 0 «src_stride» i j)) ⌝ }
+    requires { ⌜ Bilin (length (now dst)) ds (length (now src)) ss w h f g × (1 ≤ f) × (1 ≤ g) × (bits ≤ 4) ⌝ }
+    ensures { λ _. ⌜ now (dst .exit) ≡ fill (now (dst .entry)) ds w h (λ i j. putBilin max bits f g (around 0 (now (src .entry)) 0 ss i j)) ⌝ }
 {
     let mut mid = [0i16; 4160];
-    prep_bilin_axis16(&mut mid, 64, src, src_stride, w, h + 1, 1, f, 4 - bits, 0);
-    mid_bilin_rows16(dst, dst_stride, &mid, w, h, g, 4 + bits, max);
+    prep_bilin_axis16(&mut mid, 64, src, ss, w, h + 1, 1, f, 4 - bits, 0);
+    mid_bilin_rows16(dst, ds, &mid, w, h, g, 4 + bits, max);
 }
 
 fn prep_bilin_both16(
     tmp: &mut [i16],
-    tmp_stride: usize,
+    ts: usize,
     src: &[u16],
-    src_stride: usize,
+    ss: usize,
     w: usize,
     h: usize,
     f: u32,
@@ -439,19 +413,19 @@ fn prep_bilin_both16(
     bits: u32,
     bias: u32,
 )
-    requires { ⌜ Bilin (length (now tmp)) «tmp_stride» (length (now src)) «src_stride» w h f g × (1 ≤ f) × (1 ≤ g) × Bits bits bias ⌝ }
-    ensures { λ _. ⌜ now (tmp .exit) ≡ fill (now (tmp .entry)) «tmp_stride» w h (λ i j. prepBilin bits bias f g (around 0 (now (src .entry)) 0 «src_stride» i j)) ⌝ }
+    requires { ⌜ Bilin (length (now tmp)) ts (length (now src)) ss w h f g × (1 ≤ f) × (1 ≤ g) × Bits bits bias ⌝ }
+    ensures { λ _. ⌜ now (tmp .exit) ≡ fill (now (tmp .entry)) ts w h (λ i j. prepBilin bits bias f g (around 0 (now (src .entry)) 0 ss i j)) ⌝ }
 {
     let mut mid = [0i16; 4160];
-    prep_bilin_axis16(&mut mid, 64, src, src_stride, w, h + 1, 1, f, 4 - bits, 0);
-    mid_bilin_prep_rows(tmp, tmp_stride, &mid, w, h, g, 4, bias as i16);
+    prep_bilin_axis16(&mut mid, 64, src, ss, w, h + 1, 1, f, 4 - bits, 0);
+    mid_bilin_prep_rows(tmp, ts, &mid, w, h, g, 4, bias as i16);
 }
 
 fn put_bilin_rows16(
     dst: &mut [u16],
-    dst_stride: usize,
+    ds: usize,
     src: &[u16],
-    src_stride: usize,
+    ss: usize,
     w: usize,
     h: usize,
     f: u32,
@@ -459,53 +433,28 @@ fn put_bilin_rows16(
     bits: u32,
     max: u16,
 )
-    requires { ⌜ Bilin (length (now dst)) «dst_stride» (length (now src)) «src_stride» w h f g × (1 ≤ bits) × (bits ≤ 4) ⌝ }
-    ensures { λ _. ⌜ now (dst .exit) ≡ fill (now (dst .entry)) «dst_stride» w h (λ i j. putBilin max bits f g (around 0 (now (src .entry)) 0 «src_stride» i j)) ⌝ }
+    requires { ⌜ Bilin (length (now dst)) ds (length (now src)) ss w h f g × (1 ≤ bits) × (bits ≤ 4) ⌝ }
+    ensures { λ _. ⌜ now (dst .exit) ≡ fill (now (dst .entry)) ds w h (λ i j. putBilin max bits f g (around 0 (now (src .entry)) 0 ss i j)) ⌝ }
 {
     if f != 0 {
         if g != 0 {
-            put_bilin_both16(dst, dst_stride, src, src_stride, w, h, f, g, bits, max);
+            put_bilin_both16(dst, ds, src, ss, w, h, f, g, bits, max);
         } else {
-            put_bilin_axis16(
-                dst,
-                dst_stride,
-                src,
-                src_stride,
-                w,
-                h,
-                1,
-                f,
-                4 - bits,
-                half_power(bits),
-                bits,
-                max,
-            );
+            let r = half_power(bits);
+            put_bilin_axis16(dst, ds, src, ss, w, h, 1, f, 4 - bits, r, bits, max);
         }
     } else if g != 0 {
-        put_bilin_axis16(
-            dst,
-            dst_stride,
-            src,
-            src_stride,
-            w,
-            h,
-            src_stride,
-            g,
-            4,
-            0,
-            0,
-            max,
-        );
+        put_bilin_axis16(dst, ds, src, ss, w, h, ss, g, 4, 0, 0, max);
     } else {
-        put_rows16(dst, dst_stride, src, src_stride, w, h);
+        put_rows16(dst, ds, src, ss, w, h);
     }
 }
 
 fn prep_bilin_rows16(
     tmp: &mut [i16],
-    tmp_stride: usize,
+    ts: usize,
     src: &[u16],
-    src_stride: usize,
+    ss: usize,
     w: usize,
     h: usize,
     f: u32,
@@ -513,41 +462,19 @@ fn prep_bilin_rows16(
     bits: u32,
     bias: u32,
 )
-    requires { ⌜ Bilin (length (now tmp)) «tmp_stride» (length (now src)) «src_stride» w h f g × Bits bits bias ⌝ }
-    ensures { λ _. ⌜ now (tmp .exit) ≡ fill (now (tmp .entry)) «tmp_stride» w h (λ i j. prepBilin bits bias f g (around 0 (now (src .entry)) 0 «src_stride» i j)) ⌝ }
+    requires { ⌜ Bilin (length (now tmp)) ts (length (now src)) ss w h f g × Bits bits bias ⌝ }
+    ensures { λ _. ⌜ now (tmp .exit) ≡ fill (now (tmp .entry)) ts w h (λ i j. prepBilin bits bias f g (around 0 (now (src .entry)) 0 ss i j)) ⌝ }
 {
     if f != 0 {
         if g != 0 {
-            prep_bilin_both16(tmp, tmp_stride, src, src_stride, w, h, f, g, bits, bias);
+            prep_bilin_both16(tmp, ts, src, ss, w, h, f, g, bits, bias);
         } else {
-            prep_bilin_axis16(
-                tmp,
-                tmp_stride,
-                src,
-                src_stride,
-                w,
-                h,
-                1,
-                f,
-                4 - bits,
-                bias as i16,
-            );
+            prep_bilin_axis16(tmp, ts, src, ss, w, h, 1, f, 4 - bits, bias as i16);
         }
     } else if g != 0 {
-        prep_bilin_axis16(
-            tmp,
-            tmp_stride,
-            src,
-            src_stride,
-            w,
-            h,
-            src_stride,
-            g,
-            4 - bits,
-            bias as i16,
-        );
+        prep_bilin_axis16(tmp, ts, src, ss, w, h, ss, g, 4 - bits, bias as i16);
     } else {
-        prep_rows16(tmp, tmp_stride, src, src_stride, w, h, bits, bias);
+        prep_rows16(tmp, ts, src, ss, w, h, bits, bias);
     }
 }
 
@@ -578,18 +505,9 @@ pub extern "C" fn hv_put_bilin_16bpc(
     );
     if number == 0 {
         let n = depth_numbers(depth);
-        put_bilin_rows16(
-            dst,
-            dst_stride,
-            src,
-            src_stride,
-            w,
-            h,
-            above(mx),
-            above(my),
-            n.bits,
-            n.max,
-        );
+        let f = above(mx);
+        let g = above(my);
+        put_bilin_rows16(dst, dst_stride, src, src_stride, w, h, f, g, n.bits, n.max);
     }
     number
 }
@@ -621,18 +539,9 @@ pub extern "C" fn hv_prep_bilin_16bpc(
     );
     if number == 0 {
         let n = depth_numbers(depth);
-        prep_bilin_rows16(
-            tmp,
-            tmp_stride,
-            src,
-            src_stride,
-            w,
-            h,
-            above(mx),
-            above(my),
-            n.bits,
-            n.bias,
-        );
+        let f = above(mx);
+        let g = above(my);
+        prep_bilin_rows16(tmp, tmp_stride, src, src_stride, w, h, f, g, n.bits, n.bias);
     }
     number
 }

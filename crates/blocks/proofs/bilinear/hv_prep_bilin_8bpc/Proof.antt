@@ -21,21 +21,21 @@ number : (c : tie.After-check-bilin) → let a = entry c .args in
 number c = let s = entry c in rw (back (s .fits .mx), back (s .fits .my)) at (c .check-bilin .ensures)
 
 -- the fractions, as the rows take them
-fractions : (c : tie.After-above2) → let a = entry (c .before .before .before .before) .args in
+fractions : (c : tie.After-above2) → let a = entry (c .before .before .before) .args in
     (c .before .above .result ≡ up (a .mx)) × (c .above2 .result ≡ up (a .my))
 fractions c =
-    let f = entry (c .before .before .before .before) .fits in
+    let f = entry (c .before .before .before) .fits in
     (c .before .above .ensures ∙ ap up (back (f .mx)), c .above2 .ensures ∙ ap up (back (f .my)))
 
 rows-requires : tie.Need-prep-bilin-rows8-requires
 rows-requires c κs =
-    let t = c .before .before .before in let e = fractions c in
+    let a = c .before in let t = a .before .before in let e = fractions a in
     let q = bilin-ready _ _ _ _ _ _ _ _ _ (sym (number (t .before)) ∙ t .if1 .taken) in
     rw (e .0, e .1) (q .1)
 
 returns : tie.Need-returns
 returns c =
-    let r = c .before in let t = r .before .before .before .before in let e = fractions (r .before) in
+    let r = c .before in let a = r .before .before in let t = a .before .before in let e = fractions a in
     (number (t .before), rw (e .0, e .1) at (r .prep-bilin-rows8 .ensures) ∙ sym (done _ _ _ (t .if1 .taken)))
 
 pub hv-prep-bilin-8bpc-spec : {M : Type 1} → statement M

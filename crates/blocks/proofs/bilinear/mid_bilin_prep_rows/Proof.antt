@@ -25,7 +25,7 @@ abbrev entry : tie.In-loop Inv-loop μ-loop → tie.Start Inv-loop μ-loop
 entry c = c .before .before
 
 row : (c : tie.In-loop Inv-loop μ-loop) → let a = entry c .args in
-    Turn (length (c .before .loop .tmp)) (a .tmp-stride) (length (a .mid .now)) 64 64 (a .w) (c .before .loop .y)
+    Turn (length (c .before .loop .tmp)) (a .ts) (length (a .mid .now)) 64 64 (a .w) (c .before .loop .y)
 row c = turn (entry c .pre) (c .before .loop .inv) (c .loop-test .taken)
 
 row-requires : tie.Need-mid-bilin-prep-row-requires Inv-loop μ-loop

@@ -23,7 +23,7 @@ abbrev entry : tie.In-loop Inv-loop μ-loop → tie.Start Inv-loop μ-loop
 entry c = c .before .before .before .before
 
 row : (c : tie.In-loop Inv-loop μ-loop) → let a = entry c .args in
-    Turn (length (c .before .loop .dst)) (a .dst-stride) (length (a .src .now)) (a .src-stride) (a .step) (a .w) (c .before .loop .y)
+    Turn (length (c .before .loop .dst)) (a .ds) (length (a .src .now)) (a .ss) (a .step) (a .w) (c .before .loop .y)
 row c = turn (entry c .pre .0) (c .before .loop .inv) (c .loop-test .taken)
 
 row-requires : tie.Need-put-bilin-row8-requires Inv-loop μ-loop

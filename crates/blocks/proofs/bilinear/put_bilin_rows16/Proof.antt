@@ -19,7 +19,7 @@ both-requires c κs =
 across-requires : tie.Need-put-bilin-axis16-requires
 across-requires c κs =
     let t = c .before .before in let s = entry (t .before .before) in
-    (across (s .pre .0) _ (omega (arith, s .pre)) (omega (arith, t .before .if1)) (t .if2 .left), half-small (c .half-power .ensures .0) (s .pre .2), s .pre .2)
+    (across (s .pre .0) _ (omega (arith, s .pre)) (omega (arith, t .before .if1)) (t .if2 .left), half-small (c .before .half-power .ensures .0) (s .pre .2), s .pre .2)
 
 downward-requires : tie.Need-put-bilin-axis16-requires-2
 downward-requires c κs =
@@ -34,7 +34,7 @@ copied-requires c κs =
 returns-2 : tie.Need-returns-2
 returns-2 c =
     let r = c .before .before in let t = r .before .before .before in let s = entry (t .before .before) in let a = s .args in
-    rw (r .before .half-power .ensures .0, ← half-of (a .bits) (s .pre .1)) at (r .put-bilin-axis16 .ensures)
+    rw (r .before .before .half-power .ensures .0, ← half-of (a .bits) (s .pre .1)) at (r .put-bilin-axis16 .ensures)
     ∙ put-across (a .max) (a .bits) (a .src .now) (a .dst .now) (s .pre .0) (omega (arith, t .before .if1)) (t .if2 .left)
 
 returns-3 : tie.Need-returns-3
@@ -54,8 +54,8 @@ put-bilin-rows16-spec =
     tie.close
     (tie.spec
     both-requires
-    (λ c. search needs)  -- sub-put-bilin-axis16
     (λ c κs. search needs)  -- half-power-requires
+    (λ c. search needs)  -- sub-put-bilin-axis16
     across-requires
     downward-requires
     copied-requires
