@@ -1,4 +1,4 @@
-// put_bilin and prep_bilin: blocks between whole places, by fractions of sixteenths.
+// put_bilin and prep_bilin: blocks between whole places, at fractions in sixteenths.
 ghost use mathlib.Core.Path.{_≡_};
 ghost use mathlib.Core.Bool.{true};
 ghost use Prim.Native.Nat.{_+_, _*_, _^_, _≤_};
@@ -74,7 +74,7 @@ fn check_bilin(
     )
 }
 
-// Intermediates from the 64 apart rows of a first pass: prep, the second pass.
+// Intermediates from those of a first pass, whose rows are 64 apart: prep, the second pass.
 fn mid_bilin_prep_rows(
     tmp: &mut [i16],
     ts: usize,
@@ -96,7 +96,7 @@ fn mid_bilin_prep_rows(
     }
 }
 
-// Pixels from pixels: put, one axis.
+// Pixels from pixels: put, one axis, the second pixel of each place a step on.
 fn put_bilin_axis8(
     dst: &mut [u8],
     ds: usize,
@@ -145,7 +145,7 @@ fn prep_bilin_axis8(
     }
 }
 
-// Pixels from the 64 apart rows of a first pass: put, the second pass.
+// Pixels from the intermediates of a first pass, whose rows are 64 apart: put, the second pass.
 fn mid_bilin_rows8(dst: &mut [u8], ds: usize, mid: &[i16], w: usize, h: usize, f: u32, n: u32)
     requires { ⌜ Pairs (length (now dst)) ds (length (now mid)) 64 64 w h f n ⌝ }
     ensures { λ _. ⌜ now (dst .exit) ≡ fill (now (dst .entry)) ds w h (λ i j. clip 255 (R n (bilinAt (at (now (mid .entry))) (j * 64 + i) 64 f))) ⌝ }
@@ -195,7 +195,7 @@ fn prep_bilin_both8(
     mid_bilin_prep_rows(tmp, ts, &mid, w, h, g, 4, 0);
 }
 
-// The four cases: both fractions, the horizontal alone, the vertical alone, none.
+// The block in its four cases: both fractions, the horizontal alone, the vertical alone, none.
 fn put_bilin_rows8(
     dst: &mut [u8],
     ds: usize,
