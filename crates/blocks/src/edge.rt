@@ -1,8 +1,9 @@
 // emu_edge: a block of the endless plane.
 ghost use mathlib.Core.Path.{_≡_};
-ghost use Prim.Native.Nat.{_+_, _^_, _≤_};
-ghost use lib.IntN.{natAbs};
+ghost use Prim.Native.Nat.{_+_, _-_, _^_, _<_, _≤_};
+ghost use lib.IntN.{pos, natAbs, _+ℤ_};
 ghost use lib.ListN.{length};
+ghost use Rattle.rows.specs.Numbers.{clip};
 ghost use Rattle.rows.specs.Places.{fill};
 ghost use Rattle.rows.specs.Edge.{edge};
 ghost use Rattle.blocks.specs.Refuse.{need, sizeOk, lowest};
@@ -66,7 +67,14 @@ fn check_edge(
     sides(128, bw, bh, sides(16384, iw, ih, strides))
 }
 
-// Row y + j of the endless plane is the plane's row nearest to it.
+// The plane's row nearest to row y + j.
+fn nearest_row(y: i64, j: usize, ih: usize) -> usize
+    requires { ⌜ (natAbs y ≤ 2 ^ 30 + 3) × (j < 128) × (1 ≤ ih) × (ih ≤ 16384) ⌝ }
+    ensures { λ r. ⌜ (r ≡ clip (ih - 1) (y +ℤ pos j)) × (r < ih) ⌝ }
+{
+    left_of(0, y + j as i64, ih - 1)
+}
+
 pub fn edge_rows8(
     bw: usize,
     bh: usize,
@@ -85,8 +93,8 @@ pub fn edge_rows8(
     let mut j = 0;
     while j < bh {
         let d = j * dst_stride;
-        let r = left_of(0, y + j as i64, ih - 1);
-        edge_row8(&mut dst[d..d + bw], plane, r * plane_stride, iw, x);
+        let k = nearest_row(y, j, ih);
+        edge_row8(&mut dst[d..d + bw], plane, k * plane_stride, iw, x);
         j += 1;
     }
 }
@@ -142,8 +150,8 @@ pub fn edge_rows16(
     let mut j = 0;
     while j < bh {
         let d = j * dst_stride;
-        let r = left_of(0, y + j as i64, ih - 1);
-        edge_row16(&mut dst[d..d + bw], plane, r * plane_stride, iw, x);
+        let k = nearest_row(y, j, ih);
+        edge_row16(&mut dst[d..d + bw], plane, k * plane_stride, iw, x);
         j += 1;
     }
 }

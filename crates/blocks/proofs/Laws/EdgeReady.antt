@@ -2,7 +2,7 @@
 use mathlib.Core.Path.{_≡_, refl, sym, ap, _∙_}
 use mathlib.Core.Bool.{Bool, true, false, _&&_}
 use mathlib.Core.List.{List}
-use Prim.Native.Nat.{ℕ, zero, suc, _+_, _-_, _*_, _^_, _≤_, _<_, min}
+use Prim.Native.Nat.{ℕ, suc, _+_, _-_, _*_, _^_, _≤_, _<_}
 use native.Mathlib.Omega.{arith}
 use borrow.Author.Tests.{leb-true}
 use lib.Dec.{leb, leb·suc-suc}
@@ -16,7 +16,7 @@ use Rattle.rows.specs.Places.{rowOf, fill}
 use Rattle.rows.specs.Edge.{endless, edge}
 use Rattle.rows.proofs.Laws.Signed.{back, backn, fit-abs, abs-add, sub-parts, eq-of, clip-up}
 use Rattle.blocks.specs.Refuse.{need, lowest, orSame, sizeOk, strideOk, holds}
-use Rattle.blocks.specs.Ready.{Rows, Fetch}
+use Rattle.blocks.specs.Ready.{Fetch}
 use Rattle.blocks.specs.Edge.{placeOk, edgeTests, EdgeAnswer}
 use Rattle.blocks.proofs.Laws.Refuse.{all-met, size-met}
 use Rattle.blocks.proofs.Laws.Unique.{unique}
@@ -69,28 +69,25 @@ edge-ready bw bh iw ih x y dl ds pl ps e =
 -- y + j, as the machine has it
 pub record Below (y : ℤ) (j : ℕ) : Type 0 where
   pub fits : SFits w64 (toZ w64 (ofZ w64 y) +ℤ toZ w64 j)
-  pub is : toZ w64 (ofZ w64 (toZ w64 (ofZ w64 y) +ℤ toZ w64 j)) ≡ toZ w64 (ofZ w64 y) +ℤ pos j
+  pub is : toZ w64 (ofZ w64 (toZ w64 (ofZ w64 y) +ℤ toZ w64 j)) -ℤ pos 0 ≡ y +ℤ pos j
   pub near : natAbs (toZ w64 (ofZ w64 (toZ w64 (ofZ w64 y) +ℤ toZ w64 j))) ≤ 2 ^ 31
+
+less-none : (z : ℤ) → z -ℤ pos 0 ≡ z
+less-none z = eq-of _ _ (omega (arith, sub-parts z (pos 0)))
 
 pub below : {y : ℤ} {j : ℕ} → SFits w64 y → natAbs y ≤ 2 ^ 30 + 3 → j < 128 → Below y j
 below {y} {j} f n b =
     let e : toZ w64 (ofZ w64 y) +ℤ toZ w64 j ≡ y +ℤ pos j = rw (back f, backn w64 j (omega arith)) refl in
     let k : natAbs (y +ℤ pos j) ≤ 2 ^ 31 = omega (arith, abs-add y (pos j)) in
     let g : SFits w64 (y +ℤ pos j) = fit-abs w64 (y +ℤ pos j) (omega arith) in
-    record { fits = rw e g; is = rw (e, back g, back f) refl; near = rw (e, back g) k }
+    record { fits = rw e g; is = rw (e, back g) (less-none (y +ℤ pos j)); near = rw (e, back g) k }
 
-less-none : (z : ℤ) → z -ℤ pos 0 ≡ z
-less-none z = eq-of _ _ (omega (arith, sub-parts z (pos 0)))
-
--- the plane's row nearest to row y + j
-pub nearest : {y : ℤ} {j k : ℕ} (m : ℕ) → Below y j → k ≡ clip m (toZ w64 (ofZ w64 (toZ w64 (ofZ w64 y) +ℤ toZ w64 j)) -ℤ pos 0)
-    → k ≡ clip m (toZ w64 (ofZ w64 y) +ℤ pos j)
-nearest m p e = rw (p .is, less-none) at e
+pub clip-below : (ih : ℕ) (z : ℤ) → 1 ≤ ih → clip (ih - 1) z < ih
+clip-below ih z h = omega (arith, clip-up (ih - 1) z)
 
 -- row j is within the block's buffer, row k within the plane
-pub turn : {bw bh iw ih dl ds pl ps j k : ℕ} {y : ℤ} → Fetch bw bh iw ih dl ds pl ps → j < bh → Below y j
-    → k ≡ clip (ih - 1) (toZ w64 (ofZ w64 y) +ℤ pos j) → (j * ds + bw ≤ dl) × (k * ps + iw ≤ pl)
-turn {ih} {j} {k} {y} f lt b e = (row-in j (f .dst) lt, row-in k (f .plane) (omega (arith, f, clip-up (ih - 1) (toZ w64 (ofZ w64 y) +ℤ pos j))))
+pub turn : {bw bh iw ih dl ds pl ps j k : ℕ} → Fetch bw bh iw ih dl ds pl ps → j < bh → k < ih → (j * ds + bw ≤ dl) × (k * ps + iw ≤ pl)
+turn {j} {k} f a b = (row-in j (f .dst) a, row-in k (f .plane) b)
 
 -- the plane's row k, from column x on, is the picture's row j
 pub row-is : (plane : List ℕ) (ps iw ih : ℕ) (x y : ℤ) (j n : ℕ) {k : ℕ} {r : List ℕ} → k ≡ clip (ih - 1) (y +ℤ pos j)

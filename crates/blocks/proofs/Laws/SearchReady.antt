@@ -2,7 +2,7 @@
 use mathlib.Core.Path.{_≡_, refl, sym, ap, ap₂, _∙_, fun-ext}
 use mathlib.Core.Bool.{Bool, true, false, _&&_}
 use mathlib.Core.List.{List, [], _∷_}
-use Prim.Native.Nat.{ℕ, zero, suc, _+_, _-_, _*_, _/_, _^_, _≤_, _<_}
+use Prim.Native.Nat.{ℕ, _+_, _-_, _*_, _/_, _^_, _≤_, _<_}
 use native.Mathlib.Nat.{add-zero, le-trans, div-le-self, mul-le-mul-right, add-mul}
 use native.Mathlib.Omega.{arith}
 use borrow.Author.Tests.{lt-ltb, le-ltb, eqb-true, eqb-false, eq-eqb, ne-eqb}
@@ -13,7 +13,7 @@ use lib.ListN.{length, getD}
 use mir.Syntax.{w32, w64}
 use mir.Val.{SFits, Fits, toZ, ofZ}
 use Rattle.rows.specs.Numbers.{up, dn, px, apart, sum}
-use Rattle.rows.specs.Places.{pixel}
+use Rattle.rows.specs.Places.{pick, pixel}
 use Rattle.rows.specs.Search.{rowApart, sad, moved, sadAt, Offset, Best, none, best, better, visit, through, steps, search, answer, centre, refine}
 use Rattle.rows.proofs.Laws.Signed.{back, backn, fit-abs, add-parts, sub-parts, one-part, abs-parts, nonNeg-of}
 use Rattle.rows.proofs.Laws.Depth.{high}
@@ -138,7 +138,8 @@ start-place {a} {b} {s} p q r = omega (arith, mul-le-mul-right {m = a} {n = 4} s
 -- a block of 4 columns and 4 rows more, from column x of row y on
 part-in : (l s w h x y : ℕ) → Rows l s (w + 8) (h + 8) → x ≤ 4 → y ≤ 4 → y * s + x + (h + 4 - 1) * s + (w + 4) ≤ l
 part-in l s w h x y r a b =
-    let e : y * s + (h + 4 - 1) * s ≤ (h + 8 - 1) * s = rw (add-mul y (h + 4 - 1) s) at (mul-le-mul-right {m = y + (h + 4 - 1)} {n = h + 8 - 1} s (omega arith)) in
+    let k : (y + (h + 4 - 1)) * s ≤ (h + 8 - 1) * s = mul-le-mul-right s (omega arith) in
+    let e : y * s + (h + 4 - 1) * s ≤ (h + 8 - 1) * s = rw (add-mul y (h + 4 - 1) s) at k in
     omega (arith, r)
 
 pub offset-blocks : {l0 s0 l1 s1 w h o0 o1 : ℕ} (dx dy : ℤ) → Wider l0 s0 l1 s1 w h → natAbs dx ≤ 2 → natAbs dy ≤ 2
@@ -247,3 +248,82 @@ refine-ready deep l0 s0 l1 s1 w h e =
 pub refine-done : {number : ℕ} {x y : ℤ} {o : Offset} → number ≡ 0 → SFits w32 x → SFits w32 y → record { dx = x; dy = y } ≡ o
     → record { dx = toZ w32 (ofZ w32 x); dy = toZ w32 (ofZ w32 y) } ≡ orSame number o centre
 refine-done z f g e = rw (back f, back g) (e ∙ sym (done _ _ _ z))
+
+-- ---- explicit refinement never answers (0, 0): the first offset visited is taken, the centre never is, so what is found is off the centre
+abbrev Off : Best → Type 0
+Off none = ⊥
+Off (best t o) = natAbs (o .dx) + natAbs (o .dy) ≡ 0 → ⊥
+
+off-pick : (t : Bool) (b c : Best) → Off b → Off c → Off (pick t b c)
+off-pick true b c p q = p
+off-pick false b c p q = q
+
+off-better : (b : Best) (s : ℕ) (o : Offset) → (natAbs (o .dx) + natAbs (o .dy) ≡ 0 → ⊥) → Off b → Off (better b s o)
+unfolding better
+off-better none s o h p = h
+off-better (best t q) s o h p = off-pick (ltb s t) (best s o) (best t q) h p
+
+off-visit : (s : Offset → ℕ) (dy dx : ℤ) (b : Best) → Off b → Off (visit s dy dx b)
+unfolding visit
+off-visit s dy dx b p = go (eqb (natAbs dx + natAbs dy) 0) refl where
+  go : (t : Bool) → eqb (natAbs dx + natAbs dy) 0 ≡ t → Off (pick t b (better b (s (record { dx = dx; dy = dy })) (record { dx = dx; dy = dy })))
+  go true e = p
+  go false e = off-better b _ (record { dx = dx; dy = dy }) (eqb-false (natAbs dx + natAbs dy) 0 e) p
+
+off-through : (ds : List ℤ) (f : ℤ → Best → Best) → ((d : ℤ) (b : Best) → Off b → Off (f d b)) → (b : Best) → Off b → Off (through ds f b)
+unfolding through
+off-through [] f k b p = p
+off-through (d ∷ ds) f k b p = off-through ds f k (f d b) (k d b p)
+
+-- the first offset, (-2, -2), is found whatever its sum
+off-first : (s : Offset → ℕ) → Off (visit s (negsuc 1) (negsuc 1) none)
+unfolding visit better
+off-first s = eqb-false 4 0 refl
+
+abbrev later : List ℤ
+later = negsuc 0 ∷ pos 0 ∷ pos 1 ∷ pos 2 ∷ []
+
+off-search : (s : Offset → ℕ) → Off (search s none)
+unfolding search through
+off-search s =
+    off-through later (λ dy. through steps (visit s dy)) (λ dy. off-through steps (visit s dy) (off-visit s dy)) _
+    (off-through later (visit s (negsuc 1)) (off-visit s (negsuc 1)) _ (off-first s))
+
+off-answer : (b : Best) → Off b → answer b ≡ centre → ⊥
+unfolding answer
+off-answer (best t o) p e = p (ap (λ (c : Offset). natAbs (c .dx) + natAbs (c .dy)) e)
+
+pub explicit-moves : (depth : ℕ) (p q : ℕ → ℕ → ℕ) (w h : ℕ) → refine depth false p q w h ≡ centre → ⊥
+unfolding refine
+explicit-moves depth p q w h e = off-answer (search (sadAt depth p q w h) none) (off-search (sadAt depth p q w h)) e
+
+-- so where an explicit call is accepted, its dx and dy are not both 0
+pub explicit-answer : (deep : Bool) (depth : ℕ) (p : List ℕ) (s : ℕ) (q : List ℕ) (s′ w h : ℕ) (x y : ℤ)
+    → RefineAnswer deep depth p s q s′ w h false 0 x y → x ≡ pos 0 → y ≡ pos 0 → ⊥
+unfolding orSame
+explicit-answer deep depth p s q s′ w h x y a e f =
+    explicit-moves depth (pixel p s) (pixel q s′) w h (sym (a .1) ∙ ap₂ (λ (i j : ℤ). record { dx = i; dy = j }) e f)
+
+-- ---- the answers
+-- there is one
+sad-unique : (deep : Bool) (depth : ℕ) (p : List ℕ) (s : ℕ) (q : List ℕ) (s′ w h : ℕ) (r r′ : ℕ) (t t′ : ℤ)
+    → SadAnswer deep depth p s q s′ w h r t → SadAnswer deep depth p s q s′ w h r′ t′ → (r ≡ r′) × (t ≡ t′)
+sad-unique deep depth p s q s′ w h r r′ t t′ =
+    unique (lowest (sadTests deep (length p) s (length q) s′ w h)) (λ n. orSame n (pos (sad depth (pixel p s) (pixel q s′) w h)) (pos 0))
+
+refine-unique : (deep : Bool) (depth : ℕ) (p : List ℕ) (s : ℕ) (q : List ℕ) (s′ w h : ℕ) (isImplicit : Bool) (r r′ : ℕ) (x x′ y y′ : ℤ)
+    → RefineAnswer deep depth p s q s′ w h isImplicit r x y → RefineAnswer deep depth p s q s′ w h isImplicit r′ x′ y′
+    → (r ≡ r′) × (x ≡ x′) × (y ≡ y′)
+refine-unique deep depth p s q s′ w h isImplicit r r′ x x′ y y′ a b =
+    let o = refine depth isImplicit (pixel p s) (pixel q s′) w h in
+    let e = unique (lowest (refineTests deep (length p) s (length q) s′ w h)) (λ n. orSame n o centre) a b in
+    (e .0, ap (λ (o : Offset). o .dx) (e .1), ap (λ (o : Offset). o .dy) (e .1))
+
+-- a block of 8 x 8 in buffers that hold just that, and just the 16 x 16 around it, is accepted
+sad-accepted : lowest (sadTests true 64 8 64 8 8 8) ≡ 0
+unfolding need sizeOk strideOk holds
+sad-accepted = refl
+
+refine-accepted : lowest (refineTests true 256 16 256 16 8 8) ≡ 0
+unfolding need sizeOk strideOk holds
+refine-accepted = refl

@@ -1,14 +1,13 @@
 use borrow.Author.Needs.{needs}
-use Prim.Native.Nat.{ℕ, _+_, _-_, _*_, _≤_}
+use Prim.Native.Nat.{_+_, _-_, _*_, _≤_}
 use native.Mathlib.Omega.{arith}
-use mathlib.Core.Path.{_≡_}
 use lib.ListN.{length}
 use mir.Syntax.{w64}
 use mir.Val.{toZ}
 use Rattle.rows.specs.Edge.{edge}
-use Rattle.rows.proofs.Laws.Signed.{back, fit}
+use Rattle.rows.proofs.Laws.Signed.{back}
 use Rattle.blocks.proofs.Laws.Rows.{Filled, filled-none, filled-more, filled-all, filled-span, row-in}
-use Rattle.blocks.proofs.Laws.EdgeReady.{Below, below, nearest, turn, row-is}
+use Rattle.blocks.proofs.Laws.EdgeReady.{turn, row-is}
 use Rattle.blocks.proofs.edge.edge_rows16.Statement.{statement}
 use Rattle.blocks.proofs.edge.edge_rows16.Tie as tie
 
@@ -22,13 +21,14 @@ abbrev μ-loop : tie.MeasureT-loop
 abbrev entry : tie.In-loop Inv-loop μ-loop → tie.Start Inv-loop μ-loop
 entry c = c .before .before .before .before
 
-at-row : (c : tie.In-loop Inv-loop μ-loop) → Below (entry c .args .y) (c .before .loop .j)
-at-row c = below (entry c .fits .y) (entry c .pre .2) (omega (arith, entry c .pre .0))
-
 -- in a turn, row j is within dst and the row that is nearest within the plane
-row : (c : tie.After-left-of Inv-loop μ-loop) → let a = entry (c .before) .args in
-    (c .before .before .loop .j * a .dst-stride + a .bw ≤ length (a .dst .now)) × (c .left-of .result * a .plane-stride + a .iw ≤ length (a .plane .now))
-row c = let t = c .before in turn (entry t .pre .0) (t .loop-test .taken) (at-row t) (nearest _ (at-row t) (c .left-of .ensures))
+row : (c : tie.After-nearest-row Inv-loop μ-loop) → let a = entry (c .before) .args in
+    (c .before .before .loop .j * a .dst-stride + a .bw ≤ length (a .dst .now)) × (c .nearest-row .result * a .plane-stride + a .iw ≤ length (a .plane .now))
+row c = turn (entry (c .before) .pre .0) (c .before .loop-test .taken) (c .nearest-row .ensures .1)
+
+nearest-row-requires : tie.Need-nearest-row-requires Inv-loop μ-loop
+nearest-row-requires c κs =
+    let p = entry c .pre in (rw (back (entry c .fits .y)) (p .2), omega (arith, p .0), p .0 .ih1, p .0 .ih14)
 
 edge-row16-requires : tie.Need-edge-row16-requires Inv-loop μ-loop
 edge-row16-requires c κs =
@@ -40,7 +40,7 @@ loop-again : tie.Need-loop-again Inv-loop μ-loop
 loop-again c =
     let l = c .before .before .before .before in let t = l .before in let p = entry t .pre .0 in
     filled-more 0 _ (t .before .loop .inv) (p .bw1) (p .dst) (t .loop-test .taken)
-    (row-is _ _ _ _ _ _ _ _ (nearest _ (at-row t) (l .left-of .ensures)) (c .before .before .edge-row16 .ensures))
+    (row-is _ _ _ _ _ _ _ _ (l .nearest-row .ensures .0) (c .before .before .edge-row16 .ensures))
 
 returns : tie.Need-returns Inv-loop μ-loop
 returns c =
@@ -55,10 +55,7 @@ edge-rows16-spec =
     μ-loop
     (λ c. filled-none 0 _ _ _ _ _ (omega (arith, c .before .before .pre .0 .dst)))  -- loop-holds
     (λ c. omega (arith, row-in (c .before .loop .j) (entry c .pre .0 .dst) (c .loop-test .taken)))  -- mul-d
-    (λ c. fit w64 (omega (arith, entry c .pre .0)))  -- cast-left-of
-    (λ c. at-row c .fits)  -- add-left-of
-    (λ c. omega (arith, entry c .pre .0))  -- sub-left-of
-    (λ c κs. (omega arith, at-row c .near, omega (arith, entry c .pre .0)))  -- left-of-requires
+    nearest-row-requires
     (λ c. omega (arith, row c, c .before .before .loop .inv .len))  -- add-edge-row16
     (λ c. omega (arith, row c, c .before .before .loop .inv .len))  -- mul-edge-row16
     (λ c. omega (arith, row c, c .before .before .loop .inv .len))  -- sub-edge-row16

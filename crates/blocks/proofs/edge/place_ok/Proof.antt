@@ -1,4 +1,3 @@
-use mathlib.Core.Path.{_≡_}
 use Rattle.rows.proofs.Laws.Signed.{back}
 use Rattle.blocks.specs.Edge.{placeOk}
 use Rattle.blocks.proofs.Laws.EdgeReady.{near-both}

@@ -1,5 +1,5 @@
 use borrow.Author.Needs.{needs}
-use mathlib.Core.Path.{_≡_, sym, _∙_}
+use mathlib.Core.Path.{sym, _∙_}
 use Rattle.rows.proofs.Laws.Signed.{back}
 use Rattle.blocks.proofs.Laws.Refuse.{refused}
 use Rattle.blocks.proofs.Laws.SearchReady.{deep-limits, sads-ready, sad-blocks, sad-done}

@@ -1,5 +1,5 @@
 use borrow.Author.Needs.{needs}
-use mathlib.Core.Path.{_≡_, sym, _∙_}
+use mathlib.Core.Path.{sym, _∙_}
 use Rattle.blocks.proofs.Laws.Refuse.{refused}
 use Rattle.blocks.proofs.Laws.SearchReady.{sads-ready, sad-blocks, sad-done}
 use Rattle.blocks.proofs.search.hv_sad_nxn_8bpc.Statement.{statement}

@@ -1,5 +1,5 @@
 use borrow.Author.Needs.{needs}
-use mathlib.Core.Path.{_≡_, sym, _∙_}
+use mathlib.Core.Path.{sym, _∙_}
 use mir.Syntax.{w32}
 use Rattle.rows.proofs.Laws.Signed.{back, fit}
 use Rattle.blocks.proofs.Laws.Refuse.{refused}

@@ -1,5 +1,5 @@
 use borrow.Author.Needs.{needs}
-use mathlib.Core.Path.{_≡_, sym, _∙_}
+use mathlib.Core.Path.{sym, _∙_}
 use Rattle.rows.specs.Places.{pixel}
 use Rattle.rows.specs.Search.{answer}
 use Rattle.blocks.specs.Search.{bestOf}

@@ -1,6 +1,4 @@
-use mathlib.Core.Path.{_≡_}
 use mir.Syntax.{w32}
-use mir.Val.{toZ, ofZ}
 use Rattle.rows.proofs.Laws.Signed.{back, fit}
 use Rattle.blocks.proofs.Laws.SearchReady.{answer-found, answer-none}
 use Rattle.blocks.proofs.search.offset_of.Statement.{statement}

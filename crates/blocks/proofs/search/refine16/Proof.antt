@@ -1,5 +1,5 @@
 use borrow.Author.Needs.{needs}
-use mathlib.Core.Path.{_≡_, _∙_}
+use mathlib.Core.Path.{_∙_}
 use Rattle.rows.specs.Places.{pixel}
 use Rattle.blocks.specs.Search.{bestOf}
 use Rattle.blocks.proofs.Laws.SearchReady.{refine-explicit}

@@ -1,6 +1,4 @@
 use borrow.Author.Needs.{needs}
-use mathlib.Core.Path.{_≡_}
-use native.Mathlib.Omega.{arith}
 use Rattle.rows.proofs.Laws.Signed.{back}
 use Rattle.blocks.proofs.Laws.SearchReady.{offset-blocks, offset-sad}
 use Rattle.blocks.proofs.search.sad_at8.Statement.{statement}

@@ -1,0 +1,29 @@
+use borrow.Author.Needs.{needs}
+use mathlib.Core.Path.{ap, _∙_}
+use Prim.Native.Nat.{_-_}
+use native.Mathlib.Omega.{arith}
+use lib.IntN.{pos, _+ℤ_}
+use mir.Syntax.{w64}
+use Rattle.rows.specs.Numbers.{clip}
+use Rattle.rows.proofs.Laws.Signed.{fit}
+use Rattle.blocks.proofs.Laws.EdgeReady.{Below, below, clip-below}
+use Rattle.blocks.proofs.edge.nearest_row.Statement.{statement}
+use Rattle.blocks.proofs.edge.nearest_row.Tie as tie
+
+row : (c : tie.Start) → Below (c .args .y) (c .args .j)
+row c = below (c .fits .y) (c .pre .0) (c .pre .1)
+
+returns : tie.Need-returns
+returns c =
+    let s = c .before in let e = c .left-of .ensures ∙ ap (clip (s .args .ih - 1)) (row s .is) in
+    (e, rw e (clip-below (s .args .ih) (s .args .y +ℤ pos (s .args .j)) (s .pre .2)))
+
+pub nearest-row-spec : {M : Type 1} → statement M
+nearest-row-spec =
+    tie.close
+    (tie.spec
+    (λ c. fit w64 (omega arith))  -- cast-left-of
+    (λ c. row c .fits)  -- add-left-of
+    (λ c. search needs)  -- sub-left-of
+    (λ c κs. (omega arith, row c .near, omega arith))  -- left-of-requires
+    returns)
