@@ -75,6 +75,7 @@ fn nearest_row(y: i64, j: usize, ih: usize) -> usize
     left_of(0, y + j as i64, ih - 1)
 }
 
+// A block of the endless plane, row by row.
 pub fn edge_rows8(
     bw: usize,
     bh: usize,

@@ -58,7 +58,7 @@ fn check_sads(
     stride(row, s0, stride(row, s1, needed(deep, 3, buffers)))
 }
 
-// Of two blocks that begin at places o0 and o1: rows 0, 2, 4 ..
+// Rows 0, 2, 4 .. of two blocks that begin at places o0 and o1.
 fn sad_sum8(
     p0: &[u8],
     o0: usize,
@@ -134,6 +134,7 @@ fn second_place(s: usize, dx: i32, dy: i32) -> usize
     behind(dy) * s + behind(dx)
 }
 
+// dx and dy are both 0.
 fn is_centre(dx: i32, dy: i32) -> bool
     ensures { λ r. ⌜ r ≡ eqb (natAbs dx + natAbs dy) 0 ⌝ }
 {
@@ -198,6 +199,7 @@ fn visit8(
     take_better(b, sum, dx, dy)
 }
 
+// The offsets of one dy: dx from -2 to 2.
 fn visit_row8(
     p0: &[u8],
     s0: usize,
@@ -218,6 +220,7 @@ fn visit_row8(
     visit8(p0, s0, p1, s1, w, h, 2, dy, b)
 }
 
+// All offsets: dy from -2 to 2.
 fn search8(p0: &[u8], s0: usize, p1: &[u8], s1: usize, w: usize, h: usize, b: Best) -> Best
     requires { ⌜ Wider (length (now p0)) s0 (length (now p1)) s1 w h ⌝ }
     ensures { λ r. ⌜ bestOf r ≡ search (sadAt 8 (pixel (now (p0 .entry)) s0) (pixel (now (p1 .entry)) s1) w h) (bestOf b) ⌝ }
@@ -257,6 +260,7 @@ fn is_enough(kept: u32, w: usize, h: usize) -> bool
     (kept as usize) < 2 * (w + 4) * (h + 4)
 }
 
+// Implicit mode: the centre at once where its sum is low enough, else the search from what is kept of it.
 fn implicit8(p0: &[u8], s0: usize, p1: &[u8], s1: usize, w: usize, h: usize) -> Best
     requires { ⌜ Wider (length (now p0)) s0 (length (now p1)) s1 w h ⌝ }
     ensures { λ r. ⌜ answer (bestOf r) ≡ refine 8 true (pixel (now (p0 .entry)) s0) (pixel (now (p1 .entry)) s1) w h ⌝ }
@@ -274,6 +278,7 @@ fn implicit8(p0: &[u8], s0: usize, p1: &[u8], s1: usize, w: usize, h: usize) -> 
     search8(p0, s0, p1, s1, w, h, b)
 }
 
+// Explicit mode begins with nothing found.
 fn refine8(
     p0: &[u8],
     s0: usize,
