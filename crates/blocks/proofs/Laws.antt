@@ -23,3 +23,4 @@ pub mod Corners
 pub mod WarpReady
 pub mod Passes
 pub mod BilinRule
+pub mod WarpAnswers
