@@ -24,3 +24,6 @@ pub mod WarpReady
 pub mod Passes
 pub mod BilinRule
 pub mod WarpAnswers
+pub mod SubpelChoice
+pub mod SubpelReady
+pub mod SubpelLines

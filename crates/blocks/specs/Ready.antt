@@ -3,9 +3,10 @@ use Prim.Native.Nat.{ℕ, _+_, _-_, _*_, _≤_, min, _^_, _<_}
 use mathlib.Core.Path.{_≡_}
 use mathlib.Core.List.{List}
 use lib.IntN.{ℤ, natAbs}
-use Rattle.rows.specs.Numbers.{at}
+use Rattle.rows.specs.Numbers.{at, up}
 use Rattle.rows.specs.Warp.{RowThere}
 use Rattle.rows.specs.Depth.{bitsOf, biasOf, maxOf}
+use Rattle.blocks.specs.Subpel.{on, filterOf, Held}
 use Rattle.blocks.specs.declared.refuse.DepthNumbers.{DepthNumbers}
 
 -- a block of w columns and h rows
@@ -120,3 +121,15 @@ pub record Wider (l0 s0 l1 s1 w h : ℕ) : Type 0 where
   pub block : Block w h
   pub first : Rows l0 s0 (w + 8) (h + 8)
   pub second : Rows l1 s1 (w + 8) (h + 8)
+-- an 8-tap block's source, whose first pixel is at place o: the place of each tap is in it, and the filters are in their tables
+pub record Taps (sl o s w h : ℕ) (mx my filterType : ℤ) (tl el : ℕ) : Type 0 where
+  pub wide : w ≤ s
+  pub most : s ≤ 32768
+  pub before : 3 * on my * s + 3 * on mx ≤ o
+  pub last : o + (h - 1 + 4 * on my) * s + (w - 1 + 4 * on mx) < sl
+  pub across : Held tl el (filterOf filterType (up mx) w)
+  pub down : Held tl el (filterOf filterType (up my) h)
+
+-- h rows of w from place o on, s apart, with the seven places after each, a step apart
+pub record Line (sl o s step w h : ℕ) : Type 0 where
+  pub reach : o + (h - 1) * s + w + 7 * step ≤ sl

@@ -9,4 +9,5 @@ pub mod refuse;
 pub mod search;
 pub mod shear;
 pub mod warp;
+pub mod subpel;
 pub mod window;

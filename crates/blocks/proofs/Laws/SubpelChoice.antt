@@ -1,0 +1,83 @@
+-- 8-tap: the filter that the code chooses is the axis of document 01, and the four cases of its plan. Assumes nothing.
+use mathlib.Core.Path.{_≡_, refl, sym, ap, _∙_}
+use mathlib.Core.Bool.{true, false}
+use mathlib.Core.List.{List}
+use Prim.Native.Nat.{ℕ, zero, suc, _+_, _-_, _*_, _%_, _≤_, _<_}
+use native.Mathlib.Omega.{arith}
+use borrow.Author.Tests.{le-ltb, lt-ltb}
+use lib.IntN.{ℤ, pos, negsuc}
+use Rattle.rows.specs.Numbers.{up, dn, half}
+use Rattle.rows.specs.Subpel.{family, axis, filterBits}
+use Rattle.blocks.specs.Subpel.{axisOf, filterOf, planOf}
+use Rattle.blocks.specs.declared.subpel.Filter.{Filter}
+use Rattle.blocks.specs.declared.subpel.Filter.the-variants.{Off, Ext, Subpel}
+use Rattle.blocks.specs.declared.subpel.Plan.{Plan}
+
+-- ---- the filter of an axis
+pub axis-of : (subpel ext : List ℤ) (t : ℤ) (f side : ℕ) → axisOf subpel ext (filterOf t f side) ≡ axis subpel ext t f side
+unfolding axisOf filterOf axis
+axis-of subpel ext t zero side = refl
+axis-of subpel ext (negsuc t) (suc f) side = refl
+axis-of subpel ext (pos t) (suc f) side = refl
+
+pub filter-off : (t : ℤ) (f side : ℕ) → f ≡ 0 → Off ≡ filterOf t f side
+unfolding filterOf
+filter-off t f side e = rw e refl
+
+pub filter-ext : (t : ℤ) (f side : ℕ) → 0 < f → 0 < dn t → Ext (f - 1) ≡ filterOf t f side
+unfolding filterOf
+filter-ext t zero side p q = absurd (omega arith)
+filter-ext (pos t) (suc f) side p q = absurd (omega arith)
+filter-ext (negsuc t) (suc f) side p q = ap Ext (omega arith)
+
+pub filter-sub : (t : ℤ) (f side m : ℕ) → 0 < f → dn t ≡ 0 → m ≡ family (up t) side → Subpel (15 * m + (f - 1)) ≡ filterOf t f side
+unfolding filterOf
+filter-sub t zero side m p q e = absurd (omega arith)
+filter-sub (negsuc t) (suc f) side m p q e = absurd (omega arith)
+filter-sub (pos t) (suc f) side m p q e = rw e (ap Subpel (omega arith))
+
+pub family-low : (t side : ℕ) → side ≤ 4 → 3 + t % 2 ≡ family t side
+unfolding family
+family-low t side h = rw (le-ltb 4 side h) refl
+
+pub family-high : (t side : ℕ) → 4 < side → t ≡ family t side
+unfolding family
+family-high t side h = rw (lt-ltb 4 side h) refl
+
+-- ---- N
+pub bits-below : (t : ℤ) → 0 < dn t → 7 ≡ filterBits t
+bits-below (pos t) h = absurd (omega arith)
+bits-below (negsuc t) h = refl
+
+pub bits-above : (t : ℤ) → dn t ≡ 0 → 6 ≡ filterBits t
+bits-above (pos t) h = refl
+bits-above (negsuc t) h = absurd (omega arith)
+
+pub bits-fit : (t : ℤ) → (6 ≤ filterBits t) × (filterBits t ≤ 7)
+bits-fit (pos t) = omega arith
+bits-fit (negsuc t) = omega arith
+
+-- ---- the four cases, by which fractions are 0
+module _ (o s w h : ℕ) (t : ℤ) (N B : ℕ) where
+  pub plan-none : (x y : ℕ) → x ≡ 0 → y ≡ 0 → record { first = Off; both = false; start = o; step = 0; round = half N } ≡ planOf o s w h t N B x y
+  unfolding planOf
+  plan-none x y e f = rw (e, f) refl
+
+  pub plan-down : (x y : ℕ) → x ≡ 0 → 0 < y
+      → record { first = filterOf t y h; both = false; start = o - 3 * s; step = s; round = half N } ≡ planOf o s w h t N B x y
+  unfolding planOf
+  plan-down x zero e f = absurd (omega arith)
+  plan-down x (suc y) e f = rw e refl
+
+  pub plan-across : (x y : ℕ) → 0 < x → y ≡ 0
+      → record { first = filterOf t x w; both = false; start = o - 3; step = 1; round = half N + half (N - B) } ≡ planOf o s w h t N B x y
+  unfolding planOf
+  plan-across zero y e f = absurd (omega arith)
+  plan-across (suc x) y e f = rw f refl
+
+  pub plan-both : (x y : ℕ) → 0 < x → 0 < y
+      → record { first = filterOf t x w; both = true; start = o - (3 * s + 3); step = 1; round = half N + half (N - B) } ≡ planOf o s w h t N B x y
+  unfolding planOf
+  plan-both zero y e f = absurd (omega arith)
+  plan-both (suc x) zero e f = absurd (omega arith)
+  plan-both (suc x) (suc y) e f = refl

@@ -1,0 +1,19 @@
+use borrow.Author.Needs.{needs}
+use native.Mathlib.Omega.{arith}
+use Rattle.rows.proofs.Laws.Signed.{back, rd}
+use Rattle.blocks.specs.Subpel.{filterIn}
+use Rattle.blocks.proofs.subpel.filter_in.Statement.{statement}
+use Rattle.blocks.proofs.subpel.filter_in.Tie as tie
+
+returns : tie.Need-returns
+unfolding filterIn
+returns c = rw (c .above .ensures, back (c .before .fits .filter-type), back (c .before .fits .f))
+
+pub filter-in-spec : {M : Type 1} → statement M
+filter-in-spec =
+    tie.close
+    (tie.spec
+    (λ c κs. search needs)  -- above-requires
+    (λ c. search needs)  -- cast-result
+    (λ c. omega (arith, c .above .ensures, rd (c .before .fits .f)))  -- mul-result
+    returns)

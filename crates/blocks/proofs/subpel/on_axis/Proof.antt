@@ -1,0 +1,10 @@
+use Rattle.rows.proofs.Laws.Signed.{signed, rd}
+use Rattle.blocks.proofs.subpel.on_axis.Statement.{statement}
+use Rattle.blocks.proofs.subpel.on_axis.Tie as tie
+
+pub on-axis-spec : {M : Type 1} → statement M
+on-axis-spec =
+    tie.close
+    (tie.spec
+    (λ c. omega (signed, rd (c .before .fits .f)))  -- returns
+    (λ c. omega (signed, rd (c .before .fits .f))))  -- returns-2
