@@ -27,3 +27,4 @@ pub mod WarpAnswers
 pub mod SubpelChoice
 pub mod SubpelReady
 pub mod SubpelLines
+pub mod SubpelCases

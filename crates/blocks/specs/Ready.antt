@@ -131,5 +131,5 @@ pub record Taps (sl o s w h : ℕ) (mx my filterType : ℤ) (tl el : ℕ) : Type
   pub down : Held tl el (filterOf filterType (up my) h)
 
 -- h rows of w from place o on, s apart, with the seven places after each, a step apart
-pub record Line (sl o s step w h : ℕ) : Type 0 where
-  pub reach : o + (h - 1) * s + w + 7 * step ≤ sl
+pub record Reach (sl o s step w h : ℕ) : Type 0 where
+  pub fits : o + (h - 1) * s + w + 7 * step ≤ sl

@@ -105,15 +105,26 @@ unfoldable pub tapsOf : Axis → List ℤ
 tapsOf whole = rowOf 8 (λ t. pos 0)
 tapsOf (by f) = f
 
--- the first filter over the rows, of a block whose first pixel is at place o of rows s apart: the horizontal, or the vertical where it is alone.
--- Its taps begin at start and stand a step apart, 0 without a filter; round is put's rounding with one filter. both: the vertical filter follows
-unfoldable pub planOf : (o s w h : ℕ) (filterType : ℤ) (N B : ℕ) (mx my : ℕ) → Plan
-planOf o s w h filterType N B zero zero = record { first = Off; both = false; start = o; step = 0; round = half N }
-planOf o s w h filterType N B zero (suc v) = record { first = filterOf filterType (suc v) h; both = false; start = o - 3 * s; step = s; round = half N }
-planOf o s w h filterType N B (suc u) zero =
-    record { first = filterOf filterType (suc u) w; both = false; start = o - 3; step = 1; round = half N + half (N - B) }
-planOf o s w h filterType N B (suc u) (suc v) =
-    record { first = filterOf filterType (suc u) w; both = true; start = o - (3 * s + 3); step = 1; round = half N + half (N - B) }
+-- how the rows of a block are made whose first pixel is at place o of rows s apart: N; whether the vertical filter follows after the horizontal; where
+-- the taps of the first filter begin and how far apart they stand, 0 without a filter; put's rounding with one filter; the filters' taps
+abbrev pub byOne : (bits start step round : ℕ) → List ℤ → Plan
+byOne bits start step round f = record { bits = bits; both = false; start = start; step = step; round = round; first = f; second = f }
+
+unfoldable pub planOf : (o s w h : ℕ) (subpel ext : List ℤ) (filterType : ℤ) (N B : ℕ) (mx my : ℕ) → Plan
+planOf o s w h subpel ext filterType N B zero zero = byOne N o 0 (half N) (tapsOf (axis subpel ext filterType zero h))
+planOf o s w h subpel ext filterType N B zero (suc v) = byOne N (o - 3 * s) s (half N) (tapsOf (axis subpel ext filterType (suc v) h))
+planOf o s w h subpel ext filterType N B (suc u) zero =
+    byOne N (o - 3) 1 (half N + half (N - B)) (tapsOf (axis subpel ext filterType (suc u) w))
+planOf o s w h subpel ext filterType N B (suc u) (suc v) =
+    record {
+      bits = N;
+      both = true;
+      start = o - (3 * s + 3);
+      step = 1;
+      round = half N + half (N - B);
+      first = tapsOf (axis subpel ext filterType (suc u) w);
+      second = tapsOf (axis subpel ext filterType (suc v) h);
+    }
 
 -- a pixel by one filter at most, of the pixels x 0 to x 7 that stand a step apart: with step 0 of the pixel x 0 alone
 unfoldable pub putLine : (M : ℕ) (f : List ℤ) (r n step : ℕ) → (ℕ → ℕ) → ℕ

@@ -1,14 +1,15 @@
 // put_8tap and prep_8tap: blocks filtered by eight taps along the rows, down the columns, both ways or not at all.
 ghost use mathlib.Core.Path.{_≡_};
+ghost use mathlib.Core.Bool.{true};
 ghost use Prim.Native.Nat.{_+_, _*_, _^_, _≤_, _<_};
 ghost use lib.IntN.{pos};
 ghost use lib.ListN.{length, getD};
 ghost use Rattle.rows.specs.Numbers.{up, at, half, clip, low16, minus16};
-ghost use Rattle.rows.specs.Places.{rowOf, fill};
+ghost use Rattle.rows.specs.Places.{rowOf, fill, around};
 ghost use Rattle.rows.specs.Subpel.{filterBits, tapped};
 ghost use Rattle.blocks.specs.Refuse.{need, lowest, reads, wholeFilters};
-ghost use Rattle.blocks.specs.Ready.{Block, Rows, Taps, Line};
-ghost use Rattle.blocks.specs.Subpel.{typeOk, fractionOk, subpelOk, filterIn, on, subpelTests, axisOf, filterOf, Held, tapsOf, planOf, putLine, prepLine, along};
+ghost use Rattle.blocks.specs.Ready.{Block, Rows, Taps, Reach};
+ghost use Rattle.blocks.specs.Subpel.{typeOk, fractionOk, subpelOk, filterIn, on, subpelTests, axisOf, filterOf, Held, tapsOf, byOne, planOf, putLine, prepLine, along, put8Rule, prep8Rule, Put8Answer, Prep8Answer};
 use crate::refuse::above;
 use crate::refuse::held;
 use crate::refuse::needed;
@@ -170,13 +171,30 @@ fn filter_bits(filter_type: i32) -> u32
     if filter_type < 0 { 7 } else { 6 }
 }
 
-// The first filter over a block's rows, where its taps begin and how far apart they stand, and put's rounding with one filter.
+// How the rows of a block are made: N, whether the second filter follows, where the taps of the first begin and how far apart they stand, put's
+// rounding with one filter, and the taps.
 pub struct Plan {
-    pub first: Filter,
+    pub bits: u32,
     pub both: bool,
     pub start: usize,
     pub step: usize,
     pub round: u32,
+    pub first: [i8; 8],
+    pub second: [i8; 8],
+}
+
+fn by_one(bits: u32, start: usize, step: usize, round: u32, f: [i8; 8]) -> Plan
+    ensures { λ r. ⌜ r ≡ byOne bits start step round f ⌝ }
+{
+    Plan {
+        bits,
+        both: false,
+        start,
+        step,
+        round,
+        first: f,
+        second: f,
+    }
 }
 
 // The four cases.
@@ -188,51 +206,37 @@ fn plan_8tap(
     mx: i32,
     my: i32,
     filter_type: i32,
-    n: u32,
     b: u32,
+    subpel: &[i8],
+    ext: &[i8],
 ) -> Plan
-    requires { ⌜ (3 * on my * s + 3 * on mx ≤ o) × (b < n) × (n ≤ 11) ⌝ }
-    ensures { λ r. ⌜ r ≡ planOf o s w h «filter_type» n b (up mx) (up my) ⌝ }
+    requires { ⌜ (b ≤ 4) × (3 * on my * s + 3 * on mx ≤ o) × Held (length (now subpel)) (length (now ext)) (filterOf «filter_type» (up mx) w) × Held (length (now subpel)) (length (now ext)) (filterOf «filter_type» (up my) h) ⌝ }
+    ensures { λ r. ⌜ r ≡ planOf o s w h (now (subpel .entry)) (now (ext .entry)) «filter_type» (filterBits «filter_type») b (up mx) (up my) ⌝ }
 {
+    let n = filter_bits(filter_type);
+    let f = taps(subpel, ext, get_filter(mx, filter_type, w));
+    let g = taps(subpel, ext, get_filter(my, filter_type, h));
     let x = on_axis(mx);
     let y = on_axis(my);
-    let alone = half_power(n);
+    let round = half_power(n);
     if x == 0 {
         if y == 0 {
-            return Plan {
-                first: Filter::Off,
-                both: false,
-                start: o,
-                step: 0,
-                round: alone,
-            };
+            return by_one(n, o, 0, round, g);
         }
-        let first = get_filter(my, filter_type, h);
-        return Plan {
-            first,
-            both: false,
-            start: o - 3 * s,
-            step: s,
-            round: alone,
-        };
+        return by_one(n, o - 3 * s, s, round, g);
     }
-    let first = get_filter(mx, filter_type, w);
-    let round = alone + half_power(n - b);
+    let round = round + half_power(n - b);
     if y == 0 {
-        return Plan {
-            first,
-            both: false,
-            start: o - 3,
-            step: 1,
-            round,
-        };
+        return by_one(n, o - 3, 1, round, f);
     }
     Plan {
-        first,
+        bits: n,
         both: true,
         start: o - (3 * s + 3),
         step: 1,
         round,
+        first: f,
+        second: g,
     }
 }
 
@@ -259,28 +263,26 @@ fn prep_line_row8(tmp: &mut [i16], src: &[u8], o: usize, step: usize, f: &[i8; 8
     }
 }
 
-// The rows of a block, from place start on.
+// The rows of a block by the plan's first filter.
 fn put_lines8(
     dst: &mut [u8],
     dst_stride: usize,
     src: &[u8],
-    start: usize,
     src_stride: usize,
-    step: usize,
+    p: Plan,
     f: &[i8; 8],
-    r: u32,
     n: u32,
     w: usize,
     h: usize,
 )
-    requires { ⌜ (1 ≤ w) × Rows (length (now dst)) «dst_stride» w h × Line (length (now src)) start «src_stride» step w h × (r < 2 ^ 20) × (n < 32) ⌝ }
-    ensures { λ _. ⌜ now (dst .exit) ≡ fill (now (dst .entry)) «dst_stride» w h (λ i j. putLine 255 (now (f .entry)) r n step (along (now (src .entry)) start «src_stride» step i j)) ⌝ }
+    requires { ⌜ (1 ≤ w) × Rows (length (now dst)) «dst_stride» w h × Reach (length (now src)) (p .start) «src_stride» (p .step) w h × (p .round < 2 ^ 20) × (n < 32) ⌝ }
+    ensures { λ _. ⌜ now (dst .exit) ≡ fill (now (dst .entry)) «dst_stride» w h (λ i j. putLine 255 (now (f .entry)) (p .round) n (p .step) (along (now (src .entry)) (p .start) «src_stride» (p .step) i j)) ⌝ }
 {
     let mut y = 0;
     while y < h {
         let d = y * dst_stride;
-        let s = start + y * src_stride;
-        put_line_row8(&mut dst[d..d + w], src, s, step, f, r, n);
+        let s = p.start + y * src_stride;
+        put_line_row8(&mut dst[d..d + w], src, s, p.step, f, p.round, n);
         y += 1;
     }
 }
@@ -289,22 +291,21 @@ fn prep_lines8(
     tmp: &mut [i16],
     tmp_stride: usize,
     src: &[u8],
-    start: usize,
     src_stride: usize,
-    step: usize,
+    p: Plan,
     f: &[i8; 8],
     n: u32,
     w: usize,
     h: usize,
 )
-    requires { ⌜ (1 ≤ w) × Rows (length (now tmp)) «tmp_stride» w h × Line (length (now src)) start «src_stride» step w h × (1 ≤ n) × (n ≤ 11) ⌝ }
-    ensures { λ _. ⌜ now (tmp .exit) ≡ fill (now (tmp .entry)) «tmp_stride» w h (λ i j. prepLine 4 0 (now (f .entry)) n step (along (now (src .entry)) start «src_stride» step i j)) ⌝ }
+    requires { ⌜ (1 ≤ w) × Rows (length (now tmp)) «tmp_stride» w h × Reach (length (now src)) (p .start) «src_stride» (p .step) w h × (1 ≤ n) × (n ≤ 11) ⌝ }
+    ensures { λ _. ⌜ now (tmp .exit) ≡ fill (now (tmp .entry)) «tmp_stride» w h (λ i j. prepLine 4 0 (now (f .entry)) n (p .step) (along (now (src .entry)) (p .start) «src_stride» (p .step) i j)) ⌝ }
 {
     let mut y = 0;
     while y < h {
         let d = y * tmp_stride;
-        let s = start + y * src_stride;
-        prep_line_row8(&mut tmp[d..d + w], src, s, step, f, n);
+        let s = p.start + y * src_stride;
+        prep_line_row8(&mut tmp[d..d + w], src, s, p.step, f, n);
         y += 1;
     }
 }
@@ -319,7 +320,7 @@ fn mid_lines8(
     w: usize,
     h: usize,
 )
-    requires { ⌜ (1 ≤ w) × Rows (length (now dst)) «dst_stride» w h × Line (length (now mid)) 0 64 64 w h × (1 ≤ n) × (n ≤ 11) ⌝ }
+    requires { ⌜ (1 ≤ w) × Rows (length (now dst)) «dst_stride» w h × Reach (length (now mid)) 0 64 64 w h × (1 ≤ n) × (n ≤ 11) ⌝ }
     ensures { λ _. ⌜ now (dst .exit) ≡ fill (now (dst .entry)) «dst_stride» w h (λ i j. clip 255 (tapped (now (f .entry)) (half n) n (λ t. at (now (mid .entry)) (j * 64 + i + t * 64)))) ⌝ }
 {
     let r = half_power(n);
@@ -341,7 +342,7 @@ fn mid_prep_lines(
     w: usize,
     h: usize,
 )
-    requires { ⌜ (1 ≤ w) × Rows (length (now tmp)) «tmp_stride» w h × Line (length (now mid)) 0 64 64 w h × (1 ≤ n) × (n ≤ 11) × (bias ≤ 8192) ⌝ }
+    requires { ⌜ (1 ≤ w) × Rows (length (now tmp)) «tmp_stride» w h × Reach (length (now mid)) 0 64 64 w h × (1 ≤ n) × (n ≤ 11) × (bias ≤ 8192) ⌝ }
     ensures { λ _. ⌜ now (tmp .exit) ≡ fill (now (tmp .entry)) «tmp_stride» w h (λ i j. minus16 (low16 (tapped (now (f .entry)) (half n) n (λ t. at (now (mid .entry)) (j * 64 + i + t * 64)))) (pos bias)) ⌝ }
 {
     let r = half_power(n);
@@ -352,4 +353,189 @@ fn mid_prep_lines(
         mid_prep_row(&mut tmp[d..d + w], mid, y * 64, 64, f, r, n, p);
         y += 1;
     }
+}
+
+// The block: by one filter at most, or by the horizontal filter into an array of intermediates, and from there by the vertical.
+fn put_8tap_rows8(
+    dst: &mut [u8],
+    dst_stride: usize,
+    src: &[u8],
+    src_off: usize,
+    src_stride: usize,
+    w: usize,
+    h: usize,
+    mx: i32,
+    my: i32,
+    filter_type: i32,
+    subpel: &[i8],
+    ext: &[i8],
+)
+    requires { ⌜ Block w h × Rows (length (now dst)) «dst_stride» w h × Taps (length (now src)) «src_off» «src_stride» w h mx my «filter_type» (length (now subpel)) (length (now ext)) ⌝ }
+    ensures { λ _. ⌜ now (dst .exit) ≡ fill (now (dst .entry)) «dst_stride» w h (λ i j. put8Rule 255 4 (now (subpel .entry)) (now (ext .entry)) mx my «filter_type» w h (around 3 (now (src .entry)) «src_off» «src_stride» i j)) ⌝ }
+{
+    let p = plan_8tap(
+        src_off,
+        src_stride,
+        w,
+        h,
+        mx,
+        my,
+        filter_type,
+        4,
+        subpel,
+        ext,
+    );
+    let n = p.bits;
+    let f = p.first;
+    if p.both {
+        let g = p.second;
+        let mut mid = [0i16; 4544];
+        prep_lines8(&mut mid, 64, src, src_stride, p, &f, n - 4, w, h + 7);
+        mid_lines8(dst, dst_stride, &mid, &g, n + 4, w, h);
+        return;
+    }
+    put_lines8(dst, dst_stride, src, src_stride, p, &f, n, w, h);
+}
+
+fn prep_8tap_rows8(
+    tmp: &mut [i16],
+    tmp_stride: usize,
+    src: &[u8],
+    src_off: usize,
+    src_stride: usize,
+    w: usize,
+    h: usize,
+    mx: i32,
+    my: i32,
+    filter_type: i32,
+    subpel: &[i8],
+    ext: &[i8],
+)
+    requires { ⌜ Block w h × Rows (length (now tmp)) «tmp_stride» w h × Taps (length (now src)) «src_off» «src_stride» w h mx my «filter_type» (length (now subpel)) (length (now ext)) ⌝ }
+    ensures { λ _. ⌜ now (tmp .exit) ≡ fill (now (tmp .entry)) «tmp_stride» w h (λ i j. prep8Rule 4 0 (now (subpel .entry)) (now (ext .entry)) mx my «filter_type» w h (around 3 (now (src .entry)) «src_off» «src_stride» i j)) ⌝ }
+{
+    let p = plan_8tap(
+        src_off,
+        src_stride,
+        w,
+        h,
+        mx,
+        my,
+        filter_type,
+        4,
+        subpel,
+        ext,
+    );
+    let n = p.bits;
+    let f = p.first;
+    if p.both {
+        let g = p.second;
+        let mut mid = [0i16; 4544];
+        prep_lines8(&mut mid, 64, src, src_stride, p, &f, n - 4, w, h + 7);
+        mid_prep_lines(tmp, tmp_stride, &mid, &g, n, 0, w, h);
+        return;
+    }
+    prep_lines8(tmp, tmp_stride, src, src_stride, p, &f, n - 4, w, h);
+}
+
+#[no_mangle]
+pub extern "C" fn hv_put_8tap_8bpc(
+    dst: &mut [u8],
+    dst_stride: usize,
+    src: &[u8],
+    src_off: usize,
+    src_stride: usize,
+    w: usize,
+    h: usize,
+    mx: i32,
+    my: i32,
+    filter_type: i32,
+    subpel: &[i8],
+    ext: &[i8],
+) -> u32
+    ensures { λ r. ⌜ Put8Answer true 8 (now (dst .entry)) «dst_stride» (now (src .entry)) «src_off» «src_stride» w h mx my «filter_type» (now (subpel .entry)) (now (ext .entry)) r (now (dst .exit)) ⌝ }
+{
+    let number = check_8tap(
+        true,
+        dst.len(),
+        dst_stride,
+        src.len(),
+        src_off,
+        src_stride,
+        w,
+        h,
+        mx,
+        my,
+        filter_type,
+        subpel.len(),
+        ext.len(),
+    );
+    if number == 0 {
+        put_8tap_rows8(
+            dst,
+            dst_stride,
+            src,
+            src_off,
+            src_stride,
+            w,
+            h,
+            mx,
+            my,
+            filter_type,
+            subpel,
+            ext,
+        );
+    }
+    number
+}
+
+#[no_mangle]
+pub extern "C" fn hv_prep_8tap_8bpc(
+    tmp: &mut [i16],
+    tmp_stride: usize,
+    src: &[u8],
+    src_off: usize,
+    src_stride: usize,
+    w: usize,
+    h: usize,
+    mx: i32,
+    my: i32,
+    filter_type: i32,
+    subpel: &[i8],
+    ext: &[i8],
+) -> u32
+    ensures { λ r. ⌜ Prep8Answer true 8 (now (tmp .entry)) «tmp_stride» (now (src .entry)) «src_off» «src_stride» w h mx my «filter_type» (now (subpel .entry)) (now (ext .entry)) r (now (tmp .exit)) ⌝ }
+{
+    let number = check_8tap(
+        true,
+        tmp.len(),
+        tmp_stride,
+        src.len(),
+        src_off,
+        src_stride,
+        w,
+        h,
+        mx,
+        my,
+        filter_type,
+        subpel.len(),
+        ext.len(),
+    );
+    if number == 0 {
+        prep_8tap_rows8(
+            tmp,
+            tmp_stride,
+            src,
+            src_off,
+            src_stride,
+            w,
+            h,
+            mx,
+            my,
+            filter_type,
+            subpel,
+            ext,
+        );
+    }
+    number
 }

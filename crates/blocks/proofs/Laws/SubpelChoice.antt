@@ -8,7 +8,7 @@ use borrow.Author.Tests.{le-ltb, lt-ltb}
 use lib.IntN.{ℤ, pos, negsuc}
 use Rattle.rows.specs.Numbers.{up, dn, half}
 use Rattle.rows.specs.Subpel.{family, axis, filterBits}
-use Rattle.blocks.specs.Subpel.{axisOf, filterOf, planOf}
+use Rattle.blocks.specs.Subpel.{axisOf, filterOf, tapsOf, byOne, planOf}
 use Rattle.blocks.specs.declared.subpel.Filter.{Filter}
 use Rattle.blocks.specs.declared.subpel.Filter.the-variants.{Off, Ext, Subpel}
 use Rattle.blocks.specs.declared.subpel.Plan.{Plan}
@@ -57,27 +57,34 @@ pub bits-fit : (t : ℤ) → (6 ≤ filterBits t) × (filterBits t ≤ 7)
 bits-fit (pos t) = omega arith
 bits-fit (negsuc t) = omega arith
 
--- ---- the four cases, by which fractions are 0
-module _ (o s w h : ℕ) (t : ℤ) (N B : ℕ) where
-  pub plan-none : (x y : ℕ) → x ≡ 0 → y ≡ 0 → record { first = Off; both = false; start = o; step = 0; round = half N } ≡ planOf o s w h t N B x y
+-- ---- the four cases, by which fractions are 0: n is N, r and q its halves, f and g the taps
+module _ (o s w h : ℕ) (subpel ext : List ℤ) (t : ℤ) (N B x y : ℕ) {n r : ℕ} (n-is : n ≡ N) (r-is : r ≡ half N) where
+  pub plan-none : {g : List ℤ} → g ≡ tapsOf (axis subpel ext t y h) → x ≡ 0 → y ≡ 0 → byOne n o 0 r g ≡ planOf o s w h subpel ext t N B x y
   unfolding planOf
-  plan-none x y e f = rw (e, f) refl
+  plan-none g-is e f = rw (n-is, r-is, g-is, e, f) refl
 
-  pub plan-down : (x y : ℕ) → x ≡ 0 → 0 < y
-      → record { first = filterOf t y h; both = false; start = o - 3 * s; step = s; round = half N } ≡ planOf o s w h t N B x y
+  pub plan-down : {g : List ℤ} → g ≡ tapsOf (axis subpel ext t y h) → x ≡ 0 → 0 < y → byOne n (o - 3 * s) s r g ≡ planOf o s w h subpel ext t N B x y
   unfolding planOf
-  plan-down x zero e f = absurd (omega arith)
-  plan-down x (suc y) e f = rw e refl
+  plan-down g-is e f = rw (n-is, r-is, g-is, e) (more y f) where
+    more : (y : ℕ) → 0 < y → byOne N (o - 3 * s) s (half N) (tapsOf (axis subpel ext t y h)) ≡ planOf o s w h subpel ext t N B 0 y
+    more zero f = absurd (omega arith)
+    more (suc y) f = refl
 
-  pub plan-across : (x y : ℕ) → 0 < x → y ≡ 0
-      → record { first = filterOf t x w; both = false; start = o - 3; step = 1; round = half N + half (N - B) } ≡ planOf o s w h t N B x y
-  unfolding planOf
-  plan-across zero y e f = absurd (omega arith)
-  plan-across (suc x) y e f = rw f refl
+  module _ {q : ℕ} {f : List ℤ} (q-is : q ≡ half (N - B)) (f-is : f ≡ tapsOf (axis subpel ext t x w)) where
+    pub plan-across : 0 < x → y ≡ 0 → byOne n (o - 3) 1 (r + q) f ≡ planOf o s w h subpel ext t N B x y
+    unfolding planOf
+    plan-across e z = rw (n-is, r-is, q-is, f-is, z) (more x e) where
+      more : (x : ℕ) → 0 < x → byOne N (o - 3) 1 (half N + half (N - B)) (tapsOf (axis subpel ext t x w)) ≡ planOf o s w h subpel ext t N B x 0
+      more zero e = absurd (omega arith)
+      more (suc x) e = refl
 
-  pub plan-both : (x y : ℕ) → 0 < x → 0 < y
-      → record { first = filterOf t x w; both = true; start = o - (3 * s + 3); step = 1; round = half N + half (N - B) } ≡ planOf o s w h t N B x y
-  unfolding planOf
-  plan-both zero y e f = absurd (omega arith)
-  plan-both (suc x) zero e f = absurd (omega arith)
-  plan-both (suc x) (suc y) e f = refl
+    pub plan-both : {g : List ℤ} → g ≡ tapsOf (axis subpel ext t y h) → 0 < x → 0 < y
+        → record { bits = n; both = true; start = o - (3 * s + 3); step = 1; round = r + q; first = f; second = g } ≡ planOf o s w h subpel ext t N B x y
+    unfolding planOf
+    plan-both g-is e z = rw (n-is, r-is, q-is, f-is, g-is) (more x y e z) where
+      more : (x y : ℕ) → 0 < x → 0 < y
+          → record { bits = N; both = true; start = o - (3 * s + 3); step = 1; round = half N + half (N - B); first = tapsOf (axis subpel ext t x w); second = tapsOf (axis subpel ext t y h) }
+          ≡ planOf o s w h subpel ext t N B x y
+      more zero y e f = absurd (omega arith)
+      more (suc x) zero e f = absurd (omega arith)
+      more (suc x) (suc y) e f = refl

@@ -10,7 +10,7 @@ use Rattle.rows.specs.Places.{rowOf, span}
 use Rattle.rows.specs.Copy.{put, prep}
 use Rattle.rows.specs.Subpel.{tapped}
 use Rattle.rows.proofs.Laws.Places.{row-same, row-fits}
-use Rattle.blocks.specs.Ready.{Rows, Line}
+use Rattle.blocks.specs.Ready.{Rows, Reach}
 use Rattle.blocks.specs.Subpel.{putLine, prepLine}
 use Rattle.blocks.proofs.Laws.Rows.{Filled, filled-span, row-in}
 
@@ -21,7 +21,7 @@ module _ {A : Type 0} where
     pub src : o + y * s + w + 7 * step ≤ sl
     pub long : length (span d (y * ds) (y * ds + w)) ≡ w
 
-  pub turn : (z : A) {ds sl o s step w h y : ℕ} {f : ℕ → ℕ → A} {d₀ d : List A} → Rows (length d₀) ds w h → Line sl o s step w h → Filled ds w f d₀ h y d → y < h → Turn d ds sl o s step w y
+  pub turn : (z : A) {ds sl o s step w h y : ℕ} {f : ℕ → ℕ → A} {d₀ d : List A} → Rows (length d₀) ds w h → Reach sl o s step w h → Filled ds w f d₀ h y d → y < h → Turn d ds sl o s step w y
   turn z {ds} {sl} {o} {s} {step} {w} {h} {y} {f} {d₀} {d} p q g lt =
       record {
         dst = omega (arith, row-in y p lt, g);
