@@ -94,3 +94,6 @@ subpel-ready deep dl ds sl o ss w h mx my t tl el e =
         down = held t my h tl el (n .0) (n .1 .1 .0) (q .0) (q .1 .1 .1 .0);
       },
     )
+
+pub subpel-deep : (deep : Bool) (dl ds sl o ss w h : ℕ) (mx my t : ℤ) (tl el : ℕ) → lowest (subpelTests deep dl ds sl o ss w h mx my t tl el) ≡ 0 → deep ≡ true
+subpel-deep deep dl ds sl o ss w h mx my t tl el e = all-met (subpelTests deep dl ds sl o ss w h mx my t tl el) e .1 .1 .1 .1 .0

@@ -1,0 +1,24 @@
+use mathlib.Core.Path.{_∙_}
+use Rattle.rows.proofs.Laws.Places.{row-same}
+use borrow.Author.Needs.{needs}
+use native.Mathlib.Omega.{arith}
+use Rattle.blocks.proofs.Laws.SubpelLines.{put-none, put-some}
+use Rattle.blocks.proofs.subpel.put_line_row16.Statement.{statement}
+use Rattle.blocks.proofs.subpel.put_line_row16.Tie as tie
+
+returns : tie.Need-returns
+returns c =
+    let t = c .before .before .before .before in
+    let a = t .before .before .before .args in
+    c .before .before .copy-row16 .ensures ∙ put-none _ (a .src .now) (a .o) (a .step) (a .f .now) _ _ _ (t .if1 .taken)
+
+pub put-line-row16-spec : {M : Type 1} → statement M
+put-line-row16-spec =
+    tie.close
+    (tie.spec
+    (λ c κs. omega arith)  -- copy-row-requires
+    (λ c κs. omega arith)  -- tap-row-requires
+    (λ c. search needs)  -- same-length
+    returns
+    (λ c. search needs)  -- same-length-2
+    (λ c. c .before .before .tap-row16 .ensures ∙ row-same 0 _ _ _ (λ i b. put-some _ _ _ _ _ _ (omega (arith, c .before .before .before .before .if1 .left)))))  -- returns-2
