@@ -28,3 +28,4 @@ pub mod SubpelChoice
 pub mod SubpelReady
 pub mod SubpelLines
 pub mod SubpelCases
+pub mod SubpelAnswers
