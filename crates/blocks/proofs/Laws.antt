@@ -29,3 +29,5 @@ pub mod SubpelReady
 pub mod SubpelLines
 pub mod SubpelCases
 pub mod SubpelAnswers
+pub mod Weighed
+pub mod MaskReady

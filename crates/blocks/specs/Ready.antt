@@ -133,3 +133,11 @@ pub record Taps (sl o s w h : ℕ) (mx my filterType : ℤ) (tl el : ℕ) : Type
 -- h rows of w from place o on, s apart, with the seven places after each, a step apart
 pub record Reach (sl o s step w h : ℕ) : Type 0 where
   pub fits : o + (h - 1) * s + w + 7 * step ≤ sl
+-- w_mask's buffers: dst, two intermediates without gaps, and a mask of mh rows of mw
+pub record Weighing (dl ds l1 l2 w h ml ms mw mh : ℕ) : Type 0 where
+  pub block : Block w h
+  pub dst : Rows dl ds w h
+  pub tmp1 : Rows l1 w w h
+  pub tmp2 : Rows l2 w w h
+  pub mw1 : 1 ≤ mw
+  pub mask : Rows ml ms mw mh

@@ -4,6 +4,7 @@ pub mod blend;
 pub mod combine;
 pub mod copy;
 pub mod edge;
+pub mod mask;
 pub mod order;
 pub mod refuse;
 pub mod search;

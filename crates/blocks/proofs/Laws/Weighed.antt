@@ -1,0 +1,56 @@
+-- w_mask's rows: what is read of a row of weights. Assumes nothing.
+use mathlib.Core.Path.{_≡_, refl, sym, ap, ap₂, _∙_, subst}
+use mathlib.Core.List.{List, _++_}
+use Prim.Native.Nat.{ℕ, _+_, _-_, _*_, _/_, _≤_, _<_}
+use native.Mathlib.Nat.{zero-add}
+use native.Mathlib.Omega.{arith}
+use lib.IntN.{ℤ}
+use lib.ListN.{length, getD, take, drop, length-append, length-drop, List·getD-append}
+use lib.Seq.{length-take-le}
+use Rattle.rows.specs.Places.{rowOf}
+use Rattle.rows.specs.Combine.{masked, both}
+use Rattle.rows.specs.Mask.{weightOf, pairOf, fourOf}
+use Rattle.rows.proofs.Laws.Places.{length-rowOf, getD-rowOf, row-same}
+
+-- the weight at column i of row j, and the pixel there
+abbrev pub weigh : (depth B : ℕ) (tmp1 tmp2 : List ℤ) (w : ℕ) → ℕ → ℕ → ℕ
+weigh depth B tmp1 tmp2 w i j = both (weightOf depth B) tmp1 tmp2 (j * w) i
+
+abbrev pub mixed : (M B P depth : ℕ) (tmp1 tmp2 : List ℤ) (w : ℕ) → ℕ → ℕ → ℕ
+mixed M B P depth tmp1 tmp2 w i j = both (masked M B P (weigh depth B tmp1 tmp2 w i j)) tmp1 tmp2 (j * w) i
+
+-- pixels made by weights that were read back from their row m
+pub weighed : (rule : ℕ → ℕ → ℕ) (g : ℕ → ℕ) (m : List ℕ) (k n : ℕ) (d : List ℕ) → m ≡ rowOf k g → k ≡ n → d ≡ rowOf n (λ i. rule i (getD m (0 + i) 0)) → d ≡ rowOf n (λ i. rule i (g i))
+weighed rule g m k n d e l p =
+    p ∙ row-same 0 n (λ i. rule i (getD m (0 + i) 0)) (λ i. rule i (g i)) λ i b.
+    ap (rule i) (ap₂ (λ (t : List ℕ) (q : ℕ). getD t q 0) e (zero-add i) ∙ getD-rowOf 0 k g i (omega arith))
+
+-- ---- an array of 64 whose first w places were lent, and came back as the row g
+pub record Front (w : ℕ) (g : ℕ → ℕ) (m : List ℕ) : Type 0 where
+  pub len : length m ≡ 64
+  pub same : (i : ℕ) → i < w → getD m i 0 ≡ g i
+
+pub front-span : (w : ℕ) (m : List ℕ) → w ≤ 64 → length m ≡ 64 → length (take w m) ≡ w
+front-span w m b l = length-take-le w m (omega arith)
+
+pub front : (w : ℕ) (g : ℕ → ℕ) (m r : List ℕ) → w ≤ 64 → length m ≡ 64 → r ≡ rowOf (length (take w m)) g → Front w g (r ++ drop w m)
+front w g m r b l e =
+    let q : r ≡ rowOf w g = e ∙ ap (λ (k : ℕ). rowOf k g) (front-span w m b l) in
+    let n : length r ≡ w = ap length q ∙ length-rowOf w g in
+    record {
+      len = simp (length-append, length-drop) (omega arith);
+      same = λ i h. List·getD-append r (drop w m) 0 i (omega arith) ∙ ap (λ (t : List ℕ). getD t i 0) q ∙ getD-rowOf 0 w g i h;
+    }
+
+-- what the mask keeps of it: pairs, and fours of two of them
+pub pairs : {w : ℕ} {g : ℕ → ℕ} {m : List ℕ} (sign n : ℕ) (r : List ℕ) → Front w g m → 2 * n ≤ w
+    → r ≡ rowOf n (λ i. pairOf sign (getD m (2 * i) 0) (getD m (2 * i + 1) 0)) → r ≡ rowOf n (λ i. pairOf sign (g (2 * i)) (g (2 * i + 1)))
+pairs sign n r f b e =
+    e ∙ row-same 0 n _ _ λ i h. ap₂ (pairOf sign) (f .same (2 * i) (omega arith)) (f .same (2 * i + 1) (omega arith))
+
+pub fours : {w : ℕ} {g g′ : ℕ → ℕ} {m m′ : List ℕ} (sign n : ℕ) (r : List ℕ) → Front w g m → Front w g′ m′ → 2 * n ≤ w
+    → r ≡ rowOf n (λ i. fourOf sign (getD m (2 * i) 0 + getD m (2 * i + 1) 0 + getD m′ (2 * i) 0 + getD m′ (2 * i + 1) 0))
+    → r ≡ rowOf n (λ i. fourOf sign (g (2 * i) + g (2 * i + 1) + g′ (2 * i) + g′ (2 * i + 1)))
+fours sign n r f f′ b e =
+    e ∙ row-same 0 n _ _ λ i h.
+    ap (fourOf sign) (omega (arith, f .same (2 * i) (omega arith), f .same (2 * i + 1) (omega arith), f′ .same (2 * i) (omega arith), f′ .same (2 * i + 1) (omega arith)))
