@@ -7,7 +7,6 @@ pub mod Rows
 pub mod Ready
 pub mod Answer
 pub mod CopyReady
-pub mod Unique
 pub mod EdgeReady
 pub mod CombineReady
 pub mod BilinReady

@@ -121,6 +121,7 @@ pub record Wider (l0 s0 l1 s1 w h : ℕ) : Type 0 where
   pub block : Block w h
   pub first : Rows l0 s0 (w + 8) (h + 8)
   pub second : Rows l1 s1 (w + 8) (h + 8)
+
 -- an 8-tap block's source, whose first pixel is at place o: the place of each tap is in it, and the filters are in their tables
 pub record Taps (sl o s w h : ℕ) (mx my filterType : ℤ) (tl el : ℕ) : Type 0 where
   pub wide : w ≤ s
@@ -133,6 +134,7 @@ pub record Taps (sl o s w h : ℕ) (mx my filterType : ℤ) (tl el : ℕ) : Type
 -- h rows of w from place o on, s apart, with the seven places after each, a step apart
 pub record Reach (sl o s step w h : ℕ) : Type 0 where
   pub fits : o + (h - 1) * s + w + 7 * step ≤ sl
+
 -- w_mask's buffers: dst, two intermediates without gaps, and a mask of mh rows of mw
 pub record Weighing (dl ds l1 l2 w h ml ms mw mh : ℕ) : Type 0 where
   pub block : Block w h

@@ -9,6 +9,6 @@ pub mod order;
 pub mod refuse;
 pub mod search;
 pub mod shear;
-pub mod warp;
 pub mod subpel;
+pub mod warp;
 pub mod window;

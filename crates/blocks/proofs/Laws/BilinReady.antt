@@ -17,6 +17,7 @@ use Rattle.blocks.specs.Refuse.{size, _asks_, need, lowest, orSame, size
 use Rattle.blocks.specs.Subpel.{on, sixteenthOk}
 use Rattle.blocks.specs.Bilinear.{bilinTests, PutBilinAnswer, PrepBilinAnswer}
 use Rattle.blocks.specs.Ready.{Block, Rows, Pairs, Bilin}
+use Rattle.blocks.proofs.Laws.Answer.{unique}
 use Rattle.blocks.proofs.Laws.Refuse.{all-met, stride-met, holds-met}
 use Rattle.blocks.proofs.Laws.Ready.{block-met, rows-met}
 use Rattle.blocks.proofs.Laws.Rows.{Filled, row-in}
@@ -129,19 +130,14 @@ half-small {r} {B} e b = let h : 2 ^ B ≤ 16 = pow-le-pow-right {n = 2} (omega 
 
 -- ---- the answers
 
--- a number and a buffer that the number tells: no other answer meets the same
-pub answer-unique : {A : Type 0} (n : ℕ) (new old : A) {r r′ : ℕ} {d d′ : A}
-    → (r ≡ n) × (d ≡ orSame r new old) → (r′ ≡ n) × (d′ ≡ orSame r′ new old) → (r ≡ r′) × (d ≡ d′)
-answer-unique {A} n new old p q = let e = p .0 ∙ sym (q .0) in (e, p .1 ∙ ap (λ (k : ℕ). orSame k new old) e ∙ sym (q .1))
-
 module _ (deep : Bool) (depth : ℕ) (src : List ℕ) (s ds w h : ℕ) (mx my : ℤ) {r r′ : ℕ} where
   pub put-bilin-unique : (dst : List ℕ) {d d′ : List ℕ}
       → PutBilinAnswer deep depth dst ds src s w h mx my r d → PutBilinAnswer deep depth dst ds src s w h mx my r′ d′ → (r ≡ r′) × (d ≡ d′)
-  put-bilin-unique dst p q = answer-unique _ _ _ p q
+  put-bilin-unique dst p q = unique _ _ p q
 
   pub prep-bilin-unique : (tmp : List ℤ) {d d′ : List ℤ}
       → PrepBilinAnswer deep depth tmp ds src s w h mx my r d → PrepBilinAnswer deep depth tmp ds src s w h mx my r′ d′ → (r ≡ r′) × (d ≡ d′)
-  prep-bilin-unique tmp p q = answer-unique _ _ _ p q
+  prep-bilin-unique tmp p q = unique _ _ p q
 
 -- not vacuous: a block of 2 x 2 between 3 x 3 pixels is accepted, of bytes and at depth 10
 accepted-8 : lowest (bilinTests true 4 2 9 3 2 2 (pos 8) (pos 8)) ≡ 0

@@ -10,23 +10,20 @@ use Rattle.rows.specs.Places.{pixel, fill}
 use Rattle.rows.specs.Combine.{blend, morph}
 use Rattle.blocks.specs.Refuse.{need, lowest, orSame, sizeOk, strideOk, holds, depthOk}
 use Rattle.blocks.specs.Blend.{firstAbove, noneAbove, blendTests, spotOf, BlendAnswer, morphTests, MorphAnswer}
+use Rattle.blocks.proofs.Laws.Answer.{unique-of}
 use Rattle.blocks.specs.declared.blend.Spot.{Spot}
-
--- an answer that is a number n and a function of it is the only one
-pub one-answer : {A : Type 0} (n : ℕ) (f : ℕ → A) (r r′ : ℕ) (d d′ : A) → (r ≡ n) × (d ≡ f r) → (r′ ≡ n) × (d′ ≡ f r′) → (r ≡ r′) × (d ≡ d′)
-one-answer n f r r′ d d′ a b = let e = a .0 ∙ sym (b .0) in (e, a .1 ∙ ap f e ∙ sym (b .1))
 
 pub blend-unique : (dst : List ℕ) (ds : ℕ) (tmp : List ℕ) (w h : ℕ) (mask : List ℕ) (r r′ : ℕ) (d d′ : List ℕ) (row col row′ col′ : ℕ)
     → BlendAnswer dst ds tmp w h mask r d row col → BlendAnswer dst ds tmp w h mask r′ d′ row′ col′ → (r ≡ r′) × (d ≡ d′) × (row ≡ row′) × (col ≡ col′)
 blend-unique dst ds tmp w h mask r r′ d d′ row col row′ col′ a b =
-    let p = one-answer _ (λ (n : ℕ). orSame n (fill dst ds w h (λ i j. blend (pixel mask w i j) (pixel dst ds i j) (pixel tmp w i j))) dst) r r′ d d′ (a .0, a .1) (b .0, b .1) in
-    let q = one-answer _ (λ (n : ℕ). spotOf n w h mask) r r′ (record { row = row; col = col }) (record { row = row′; col = col′ }) (a .0, a .2) (b .0, b .2) in
+    let p = unique-of _ (λ (n : ℕ). orSame n (fill dst ds w h (λ i j. blend (pixel mask w i j) (pixel dst ds i j) (pixel tmp w i j))) dst) (a .0, a .1) (b .0, b .1) in
+    let q = unique-of _ (λ (n : ℕ). spotOf n w h mask) {d = record { row = row; col = col }} {d′ = record { row = row′; col = col′ }} (a .0, a .2) (b .0, b .2) in
     (p .0, p .1, ap (λ (s : Spot). s .row) (q .1), ap (λ (s : Spot). s .col) (q .1))
 
 pub morph-unique : (deep : Bool) (depth : ℕ) (dst : List ℕ) (ds : ℕ) (alpha beta : ℤ) (w h : ℕ) (r r′ : ℕ) (d d′ : List ℕ)
     → MorphAnswer deep depth dst ds alpha beta w h r d → MorphAnswer deep depth dst ds alpha beta w h r′ d′ → (r ≡ r′) × (d ≡ d′)
 morph-unique deep depth dst ds alpha beta w h r r′ d d′ =
-    one-answer _ (λ (n : ℕ). orSame n (fill dst ds w h (λ i j. morph (maxOf depth) alpha beta (pixel dst ds i j))) dst) r r′ d d′
+    unique-of _ (λ (n : ℕ). orSame n (fill dst ds w h (λ i j. morph (maxOf depth) alpha beta (pixel dst ds i j))) dst)
 
 -- a block of two rows of one pixel, at a stride of three; of the mask's two values, the second may be 64, and at 65 is refused at row 1, column 0
 blend-64 : lowest (blendTests 4 3 2 1 2 (0 ∷ 64 ∷ [])) ≡ 0

@@ -19,7 +19,7 @@ use Rattle.blocks.specs.Refuse.{need, lowest, orSame, sizeOk, strideOk, 
 use Rattle.blocks.specs.Ready.{Fetch}
 use Rattle.blocks.specs.Edge.{placeOk, edgeTests, EdgeAnswer}
 use Rattle.blocks.proofs.Laws.Refuse.{all-met, size-met}
-use Rattle.blocks.proofs.Laws.Unique.{unique}
+use Rattle.blocks.proofs.Laws.Answer.{unique-of}
 use Rattle.blocks.proofs.Laws.Ready.{rows-met}
 use Rattle.blocks.proofs.Laws.Rows.{row-in}
 
@@ -100,7 +100,7 @@ row-is plane ps iw ih x y j n e q = q ∙ ap (λ (m : ℕ). rowOf n (λ i. getD 
 edge-unique : (bw bh iw ih : ℕ) (x y : ℤ) (dst : List ℕ) (ds : ℕ) (plane : List ℕ) (ps : ℕ) (r r′ : ℕ) (d d′ : List ℕ)
     → EdgeAnswer bw bh iw ih x y dst ds plane ps r d → EdgeAnswer bw bh iw ih x y dst ds plane ps r′ d′ → (r ≡ r′) × (d ≡ d′)
 edge-unique bw bh iw ih x y dst ds plane ps r r′ d d′ =
-    unique (lowest (edgeTests bw bh iw ih x y (length dst) ds (length plane) ps)) (λ n. orSame n (fill dst ds bw bh (edge plane ps iw ih x y)) dst)
+    unique-of (lowest (edgeTests bw bh iw ih x y (length dst) ds (length plane) ps)) (λ n. orSame n (fill dst ds bw bh (edge plane ps iw ih x y)) dst)
 
 -- a block of 8 x 8 far outside a plane of 4 x 3 is accepted
 edge-accepted : lowest (edgeTests 8 8 4 3 (negsuc 99) (pos 50) 64 8 12 4) ≡ 0

@@ -24,7 +24,7 @@ use Rattle.blocks.specs.Search.{bestOf, sadsTests, sadTests, refineTests
 use Rattle.blocks.proofs.Laws.Deep.{deep-high}
 use Rattle.blocks.proofs.Laws.Refuse.{all-met, done}
 use Rattle.blocks.proofs.Laws.Ready.{block-met, rows-met}
-use Rattle.blocks.proofs.Laws.Unique.{unique}
+use Rattle.blocks.proofs.Laws.Answer.{unique-of}
 
 -- ---- the sizes first, then the rest
 -- where the sizes refuse, they give the number, whatever the rest says
@@ -309,14 +309,14 @@ explicit-answer deep depth p s q s′ w h x y a e f =
 sad-unique : (deep : Bool) (depth : ℕ) (p : List ℕ) (s : ℕ) (q : List ℕ) (s′ w h : ℕ) (r r′ : ℕ) (t t′ : ℤ)
     → SadAnswer deep depth p s q s′ w h r t → SadAnswer deep depth p s q s′ w h r′ t′ → (r ≡ r′) × (t ≡ t′)
 sad-unique deep depth p s q s′ w h r r′ t t′ =
-    unique (lowest (sadTests deep (length p) s (length q) s′ w h)) (λ n. orSame n (pos (sad depth (pixel p s) (pixel q s′) w h)) (pos 0))
+    unique-of (lowest (sadTests deep (length p) s (length q) s′ w h)) (λ n. orSame n (pos (sad depth (pixel p s) (pixel q s′) w h)) (pos 0))
 
 refine-unique : (deep : Bool) (depth : ℕ) (p : List ℕ) (s : ℕ) (q : List ℕ) (s′ w h : ℕ) (isImplicit : Bool) (r r′ : ℕ) (x x′ y y′ : ℤ)
     → RefineAnswer deep depth p s q s′ w h isImplicit r x y → RefineAnswer deep depth p s q s′ w h isImplicit r′ x′ y′
     → (r ≡ r′) × (x ≡ x′) × (y ≡ y′)
 refine-unique deep depth p s q s′ w h isImplicit r r′ x x′ y y′ a b =
     let o = refine depth isImplicit (pixel p s) (pixel q s′) w h in
-    let e = unique (lowest (refineTests deep (length p) s (length q) s′ w h)) (λ n. orSame n o centre) a b in
+    let e = unique-of (lowest (refineTests deep (length p) s (length q) s′ w h)) (λ n. orSame n o centre) a b in
     (e .0, ap (λ (o : Offset). o .dx) (e .1), ap (λ (o : Offset). o .dy) (e .1))
 
 -- a block of 8 x 8 in buffers that hold just that, and just the 16 x 16 around it, is accepted

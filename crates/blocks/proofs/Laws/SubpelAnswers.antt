@@ -1,16 +1,14 @@
 -- 8-tap: an answer is the only one, and calls are accepted; the limits of what is read. Assumes nothing.
-use mathlib.Core.Path.{_≡_, refl, sym, ap, _∙_}
+use mathlib.Core.Path.{_≡_, refl}
 use mathlib.Core.Bool.{Bool, true, false}
 use mathlib.Core.List.{List}
 use Prim.Native.Nat.{ℕ}
 use lib.IntN.{ℤ, pos, negsuc}
 use Rattle.blocks.specs.Refuse.{need, lowest, sizeOk, strideOk, holds, reads, depthOk, wholeFilters}
+use Rattle.blocks.proofs.Laws.Answer.{unique}
 use Rattle.blocks.specs.Subpel.{typeOk, sixteenthOk, fractionOk, subpelOk, filterIn, subpelTests, Put8Answer, Prep8Answer}
 
 -- ---- two results that meet one answer are equal
-unique : {A : Type 0} (n : ℕ) (f : ℕ → A) {r r′ : ℕ} {d d′ : A} → (r ≡ n) × (d ≡ f r) → (r′ ≡ n) × (d′ ≡ f r′) → (r ≡ r′) × (d ≡ d′)
-unique n f p q = let e = p .0 ∙ sym (q .0) in (e, p .1 ∙ ap f e ∙ sym (q .1))
-
 module _ (deep : Bool) (depth ds : ℕ) (src : List ℕ) (o ss w h : ℕ) (mx my t : ℤ) (subpel ext : List ℤ) {r r′ : ℕ} where
   put8-unique : (dst : List ℕ) {d d′ : List ℕ} → Put8Answer deep depth dst ds src o ss w h mx my t subpel ext r d
       → Put8Answer deep depth dst ds src o ss w h mx my t subpel ext r′ d′ → (r ≡ r′) × (d ≡ d′)

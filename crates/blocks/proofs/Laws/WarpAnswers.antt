@@ -13,12 +13,9 @@ use Rattle.rows.specs.Warp.{filterNo, isThere, every, allThere, warpPut, warpPr
 use Rattle.blocks.specs.Refuse.{need, lowest, orSame, strideOk, holds, reads, wholeFilters}
 use Rattle.blocks.specs.Shear.{recipOk, divisorTests, divisorOf, entriesOk, shearTests, sheared, ShearAnswer, affineMvTests, withMv, AffineMvAnswer}
 use Rattle.blocks.specs.Warp.{warpPlaceOk, warpTests, WarpAnswer, WarpTAnswer}
+use Rattle.blocks.proofs.Laws.Answer.{unique-of}
 use Rattle.blocks.specs.declared.shear.Divisor.{Divisor}
 use Rattle.blocks.specs.declared.shear.WarpParams.{WarpParams}
-
--- ---- an answer whose number and rest are equations is the only one
-one-answer : {A : Type 0} (n : ℕ) (f : ℕ → A) {r r′ : ℕ} {d d′ : A} → (r ≡ n) × (d ≡ f r) → (r′ ≡ n) × (d′ ≡ f r′) → (r ≡ r′) × (d ≡ d′)
-one-answer n f p q = let e = p .0 ∙ sym (q .0) in (e, p .1 ∙ ap f e ∙ sym (q .1))
 
 pub divisor-unique : (d : ℕ) (recip : List ℕ) {r r′ : ℕ} {y y′ k k′ : ℤ}
     → _≡_ {A = Divisor} (record { number = r; y = y; shift = k }) (divisorOf d recip)
@@ -30,22 +27,22 @@ divisor-unique d recip p q =
 
 pub shear-unique : (wm : WarpParams) (recip : List ℕ) {r r′ : ℕ} {w w′ : WarpParams}
     → ShearAnswer wm recip r w → ShearAnswer wm recip r′ w′ → (r ≡ r′) × (w ≡ w′)
-shear-unique wm recip p q = one-answer _ (λ n. orSame n (sheared wm recip) wm) p q
+shear-unique wm recip p q = unique-of _ (λ n. orSame n (sheared wm recip) wm) p q
 
 pub affine-mv-unique : (bw4 bh4 mvx mvy : ℤ) (m : List ℤ) (bx4 by4 : ℤ) {r r′ : ℕ} {n n′ : List ℤ}
     → AffineMvAnswer bw4 bh4 mvx mvy m bx4 by4 r n → AffineMvAnswer bw4 bh4 mvx mvy m bx4 by4 r′ n′ → (r ≡ r′) × (n ≡ n′)
-affine-mv-unique bw4 bh4 mvx mvy m bx4 by4 p q = one-answer _ (λ k. orSame k (withMv bw4 bh4 mvx mvy m bx4 by4) m) p q
+affine-mv-unique bw4 bh4 mvx mvy m bx4 by4 p q = unique-of _ (λ k. orSame k (withMv bw4 bh4 mvx mvy m bx4 by4) m) p q
 
 module _ (deep : Bool) (depth : ℕ) (ds : ℕ) (src : List ℕ) (ss off : ℕ) (a b c d mx my : ℤ) (t : List ℤ) where
   pub warp-unique : (dst : List ℕ) {r r′ : ℕ} {e e′ : List ℕ}
       → WarpAnswer deep depth dst ds src ss off a b c d mx my t r e → WarpAnswer deep depth dst ds src ss off a b c d mx my t r′ e′ → (r ≡ r′) × (e ≡ e′)
   warp-unique dst p q =
-      one-answer _ (λ n. orSame n (fill dst ds 8 8 (λ i j. warpPut (maxOf depth) (bitsOf depth) t mx my a b c d i j (around 3 src off ss i j))) dst) p q
+      unique-of _ (λ n. orSame n (fill dst ds 8 8 (λ i j. warpPut (maxOf depth) (bitsOf depth) t mx my a b c d i j (around 3 src off ss i j))) dst) p q
 
   pub warp-t-unique : (tmp : List ℤ) {r r′ : ℕ} {e e′ : List ℤ}
       → WarpTAnswer deep depth tmp ds src ss off a b c d mx my t r e → WarpTAnswer deep depth tmp ds src ss off a b c d mx my t r′ e′ → (r ≡ r′) × (e ≡ e′)
   warp-t-unique tmp p q =
-      one-answer _ (λ n. orSame n (fill tmp ds 8 8 (λ i j. warpPrep (bitsOf depth) (biasOf depth) t mx my a b c d i j (around 3 src off ss i j))) tmp) p q
+      unique-of _ (λ n. orSame n (fill tmp ds 8 8 (λ i j. warpPrep (bitsOf depth) (biasOf depth) t mx my a b c d i j (around 3 src off ss i j))) tmp) p q
 
 -- ---- calls that are accepted: d = 3, whose reciprocal is at place 64, with every reciprocal 16384
 divisor-accepts : divisorOf 3 (replicate 129 16384) ≡ record { number = 0; y = pos 16384; shift = pos 10 }
