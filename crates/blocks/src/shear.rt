@@ -1,7 +1,7 @@
 // The warp model: a divisor's reciprocal, the four shears, and the offsets that a motion gives.
 ghost use mathlib.Core.Path.{_≡_};
 ghost use Prim.Native.Nat.{_^_, _<_, _≤_};
-ghost use lib.IntN.{ℤ, pos, negsuc, natAbs};
+ghost use lib.IntN.{pos, negsuc, natAbs};
 ghost use lib.ListN.{length};
 ghost use Rattle.rows.specs.Numbers.{at, between, clipTo, near};
 ghost use Rattle.rows.specs.Shear.{Q, topBit, recipPlace, g, shearC, shearD, affineOf, middle, offsetOf};
@@ -362,7 +362,8 @@ pub fn set_affine_mv2d(
     bx4: i32,
     by4: i32,
 ) -> Answered
-    ensures { λ r. ⌜ AffineMvAnswer bw4 bh4 «mv_x» «mv_y» (wm .matrix) bx4 by4 (r .number) (r .warp .matrix) × (r .warp .abcd ≡ wm .abcd) × (r .warp .affine ≡ wm .affine) ⌝ }
+    ensures { λ r. ⌜ AffineMvAnswer bw4 bh4 «mv_x» «mv_y» (wm .matrix) bx4 by4 (r .number) (r .warp .matrix)
+        × (r .warp .abcd ≡ wm .abcd) × (r .warp .affine ≡ wm .affine) ⌝ }
 {
     let matrix = wm.matrix;
     let number = check_affine_mv(bw4, bh4, mv_x, mv_y, matrix, bx4, by4);

@@ -1,14 +1,14 @@
 // warp_affine_8x8 and 8x8t: blocks of eight by eight, each pixel with filters of its own.
 ghost use mathlib.Core.Path.{_≡_};
 ghost use mathlib.Core.Bool.{true};
-ghost use Prim.Native.Nat.{ℕ, suc, _+_, _-_, _*_, _/_, _^_, _≤_};
-ghost use lib.IntN.{ℤ, pos, natAbs};
+ghost use Prim.Native.Nat.{suc, _+_, _-_, _*_, _/_, _^_, _≤_};
+ghost use lib.IntN.{pos, natAbs};
 ghost use lib.ListN.{length};
 ghost use Rattle.rows.specs.Numbers.{at, px, clip, low16, minus16, up};
 ghost use Rattle.rows.specs.Places.{fill, around};
 ghost use Rattle.rows.specs.Warp.{filterNo, isThere, every, allThere, warped, warpPut, warpPrep};
 ghost use Rattle.blocks.specs.Refuse.{need, lowest, strideOk, holds, reads, wholeFilters, depthOk};
-ghost use Rattle.blocks.specs.Ready.{Rows, Pass, Warps};
+ghost use Rattle.blocks.specs.Ready.{Rows, Bits, Pass, Warps};
 ghost use Rattle.blocks.specs.Warp.{warpPlaceOk, warpTests, WarpAnswer, WarpTAnswer};
 use crate::refuse::depth_numbers;
 use crate::refuse::depth_ok;
@@ -436,7 +436,8 @@ fn warp_prep16(
     bits: u32,
     bias: u32,
 )
-    requires { ⌜ Warps (length (now tmp)) «tmp_stride» (length (now src)) «src_off» «src_stride» (length (now warp) / 8) a b c d mx my × (bits ≤ 4) × (bias ≤ 8192) ⌝ }
+    requires { ⌜ Warps (length (now tmp)) «tmp_stride» (length (now src)) «src_off» «src_stride» (length (now warp) / 8) a b c d mx my
+        × Bits bits bias ⌝ }
     ensures { λ _. ⌜ now (tmp .exit) ≡ fill (now (tmp .entry)) «tmp_stride» 8 8
         (λ i j. warpPrep bits bias (now (warp .entry)) mx my a b c d i j (around 3 (now (src .entry)) «src_off» «src_stride» i j)) ⌝ }
 {
@@ -470,7 +471,8 @@ pub extern "C" fn hv_warp_affine_8x8_8bpc(
     my: i32,
     warp: &[i8],
 ) -> u32
-    ensures { λ r. ⌜ WarpAnswer true 8 (now (dst .entry)) «dst_stride» (now (src .entry)) «src_stride» «src_off» a b c d mx my (now (warp .entry)) r (now (dst .exit)) ⌝ }
+    ensures { λ r. ⌜ WarpAnswer true 8 (now (dst .entry)) «dst_stride» (now (src .entry)) «src_stride» «src_off» a b c d mx my
+        (now (warp .entry)) r (now (dst .exit)) ⌝ }
 {
     let number = check_warp(
         true,
@@ -522,7 +524,8 @@ pub extern "C" fn hv_warp_affine_8x8_16bpc(
     my: i32,
     warp: &[i8],
 ) -> u32
-    ensures { λ r. ⌜ WarpAnswer (depthOk depth) (up depth) (now (dst .entry)) «dst_stride» (now (src .entry)) «src_stride» «src_off» a b c d mx my (now (warp .entry)) r (now (dst .exit)) ⌝ }
+    ensures { λ r. ⌜ WarpAnswer (depthOk depth) (up depth) (now (dst .entry)) «dst_stride» (now (src .entry)) «src_stride» «src_off» a b c d mx my
+        (now (warp .entry)) r (now (dst .exit)) ⌝ }
 {
     let number = check_warp(
         depth_ok(depth),
@@ -576,7 +579,8 @@ pub extern "C" fn hv_warp_affine_8x8t_8bpc(
     my: i32,
     warp: &[i8],
 ) -> u32
-    ensures { λ r. ⌜ WarpTAnswer true 8 (now (tmp .entry)) «tmp_stride» (now (src .entry)) «src_stride» «src_off» a b c d mx my (now (warp .entry)) r (now (tmp .exit)) ⌝ }
+    ensures { λ r. ⌜ WarpTAnswer true 8 (now (tmp .entry)) «tmp_stride» (now (src .entry)) «src_stride» «src_off» a b c d mx my
+        (now (warp .entry)) r (now (tmp .exit)) ⌝ }
 {
     let number = check_warp(
         true,
@@ -628,7 +632,8 @@ pub extern "C" fn hv_warp_affine_8x8t_16bpc(
     my: i32,
     warp: &[i8],
 ) -> u32
-    ensures { λ r. ⌜ WarpTAnswer (depthOk depth) (up depth) (now (tmp .entry)) «tmp_stride» (now (src .entry)) «src_stride» «src_off» a b c d mx my (now (warp .entry)) r (now (tmp .exit)) ⌝ }
+    ensures { λ r. ⌜ WarpTAnswer (depthOk depth) (up depth) (now (tmp .entry)) «tmp_stride» (now (src .entry)) «src_stride» «src_off» a b c d mx my
+        (now (warp .entry)) r (now (tmp .exit)) ⌝ }
 {
     let number = check_warp(
         depth_ok(depth),

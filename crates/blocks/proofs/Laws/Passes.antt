@@ -1,5 +1,5 @@
 -- Warp's two passes: a row of eight more in a block, and the second pass over the first. Assumes nothing.
-use mathlib.Core.Path.{_≡_, refl, sym, ap, _∙_}
+use mathlib.Core.Path.{_≡_, sym, ap, _∙_}
 use mathlib.Core.List.{List}
 use Prim.Native.Nat.{ℕ, _+_, _-_, _*_, _≤_, _<_}
 use native.Mathlib.Nat.{mul-le-mul-right}
@@ -7,7 +7,7 @@ use native.Mathlib.Omega.{arith}
 use lib.IntN.{ℤ, pos}
 use lib.ListN.{length, getD}
 use Rattle.rows.specs.Numbers.{at, px, clip, low16, minus16}
-use Rattle.rows.specs.Places.{rowOf, span, splice, fill, around}
+use Rattle.rows.specs.Places.{rowOf, splice, fill, around}
 use Rattle.rows.specs.Warp.{warped, warpMid, warpPut, warpPrep}
 use Rattle.rows.proofs.Laws.Fill.{fill-in, fill-same}
 use Rattle.rows.proofs.Laws.Taps.{tapped-same}

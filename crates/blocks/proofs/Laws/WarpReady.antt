@@ -1,9 +1,8 @@
 -- Warp's number 0 gives what its passes rely on; its tests in two parts. Assumes nothing.
-use mathlib.Core.Path.{_≡_, refl, sym, ap, _∙_}
-use mathlib.Core.Bool.{Bool, true, false, _&&_}
+use mathlib.Core.Path.{_≡_, refl}
+use mathlib.Core.Bool.{Bool, true, false}
 use mathlib.Core.List.{List, [], _∷_, _++_}
-use Prim.Native.Nat.{ℕ, suc, _+_, _*_, _/_, _^_, _≤_, _<_}
-use native.Mathlib.Omega.{arith}
+use Prim.Native.Nat.{ℕ, _+_, _*_, _/_, _^_, _≤_}
 use borrow.Author.Tests.{leb-true, ltb-true}
 use lib.Dec.{leb, ltb}
 use lib.IntN.{ℤ, natAbs}
@@ -63,10 +62,12 @@ bufferTests dl dstStride sl srcStride srcOff a b c d mx my tl =
     ∷ []
 
 module _ (deep : Bool) (dl ds sl ss off : ℕ) (a b c d mx my : ℤ) (tl : ℕ) where
-  pub warp-stop : (lowest (numberTests deep ds ss mx my) ≡ 0 → ⊥) → lowest (warpTests deep dl ds sl ss off a b c d mx my tl) ≡ lowest (numberTests deep ds ss mx my)
+  pub warp-stop : (lowest (numberTests deep ds ss mx my) ≡ 0 → ⊥)
+      → lowest (warpTests deep dl ds sl ss off a b c d mx my tl) ≡ lowest (numberTests deep ds ss mx my)
   warp-stop h = first-part (numberTests deep ds ss mx my) (bufferTests dl ds sl ss off a b c d mx my tl) h
 
-  pub warp-go : lowest (numberTests deep ds ss mx my) ≡ 0 → lowest (warpTests deep dl ds sl ss off a b c d mx my tl) ≡ lowest (bufferTests dl ds sl ss off a b c d mx my tl)
+  pub warp-go : lowest (numberTests deep ds ss mx my) ≡ 0
+      → lowest (warpTests deep dl ds sl ss off a b c d mx my tl) ≡ lowest (bufferTests dl ds sl ss off a b c d mx my tl)
   warp-go e = second-part (numberTests deep ds ss mx my) (bufferTests dl ds sl ss off a b c d mx my tl) e
 
 -- ---- all of them

@@ -1,12 +1,12 @@
 -- -1 - v always fits, and is the magnitude of a v below 0.
-use mathlib.Core.Path.{_≡_, sym}
+use mathlib.Core.Path.{_≡_}
 use native.Mathlib.Omega.{arith}
-use lib.IntN.{ℤ, pos, natAbs}
+use lib.IntN.{ℤ, pos}
 use lib.Signed.{mag, ltZ}
-use mathlib.Core.Bool.{true, false}
+use mathlib.Core.Bool.{true}
 use mir.Syntax.{w64}
 use mir.Val.{SFits}
-use Rattle.rows.proofs.Laws.Signed.{back, flip, below, above, fit, mag-abs, abs-mag, one-part}
+use Rattle.rows.proofs.Laws.Signed.{back, flip, below, above, abs-mag}
 use Rattle.blocks.proofs.shear.abs64.Statement.{statement}
 use Rattle.blocks.proofs.shear.abs64.Tie as tie
 

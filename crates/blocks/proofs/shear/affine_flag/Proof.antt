@@ -2,7 +2,6 @@ use borrow.Author.Needs.{needs}
 use mathlib.Core.Path.{_≡_, refl}
 use mathlib.Core.Bool.{Bool, true, false, cond}
 use native.Mathlib.Omega.{arith}
-use Prim.Native.Nat.{_≤_}
 use lib.IntN.{natAbs, pos}
 use mir.Syntax.{w32}
 use mir.Val.{toZ, boolByte}
@@ -35,19 +34,19 @@ pub affine-flag-spec : {M : Type 1} → statement M
 affine-flag-spec =
     tie.close
     (tie.spec
-    (λ c. search reading)
-    (λ c κs. search needs)
-    (λ c. omega (arith, one c, abs-mag (c .before .args .a)))
-    (λ c. search reading)
-    (λ c κs. search needs)
-    (λ c. omega (arith, two c, abs-mag (c .before .before .args .b)))
-    (λ c. omega (arith, one (c .before), abs-mag (c .before .before .args .a), two c, abs-mag (c .before .before .args .b)))
-    (λ c. search reading)
-    (λ c κs. search needs)
-    (λ c. omega (arith, three c, abs-mag (c .before .before .before .args .c)))
-    (λ c. search reading)
-    (λ c κs. search needs)
-    (λ c. omega (arith, four c, abs-mag (c .before .before .before .before .args .d)))
-    (λ c. omega (arith, three (c .before), abs-mag (c .before .before .before .before .args .c), four c, abs-mag (c .before .before .before .before .args .d)))
-    (λ c. search needs)
+    (λ c. search reading)  -- cast-abs32
+    (λ c κs. search needs)  -- abs32-requires
+    (λ c. omega (arith, one c, abs-mag (c .before .args .a)))  -- mul-first
+    (λ c. search reading)  -- cast-abs32-2
+    (λ c κs. search needs)  -- abs32-requires-2
+    (λ c. omega (arith, two c, abs-mag (c .before .before .args .b)))  -- mul-first-2
+    (λ c. omega (arith, one (c .before), abs-mag (c .before .before .args .a), two c, abs-mag (c .before .before .args .b)))  -- add-first
+    (λ c. search reading)  -- cast-abs32-3
+    (λ c κs. search needs)  -- abs32-requires-3
+    (λ c. omega (arith, three c, abs-mag (c .before .before .before .args .c)))  -- mul-second
+    (λ c. search reading)  -- cast-abs32-4
+    (λ c κs. search needs)  -- abs32-requires-4
+    (λ c. omega (arith, four c, abs-mag (c .before .before .before .before .args .d)))  -- mul-second-2
+    (λ c. omega (arith, three (c .before), abs-mag (c .before .before .before .before .args .c), four c, abs-mag (c .before .before .before .before .args .d)))  -- add-second
+    (λ c. search needs)  -- cast-result
     returns)

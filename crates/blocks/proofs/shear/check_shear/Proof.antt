@@ -9,7 +9,13 @@ returns : tie.Need-returns
 unfolding recipOk
 returns c =
     let last = c .before .before in
-    rw (c .needed3 .ensures, c .before .needed2 .ensures, last .needed .ensures, last .before .before .entries-ok .ensures, back (fit w32 (last .before .needed-arg .given)))
+    rw (
+      c .needed3 .ensures,
+      c .before .needed2 .ensures,
+      last .needed .ensures,
+      last .before .before .entries-ok .ensures,
+      back (fit w32 (last .before .needed-arg .given)),
+    )
 
 pub check-shear-spec : {M : Type 1} → statement M
 check-shear-spec =

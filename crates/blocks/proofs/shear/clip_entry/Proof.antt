@@ -1,7 +1,5 @@
-use native.Mathlib.Omega.{arith}
-use mir.Syntax.{w32, w64}
+use mir.Syntax.{w32}
 use mir.Val.{SFits}
-use lib.IntN.{ℤ, pos, negsuc}
 use Rattle.rows.proofs.Laws.Signed.{signed, rd, back}
 use Rattle.blocks.proofs.shear.clip_entry.Statement.{statement}
 use Rattle.blocks.proofs.shear.clip_entry.Tie as tie

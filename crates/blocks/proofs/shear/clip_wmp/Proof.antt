@@ -1,7 +1,5 @@
-use native.Mathlib.Omega.{arith}
-use mir.Syntax.{w16, w32}
+use mir.Syntax.{w16}
 use mir.Val.{SFits}
-use lib.IntN.{ℤ, pos, negsuc}
 use Rattle.rows.proofs.Laws.Signed.{signed, rd, back}
 use Rattle.blocks.proofs.shear.clip_wmp.Statement.{statement}
 use Rattle.blocks.proofs.shear.clip_wmp.Tie as tie

@@ -1,5 +1,4 @@
 use borrow.Author.Needs.{needs}
-use mathlib.Core.Path.{_≡_, _∙_}
 use mir.Syntax.{w32}
 use Rattle.rows.proofs.Laws.Signed.{back, fit}
 use Rattle.blocks.specs.Shear.{entriesOk}

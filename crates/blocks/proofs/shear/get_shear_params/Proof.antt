@@ -1,5 +1,5 @@
 use borrow.Author.Needs.{needs}
-use mathlib.Core.Path.{_≡_, sym, _∙_}
+use mathlib.Core.Path.{sym, _∙_}
 use Rattle.blocks.proofs.Laws.Refuse.{done, refused}
 use Rattle.blocks.proofs.Laws.Shears.{shear-ready}
 use Rattle.blocks.proofs.shear.get_shear_params.Statement.{statement}

@@ -1,6 +1,6 @@
 use borrow.Author.Needs.{needs}
 use native.Mathlib.Omega.{arith}
-use lib.IntN.{ℤ, pos, _+ℤ_, _-ℤ_, _*ℤ_}
+use lib.IntN.{ℤ, pos, _+ℤ_, _-ℤ_}
 use lib.Signed.{shrZ}
 use mir.Syntax.{w16, w32, w64}
 use mir.Val.{SFits}
@@ -37,17 +37,29 @@ returns c =
     let f : SFits w32 (cut .result) = omega arith in
     let g : SFits w32 (shrZ (cut .result) 64) = omega (arith, mag-shr (cut .result) 64) in
     let r : SFits w16 (c .clip-wmp .result) = omega arith in
-    rw (back r, c .clip-wmp .ensures, back f, back g, back (down-fits _ f), cut .ensures, back32 (s .fits .v), back (sum s), back (s .fits .v), neg-bit (v s), back (all s))
+    rw (
+      back r,
+      c .clip-wmp .ensures,
+      back f,
+      back g,
+      back (down-fits _ f),
+      cut .ensures,
+      back32 (s .fits .v),
+      back (sum s),
+      back (s .fits .v),
+      neg-bit (v s),
+      back (all s),
+    )
 
 pub iclip-wmp-spec : {M : Type 1} → statement M
 iclip-wmp-spec =
     tie.close
     (tie.spec
-    (λ c. search reading)
-    (λ c. rw (back32 (c .fits .v)) (sum c))
-    (λ c. search needs)
+    (λ c. search reading)  -- cast-keep32
+    (λ c. rw (back32 (c .fits .v)) (sum c))  -- add-keep32
+    (λ c. search needs)  -- cast-keep32-2
     sub-keep32
-    (λ c κs. search needs)
+    (λ c κs. search needs)  -- keep32-requires
     mul-clip-wmp
-    (λ c κs. search needs)
+    (λ c κs. search needs)  -- clip-wmp-requires
     returns)

@@ -1,6 +1,6 @@
 use mathlib.Core.Path.{refl}
 use native.Mathlib.Omega.{arith}
-use Prim.Native.Nat.{_≤_, _^_}
+use Prim.Native.Nat.{_≤_}
 use lib.IntN.{ℤ, pos, natAbs, _+ℤ_, _-ℤ_, _*ℤ_}
 use mir.Syntax.{w32}
 use mir.Val.{SFits}
@@ -42,8 +42,8 @@ pub middle-of-spec : {M : Type 1} → statement M
 middle-of-spec =
     tie.close
     (tie.spec
-    (λ c. simp (back (c .fits .b4)) (a c))
-    (λ c. simp (back (c .fits .size4)) (b c))
-    (λ c. simp (back (c .fits .b4), back (c .fits .size4), back (a c), back (b c)) (s c))
-    (λ c. simp (back (c .fits .b4), back (c .fits .size4), back (a c), back (b c), back (s c)) (d c))
+    (λ c. simp (back (c .fits .b4)) (a c))  -- mul-result
+    (λ c. simp (back (c .fits .size4)) (b c))  -- mul-result-2
+    (λ c. simp (back (c .fits .b4), back (c .fits .size4), back (a c), back (b c)) (s c))  -- add-result
+    (λ c. simp (back (c .fits .b4), back (c .fits .size4), back (a c), back (b c), back (s c)) (d c))  -- sub-result
     returns)

@@ -54,28 +54,43 @@ sub-clip-entry : tie.Need-sub-clip-entry
 sub-clip-entry c = simp (back32 (c .fits .mv), back32 (c .fits .x), back32 (c .fits .p), back (a c), back (b c)) (s c)
 
 sub-clip-entry-2 : tie.Need-sub-clip-entry-2
-sub-clip-entry-2 c = simp (back32 (c .fits .mv), back32 (c .fits .x), back32 (c .fits .p), back32 (c .fits .y), back32 (c .fits .q), back (a c), back (b c), back (s c), back (d c)) (e c)
+sub-clip-entry-2 c =
+    let f = c .fits in
+    simp (back32 (f .mv), back32 (f .x), back32 (f .p), back32 (f .y), back32 (f .q), back (a c), back (b c), back (s c), back (d c)) (e c)
 
 returns : tie.Need-returns
 unfolding offsetOf
 returns c =
-    let t = c .before in
-    let f : SFits w32 (c .clip-entry .result) = omega arith in
-    rw (back f, c .clip-entry .ensures, back32 (t .fits .mv), back32 (t .fits .x), back32 (t .fits .p), back32 (t .fits .y), back32 (t .fits .q), back (a t), back (b t), back (s t), back (d t), back (e t))
+    let t = c .before in let f = t .fits in
+    let r : SFits w32 (c .clip-entry .result) = omega arith in
+    rw (
+      back r,
+      c .clip-entry .ensures,
+      back32 (f .mv),
+      back32 (f .x),
+      back32 (f .p),
+      back32 (f .y),
+      back32 (f .q),
+      back (a t),
+      back (b t),
+      back (s t),
+      back (d t),
+      back (e t),
+    )
 
 pub offset-of-spec : {M : Type 1} → statement M
 offset-of-spec =
     tie.close
     (tie.spec
-    (λ c. search reading)
-    (λ c. simp (back32 (c .fits .mv)) (a c))
-    (λ c. search reading)
-    (λ c. search reading)
-    (λ c. simp (back32 (c .fits .x), back32 (c .fits .p)) (b c))
+    (λ c. search reading)  -- cast-clip-entry
+    (λ c. simp (back32 (c .fits .mv)) (a c))  -- mul-clip-entry
+    (λ c. search reading)  -- cast-clip-entry-2
+    (λ c. search reading)  -- cast-clip-entry-3
+    (λ c. simp (back32 (c .fits .x), back32 (c .fits .p)) (b c))  -- mul-clip-entry-2
     sub-clip-entry
-    (λ c. search reading)
-    (λ c. search reading)
-    (λ c. simp (back32 (c .fits .y), back32 (c .fits .q)) (d c))
+    (λ c. search reading)  -- cast-clip-entry-4
+    (λ c. search reading)  -- cast-clip-entry-5
+    (λ c. simp (back32 (c .fits .y), back32 (c .fits .q)) (d c))  -- mul-clip-entry-3
     sub-clip-entry-2
-    (λ c κs. search needs)
+    (λ c κs. search needs)  -- clip-entry-requires
     returns)

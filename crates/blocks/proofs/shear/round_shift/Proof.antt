@@ -3,7 +3,7 @@ use mathlib.Core.Path.{_≡_, ap, _∙_}
 use native.Mathlib.Omega.{arith}
 use native.Mathlib.Nat.{div-le-self}
 use Prim.Native.Nat.{ℕ, _+_, _*_, _-_, _/_, _%_, _^_, _≤_, _<_}
-use lib.IntN.{ℤ, pos, natAbs}
+use lib.IntN.{pos, natAbs}
 use lib.Pow.{pow-mono}
 use mir.Syntax.{w32, w64}
 use mir.Val.{SFits, toZ}
@@ -36,11 +36,12 @@ abs c = rw (back (c .before .fits .v)) at (c .abs64 .ensures)
 small : (c : tie.After-abs64) → c .abs64 .result < 2 ^ 62
 small c = omega (arith, abs c, c .before .pre)
 
-cut : (c : tie.After-keep32) → c .keep32 .result ≡ low32 (pos ((natAbs (c .before .before .args .v) + 2 ^ (c .before .before .args .k - 1)) / 2 ^ c .before .before .args .k))
+cut : (c : tie.After-keep32) → let v = c .before .before .args .v in let k = c .before .before .args .k in
+    c .keep32 .result ≡ low32 (pos ((natAbs v + 2 ^ (k - 1)) / 2 ^ k))
 cut c =
     let k = c .before .before .args .k in
-    c .keep32 .ensures
-    ∙ ap low32 (is k (c .before .abs64 .result) (omega (arith, c .before .before .pre)) (small (c .before)) ∙ ap (λ (x : ℕ). pos ((x + 2 ^ (k - 1)) / 2 ^ k)) (abs (c .before)))
+    let q = is k (c .before .abs64 .result) (omega (arith, c .before .before .pre)) (small (c .before)) in
+    c .keep32 .ensures ∙ ap low32 (q ∙ ap (λ (x : ℕ). pos ((x + 2 ^ (k - 1)) / 2 ^ k)) (abs (c .before)))
 
 returns : tie.Need-returns
 unfolding g
@@ -63,14 +64,14 @@ pub round-shift-spec : {M : Type 1} → statement M
 round-shift-spec =
     tie.close
     (tie.spec
-    (λ c κs. search needs)
-    (λ c. search needs)
-    (λ c. search needs)
-    (λ c. search needs)
-    (λ c. let p = c .before .pre in omega (arith, sum (c .before .args .k) (c .abs64 .result) (p .2) (small c)))
-    (λ c. search needs)
-    (λ c. let p = c .before .pre in fit w64 (quotient (c .before .args .k) (c .abs64 .result) (p .2) (small c)))
-    (λ c κs. search needs)
-    (λ c κs. search needs)
+    (λ c κs. search needs)  -- abs64-requires
+    (λ c. search needs)  -- sub-keep32
+    (λ c. search needs)  -- cast-keep32
+    (λ c. search needs)  -- shl-keep32
+    (λ c. let p = c .before .pre in omega (arith, sum (c .before .args .k) (c .abs64 .result) (p .2) (small c)))  -- add-keep32
+    (λ c. search needs)  -- shr-keep32
+    (λ c. let p = c .before .pre in fit w64 (quotient (c .before .args .k) (c .abs64 .result) (p .2) (small c)))  -- cast-keep32-2
+    (λ c κs. search needs)  -- keep32-requires
+    (λ c κs. search needs)  -- wrapping-neg32-requires
     returns
     returns-2)

@@ -26,7 +26,8 @@ returns-2 c =
     let t = c .before .before in
     let f = t .before .before .fits in
     let e = rw (back (f .bw4), back (f .bh4), back (f .mv-x), back (f .mv-y), back (f .bx4), back (f .by4)) at (c .with-mv .ensures) in
-    ((is t, ap (λ (w : WarpParams). w .matrix) e ∙ sym (done _ _ _ (c .before .if1 .left))), ap (λ (w : WarpParams). w .abcd) e, ap (λ (w : WarpParams). w .affine) e)
+    let m = ap (λ (w : WarpParams). w .matrix) e ∙ sym (done _ _ _ (c .before .if1 .left)) in
+    ((is t, m), ap (λ (w : WarpParams). w .abcd) e, ap (λ (w : WarpParams). w .affine) e)
 
 pub set-affine-mv2d-spec : {M : Type 1} → statement M
 set-affine-mv2d-spec =

@@ -1,8 +1,7 @@
 -- The products are below 2^54.
 use borrow.Author.Needs.{needs}
-use mathlib.Core.Path.{_≡_}
 use native.Mathlib.Omega.{arith}
-use Prim.Native.Nat.{_*_, _≤_, _^_}
+use Prim.Native.Nat.{_≤_, _^_}
 use lib.IntN.{ℤ, pos, natAbs, _*ℤ_}
 use mir.Syntax.{w16, w32, w64}
 use mir.Val.{SFits}
@@ -42,10 +41,10 @@ pub shear-c-spec : {M : Type 1} → statement M
 shear-c-spec =
     tie.close
     (tie.spec
-    (λ c. search reading)
-    (λ c. rw (back32 (c .fits .m4)) (first-fits c))
-    (λ c. search reading)
-    (λ c. rw (back32 (c .fits .m4), back32 (c .fits .y), back (first-fits c)) (v-fits c))
-    (λ c κs. rw (back32 (c .fits .m4), back32 (c .fits .y), back (first-fits c), back (v-fits c)) (omega (arith, v-le c)))
-    (λ c κs. search needs)
+    (λ c. search reading)  -- cast-round-shift
+    (λ c. rw (back32 (c .fits .m4)) (first-fits c))  -- mul-round-shift
+    (λ c. search reading)  -- cast-round-shift-2
+    (λ c. rw (back32 (c .fits .m4), back32 (c .fits .y), back (first-fits c)) (v-fits c))  -- mul-round-shift-2
+    (λ c κs. rw (back32 (c .fits .m4), back32 (c .fits .y), back (first-fits c), back (v-fits c)) (omega (arith, v-le c)))  -- round-shift-requires
+    (λ c κs. search needs)  -- iclip-wmp-requires
     returns)

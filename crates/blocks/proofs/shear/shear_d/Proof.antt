@@ -1,9 +1,8 @@
 -- The products are below 2^60.
 use borrow.Author.Needs.{needs}
-use mathlib.Core.Path.{_≡_}
 use native.Mathlib.Omega.{arith}
-use Prim.Native.Nat.{_*_, _≤_, _^_}
-use lib.IntN.{ℤ, pos, natAbs, _*ℤ_}
+use Prim.Native.Nat.{_≤_, _^_}
+use lib.IntN.{ℤ, natAbs, _*ℤ_}
 use mir.Syntax.{w16, w32, w64}
 use mir.Val.{SFits}
 use Rattle.rows.specs.Shear.{shearD}
@@ -41,19 +40,34 @@ returns c =
     let fq : SFits w32 (q .result) = omega arith in
     let f1 : SFits w32 (one .result) = omega arith in
     let f2 : SFits w32 (two .result) = omega arith in
-    rw (back fr, c .iclip-wmp .ensures, back f2, two .ensures, back f1, one .ensures, back (s .fits .m5), back fq, q .ensures, back32 (s .fits .m3), back32 (s .fits .m4), back32 (s .fits .y), back (first-fits s), back (v-fits s))
+    rw (
+      back fr,
+      c .iclip-wmp .ensures,
+      back f2,
+      two .ensures,
+      back f1,
+      one .ensures,
+      back (s .fits .m5),
+      back fq,
+      q .ensures,
+      back32 (s .fits .m3),
+      back32 (s .fits .m4),
+      back32 (s .fits .y),
+      back (first-fits s),
+      back (v-fits s),
+    )
 
 pub shear-d-spec : {M : Type 1} → statement M
 shear-d-spec =
     tie.close
     (tie.spec
-    (λ c. search reading)
-    (λ c. search reading)
-    (λ c. rw (back32 (c .fits .m3), back32 (c .fits .m4)) (first-fits c))
-    (λ c. search reading)
-    (λ c. rw (back32 (c .fits .m3), back32 (c .fits .m4), back32 (c .fits .y), back (first-fits c)) (v-fits c))
-    (λ c κs. rw (back32 (c .fits .m3), back32 (c .fits .m4), back32 (c .fits .y), back (first-fits c), back (v-fits c)) (omega (arith, v-le c)))
-    (λ c κs. search needs)
-    (λ c κs. search needs)
-    (λ c κs. search needs)
+    (λ c. search reading)  -- cast-v
+    (λ c. search reading)  -- cast-v-2
+    (λ c. rw (back32 (c .fits .m3), back32 (c .fits .m4)) (first-fits c))  -- mul-v
+    (λ c. search reading)  -- cast-v-3
+    (λ c. rw (back32 (c .fits .m3), back32 (c .fits .m4), back32 (c .fits .y), back (first-fits c)) (v-fits c))  -- mul-v-2
+    (λ c κs. rw (back32 (c .fits .m3), back32 (c .fits .m4), back32 (c .fits .y), back (first-fits c), back (v-fits c)) (omega (arith, v-le c)))  -- round-shift-requires
+    (λ c κs. search needs)  -- wrapping-sub32-requires
+    (λ c κs. search needs)  -- wrapping-sub32-requires-2
+    (λ c κs. search needs)  -- iclip-wmp-requires
     returns)

@@ -82,22 +82,38 @@ returns c =
     let s = S e in
     let r0 : SFits w32 (c .before .offset-of .result) = omega arith in
     let r1 : SFits w32 (c .offset-of2 .result) = omega arith in
-    rw (back r0, back r1, back (affine e), c .offset-of2 .ensures, c .before .offset-of .ensures, back (s .fits .mv-x), back (s .fits .mv-y), x-is e, y-is e, back (f2 e), back (f3 e), back (f4 e), back (f5 e), back (g2 e), back (g5 e))
+    rw (
+      back r0,
+      back r1,
+      back (affine e),
+      c .offset-of2 .ensures,
+      c .before .offset-of .ensures,
+      back (s .fits .mv-x),
+      back (s .fits .mv-y),
+      x-is e,
+      y-is e,
+      back (f2 e),
+      back (f3 e),
+      back (f4 e),
+      back (f5 e),
+      back (g2 e),
+      back (g5 e),
+    )
 
 pub with-mv-spec : {M : Type 1} → statement M
 with-mv-spec =
     tie.close
     (tie.spec
-    (λ c κs. let s = c .before .before .before in rw (back (s .fits .bx4), back (s .fits .bw4)) (omega (arith, s .pre)))
-    (λ c κs. let s = c .before .before .before .before in rw (back (s .fits .by4), back (s .fits .bh4)) (omega (arith, s .pre)))
-    (λ c. search needs)
-    (λ c. search needs)
-    (λ c. search needs)
-    (λ c. search needs)
-    (λ c. rw (back (f2 c)) (g2 c))
+    (λ c κs. let s = c .before .before .before in rw (back (s .fits .bx4), back (s .fits .bw4)) (omega (arith, s .pre)))  -- middle-of-requires
+    (λ c κs. let s = c .before .before .before .before in rw (back (s .fits .by4), back (s .fits .bh4)) (omega (arith, s .pre)))  -- middle-of-requires-2
+    (λ c. search needs)  -- array-copy-out-m2
+    (λ c. search needs)  -- array-copy-out-m3
+    (λ c. search needs)  -- array-copy-out-m4
+    (λ c. search needs)  -- array-copy-out-m5
+    (λ c. rw (back (f2 c)) (g2 c))  -- sub-offset-of
     offset-of-requires
-    (λ c. rw (back (f5 (c .before))) (g5 (c .before)))
+    (λ c. rw (back (f5 (c .before))) (g5 (c .before)))  -- sub-offset-of-2
     offset-of-requires-2
-    (λ c. search needs)
-    (λ c. search needs)
+    (λ c. search needs)  -- array-set-from-matrix
+    (λ c. search needs)  -- array-set-from-matrix-2
     returns)

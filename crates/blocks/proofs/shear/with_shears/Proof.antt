@@ -3,15 +3,14 @@ use mathlib.Core.Path.{_≡_, ap, _∙_}
 use native.Mathlib.Omega.{arith}
 use Prim.Native.Nat.{ℕ, _^_, _<_, _≤_}
 use lib.IntN.{ℤ, pos, natAbs}
-use lib.ListN.{getD}
 use mir.Syntax.{w16, w32}
 use mir.Val.{SFits, toZ, ofZ}
 use Rattle.rows.specs.Numbers.{at}
-use Rattle.rows.specs.Shear.{topBit, recipPlace, recipOf, shiftOf, shearA, shearB}
+use Rattle.rows.specs.Shear.{recipPlace, recipOf, shiftOf, shearA, shearB}
 use Rattle.rows.proofs.Laws.Signed.{back, backs, fit, fit-abs}
-use Rattle.blocks.specs.Shear.{sheared}
+use Rattle.blocks.specs.Shear.{divisorOf, sheared}
 use Rattle.blocks.specs.declared.shear.Divisor.{Divisor}
-use Rattle.blocks.proofs.Laws.Shears.{Top, top-is, div-y, div-shift}
+use Rattle.blocks.proofs.Laws.Shears.{top-is, div-y, div-shift}
 use Rattle.blocks.proofs.shear.with_shears.Statement.{statement}
 use Rattle.blocks.proofs.shear.with_shears.Tie as tie
 
@@ -57,14 +56,18 @@ module _ (c : tie.After-resolve-divisor-32) where
   abs : c .before .abs32 .result ≡ natAbs (M E 2)
   abs = rw (back (f2 E)) at (c .before .abs32 .ensures)
 
+  -- its record, and the parts of it
+  told : c .resolve-divisor-32 .result ≡ divisorOf (natAbs (M E 2)) (S E .args .recip .now)
+  told = rw abs at (c .resolve-divisor-32 .ensures)
+
   y-is : toZ w32 (ofZ w32 (c .resolve-divisor-32 .result .y)) ≡ Y E
   y-is =
-      let e : c .resolve-divisor-32 .result .y ≡ Y E = ap (λ (x : Divisor). x .y) (rw abs at (c .resolve-divisor-32 .ensures)) ∙ div-y (natAbs (M E 2)) _ (S E .pre .1) in
+      let e : c .resolve-divisor-32 .result .y ≡ Y E = ap (λ (x : Divisor). x .y) told ∙ div-y (natAbs (M E 2)) _ (S E .pre .1) in
       backs w32 e (fit-abs w32 (Y E) (omega (arith, small-y E)))
 
   k-is : toZ w32 (ofZ w32 (c .resolve-divisor-32 .result .shift)) ≡ pos (K E)
   k-is =
-      let e : c .resolve-divisor-32 .result .shift ≡ pos (K E) = ap (λ (x : Divisor). x .shift) (rw abs at (c .resolve-divisor-32 .ensures)) ∙ div-shift (natAbs (M E 2)) _ (S E .pre .1) in
+      let e : c .resolve-divisor-32 .result .shift ≡ pos (K E) = ap (λ (x : Divisor). x .shift) told ∙ div-shift (natAbs (M E 2)) _ (S E .pre .1) in
       backs w32 e (omega (arith, small-k E))
 
 shear-c-requires : tie.Need-shear-c-requires

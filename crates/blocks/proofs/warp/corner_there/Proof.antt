@@ -1,11 +1,10 @@
 use borrow.Author.Needs.{needs}
 use mathlib.Core.Path.{_≡_, ap, sym, _∙_}
 use native.Mathlib.Omega.{arith}
-use lib.IntN.{ℤ}
 use mir.Syntax.{w32}
 use mir.Val.{SFits}
 use Rattle.rows.specs.Warp.{filterNo, isThere}
-use Rattle.rows.proofs.Laws.Signed.{back, back16, above, abs-mag}
+use Rattle.rows.proofs.Laws.Signed.{back, above, abs-mag}
 use Rattle.blocks.proofs.Laws.Corners.{in-below, in-above}
 use Rattle.blocks.proofs.warp.corner_there.Statement.{statement}
 use Rattle.blocks.proofs.warp.corner_there.Tie as tie

@@ -15,7 +15,8 @@ begin c = c .before .before .before
 
 is : (c : tie.After-check-warp) → let a = begin c .args in
     c .check-warp .result
-    ≡ lowest (warpTests true (length (a .dst .now)) (a .dst-stride) (length (a .src .now)) (a .src-stride) (a .src-off) (a .a) (a .b) (a .c) (a .d) (a .mx) (a .my) (length (a .warp .now)))
+    ≡ lowest (warpTests true (length (a .dst .now)) (a .dst-stride) (length (a .src .now)) (a .src-stride) (a .src-off)
+    (a .a) (a .b) (a .c) (a .d) (a .mx) (a .my) (length (a .warp .now)))
 is c =
     let f = begin c .fits in
     rw (back (f .mx), back (f .my), back (f .a), back (f .b), back (f .c), back (f .d)) at (c .check-warp .ensures)

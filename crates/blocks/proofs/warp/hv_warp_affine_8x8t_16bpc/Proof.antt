@@ -18,26 +18,31 @@ begin c = c .before .before .before
 
 is : (c : tie.After-check-warp) → let a = begin c .args in
     c .check-warp .result
-    ≡ lowest (warpTests (depthOk (a .depth)) (length (a .tmp .now)) (a .tmp-stride) (length (a .src .now)) (a .src-stride) (a .src-off) (a .a) (a .b) (a .c) (a .d) (a .mx) (a .my) (length (a .warp .now)))
+    ≡ lowest (warpTests (depthOk (a .depth)) (length (a .tmp .now)) (a .tmp-stride) (length (a .src .now)) (a .src-stride) (a .src-off)
+    (a .a) (a .b) (a .c) (a .d) (a .mx) (a .my) (length (a .warp .now)))
 is c =
     let f = begin c .fits in
-    rw (c .before .depth-ok .ensures, back (f .depth), back (f .mx), back (f .my), back (f .a), back (f .b), back (f .c), back (f .d)) at (c .check-warp .ensures)
+    rw (c .before .depth-ok .ensures, back (f .depth), back (f .mx), back (f .my), back (f .a), back (f .b), back (f .c), back (f .d))
+    at (c .check-warp .ensures)
 
 ready : (c : tie.Then1) → let a = begin (c .before) .args in
     (depthOk (a .depth) ≡ true)
-    × Warps (length (a .tmp .now)) (a .tmp-stride) (length (a .src .now)) (a .src-off) (a .src-stride) (length (a .warp .now) / 8) (a .a) (a .b) (a .c) (a .d) (a .mx) (a .my)
+    × Warps (length (a .tmp .now)) (a .tmp-stride) (length (a .src .now)) (a .src-off) (a .src-stride) (length (a .warp .now) / 8)
+    (a .a) (a .b) (a .c) (a .d) (a .mx) (a .my)
 ready c = warp-ready _ _ _ _ _ _ _ _ _ _ _ _ _ (sym (is (c .before)) ∙ c .if1 .taken)
 
 warp-prep16-requires : tie.Need-warp-prep16-requires
 warp-prep16-requires c κs =
     let t = c .before .before in let f = begin (t .before) .fits in let r = ready t in
     rw (c .before .depth-numbers .ensures, back (f .depth), back (f .mx), back (f .my), back (f .a), back (f .b), back (f .c), back (f .d))
-    (r .1, deep-bits _ (r .0) .bits4, deep-bits _ (r .0) .bias13)
+    (r .1, deep-bits _ (r .0))
 
 returns : tie.Need-returns
 returns c =
     let n = c .before .before .before in let t = n .before in let f = begin (t .before) .fits in
-    let e = rw (n .depth-numbers .ensures, back (f .depth), back (f .mx), back (f .my), back (f .a), back (f .b), back (f .c), back (f .d)) at (c .before .warp-prep16 .ensures) in
+    let e =
+    rw (n .depth-numbers .ensures, back (f .depth), back (f .mx), back (f .my), back (f .a), back (f .b), back (f .c), back (f .d))
+    at (c .before .warp-prep16 .ensures) in
     (is (t .before), e ∙ sym (done _ _ _ (t .if1 .taken)))
 
 pub hv-warp-affine-8x8t-16bpc-spec : {M : Type 1} → statement M

@@ -1,5 +1,4 @@
 use borrow.Author.Needs.{needs}
-use mathlib.Core.Path.{_≡_, _∙_}
 use native.Mathlib.Omega.{arith}
 use Rattle.rows.proofs.Laws.Signed.{back}
 use Rattle.blocks.proofs.Laws.Corners.{four-all}
@@ -9,7 +8,15 @@ use Rattle.blocks.proofs.warp.pass_there.Tie as tie
 returns : tie.Need-returns
 returns c =
     let s = c .before .before .before .before in
-    rw (c .before .before .before .corner-there .ensures, c .before .before .corner-there2 .ensures, c .before .corner-there3 .ensures, c .corner-there4 .ensures, back (s .fits .m), back (s .fits .a), back (s .fits .b))
+    rw (
+      c .before .before .before .corner-there .ensures,
+      c .before .before .corner-there2 .ensures,
+      c .before .corner-there3 .ensures,
+      c .corner-there4 .ensures,
+      back (s .fits .m),
+      back (s .fits .a),
+      back (s .fits .b),
+    )
     (four-all (s .args .n) (s .args .last) (s .args .m) (s .args .a) (s .args .b) (omega (arith, s .pre)))
 
 pub pass-there-spec : {M : Type 1} → statement M

@@ -1,5 +1,5 @@
 use borrow.Author.Needs.{needs}
-use mathlib.Core.Path.{_≡_, refl, _∙_}
+use mathlib.Core.Path.{refl, _∙_}
 use native.Mathlib.Omega.{arith}
 use Rattle.rows.proofs.Laws.Signed.{back}
 use Rattle.blocks.proofs.Laws.Passes.{taps-in, prep-second}
@@ -9,7 +9,7 @@ use Rattle.blocks.proofs.warp.warp_prep16.Tie as tie
 warp-mid16-requires : tie.Need-warp-mid16-requires
 warp-mid16-requires c κs =
     let s = c .before .before in let f = s .fits in
-    rw (back (f .mx), back (f .a), back (f .b)) (refl, taps-in (s .pre .0 .src), s .pre .0 .first, s .pre .1)
+    rw (back (f .mx), back (f .a), back (f .b)) (refl, taps-in (s .pre .0 .src), s .pre .0 .first, s .pre .1 .bits4)
 
 returns : tie.Need-returns
 returns c =

@@ -1,5 +1,5 @@
 use borrow.Author.Needs.{needs}
-use mathlib.Core.Path.{_≡_, refl, _∙_}
+use mathlib.Core.Path.{refl, _∙_}
 use native.Mathlib.Omega.{arith}
 use Rattle.rows.proofs.Laws.Signed.{back}
 use Rattle.blocks.proofs.Laws.Passes.{taps-in, prep-second}
