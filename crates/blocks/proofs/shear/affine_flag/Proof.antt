@@ -26,6 +26,11 @@ three c = rw (back16 (c .before .before .before .fits .c)) at (c .abs323 .ensure
 four : (c : tie.After-abs324) → c .abs324 .result ≡ natAbs (c .before .before .before .before .args .d)
 four c = rw (back16 (c .before .before .before .before .fits .d)) at (c .abs324 .ensures)
 
+add-second : tie.Need-add-second
+add-second c =
+    let s = c .before .before .before .before .args in
+    omega (arith, three (c .before), abs-mag (s .c), four c, abs-mag (s .d))
+
 returns : tie.Need-returns
 unfolding affineOf
 returns c = rw (flag _, one (c .before .before .before), two (c .before .before), three (c .before), four c)
@@ -47,6 +52,6 @@ affine-flag-spec =
     (λ c. search reading)  -- cast-abs32-4
     (λ c κs. search needs)  -- abs32-requires-4
     (λ c. omega (arith, four c, abs-mag (c .before .before .before .before .args .d)))  -- mul-second-2
-    (λ c. omega (arith, three (c .before), abs-mag (c .before .before .before .before .args .c), four c, abs-mag (c .before .before .before .before .args .d)))  -- add-second
+    add-second
     (λ c. search needs)  -- cast-result
     returns)

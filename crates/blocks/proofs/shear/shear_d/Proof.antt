@@ -29,6 +29,11 @@ module _ (c : tie.Start) where
   v-fits : SFits w64 v
   v-fits = omega (arith, v-le, mag-abs v)
 
+round-shift-requires : tie.Need-round-shift-requires
+round-shift-requires c κs =
+    rw (back32 (c .fits .m3), back32 (c .fits .m4), back32 (c .fits .y), back (first-fits c), back (v-fits c))
+    (omega (arith, v-le c))
+
 returns : tie.Need-returns
 unfolding shearD
 returns c =
@@ -66,7 +71,7 @@ shear-d-spec =
     (λ c. rw (back32 (c .fits .m3), back32 (c .fits .m4)) (first-fits c))  -- mul-v
     (λ c. search reading)  -- cast-v-3
     (λ c. rw (back32 (c .fits .m3), back32 (c .fits .m4), back32 (c .fits .y), back (first-fits c)) (v-fits c))  -- mul-v-2
-    (λ c κs. rw (back32 (c .fits .m3), back32 (c .fits .m4), back32 (c .fits .y), back (first-fits c), back (v-fits c)) (omega (arith, v-le c)))  -- round-shift-requires
+    round-shift-requires
     (λ c κs. search needs)  -- wrapping-sub32-requires
     (λ c κs. search needs)  -- wrapping-sub32-requires-2
     (λ c κs. search needs)  -- iclip-wmp-requires
