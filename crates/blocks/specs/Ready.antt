@@ -143,3 +143,8 @@ pub record Weighing (dl ds l1 l2 w h ml ms mw mh : ℕ) : Type 0 where
   pub tmp2 : Rows l2 w w h
   pub mw1 : 1 ≤ mw
   pub mask : Rows ml ms mw mh
+-- h rows of w into a buffer of dl places, from rows s apart from place o on, with the seven places after each, a step apart
+pub record Lines (dl ds sl o s step w h : ℕ) : Type 0 where
+  pub w1 : 1 ≤ w
+  pub dst : Rows dl ds w h
+  pub src : o + (h - 1) * s + w + 7 * step ≤ sl

@@ -8,7 +8,7 @@ ghost use Rattle.rows.specs.Numbers.{up, at, half, clip, low16, minus16};
 ghost use Rattle.rows.specs.Places.{rowOf, fill, around};
 ghost use Rattle.rows.specs.Subpel.{filterBits, tapped};
 ghost use Rattle.blocks.specs.Refuse.{need, lowest, reads, wholeFilters, depthOk};
-ghost use Rattle.blocks.specs.Ready.{Block, Rows, Bits, Taps, Reach};
+ghost use Rattle.blocks.specs.Ready.{Block, Rows, Bits, Taps, Lines};
 ghost use Rattle.blocks.specs.Subpel.{typeOk, fractionOk, subpelOk, filterIn, on, subpelTests, axisOf, filterOf, Held, tapsOf, byOne, planOf, putLine, prepLine, along, put8Rule, prep8Rule, Put8Answer, Prep8Answer};
 use crate::refuse::DepthNumbers;
 use crate::refuse::above;
@@ -283,7 +283,7 @@ fn put_lines8(
     w: usize,
     h: usize,
 )
-    requires { ⌜ (1 ≤ w) × Rows (length (now dst)) «dst_stride» w h × Reach (length (now src)) (p .start) «src_stride» (p .step) w h × (p .round < 2 ^ 20) × (n < 32) ⌝ }
+    requires { ⌜ Lines (length (now dst)) «dst_stride» (length (now src)) (p .start) «src_stride» (p .step) w h × (p .round < 2 ^ 20) × (n < 32) ⌝ }
     ensures { λ _. ⌜ now (dst .exit) ≡ fill (now (dst .entry)) «dst_stride» w h (λ i j. putLine 255 (now (f .entry)) (p .round) n (p .step) (along (now (src .entry)) (p .start) «src_stride» (p .step) i j)) ⌝ }
 {
     let mut y = 0;
@@ -306,7 +306,7 @@ fn prep_lines8(
     w: usize,
     h: usize,
 )
-    requires { ⌜ (1 ≤ w) × Rows (length (now tmp)) «tmp_stride» w h × Reach (length (now src)) (p .start) «src_stride» (p .step) w h × (1 ≤ n) × (n ≤ 11) ⌝ }
+    requires { ⌜ Lines (length (now tmp)) «tmp_stride» (length (now src)) (p .start) «src_stride» (p .step) w h × (1 ≤ n) × (n ≤ 11) ⌝ }
     ensures { λ _. ⌜ now (tmp .exit) ≡ fill (now (tmp .entry)) «tmp_stride» w h (λ i j. prepLine 4 0 (now (f .entry)) n (p .step) (along (now (src .entry)) (p .start) «src_stride» (p .step) i j)) ⌝ }
 {
     let mut y = 0;
@@ -328,7 +328,7 @@ fn mid_lines8(
     w: usize,
     h: usize,
 )
-    requires { ⌜ (1 ≤ w) × Rows (length (now dst)) «dst_stride» w h × Reach (length (now mid)) 0 64 64 w h × (1 ≤ n) × (n ≤ 11) ⌝ }
+    requires { ⌜ Lines (length (now dst)) «dst_stride» (length (now mid)) 0 64 64 w h × (1 ≤ n) × (n ≤ 11) ⌝ }
     ensures { λ _. ⌜ now (dst .exit) ≡ fill (now (dst .entry)) «dst_stride» w h (λ i j. clip 255 (tapped (now (f .entry)) (half n) n (λ t. at (now (mid .entry)) (j * 64 + i + t * 64)))) ⌝ }
 {
     let r = half_power(n);
@@ -350,7 +350,7 @@ fn mid_prep_lines(
     w: usize,
     h: usize,
 )
-    requires { ⌜ (1 ≤ w) × Rows (length (now tmp)) «tmp_stride» w h × Reach (length (now mid)) 0 64 64 w h × (1 ≤ n) × (n ≤ 11) × (bias ≤ 8192) ⌝ }
+    requires { ⌜ Lines (length (now tmp)) «tmp_stride» (length (now mid)) 0 64 64 w h × (1 ≤ n) × (n ≤ 11) × (bias ≤ 8192) ⌝ }
     ensures { λ _. ⌜ now (tmp .exit) ≡ fill (now (tmp .entry)) «tmp_stride» w h (λ i j. minus16 (low16 (tapped (now (f .entry)) (half n) n (λ t. at (now (mid .entry)) (j * 64 + i + t * 64)))) (pos bias)) ⌝ }
 {
     let r = half_power(n);
@@ -602,7 +602,7 @@ fn put_lines16(
     w: usize,
     h: usize,
 )
-    requires { ⌜ (1 ≤ w) × Rows (length (now dst)) «dst_stride» w h × Reach (length (now src)) (p .start) «src_stride» (p .step) w h × (p .round < 2 ^ 20) × (n < 32) ⌝ }
+    requires { ⌜ Lines (length (now dst)) «dst_stride» (length (now src)) (p .start) «src_stride» (p .step) w h × (p .round < 2 ^ 20) × (n < 32) ⌝ }
     ensures { λ _. ⌜ now (dst .exit) ≡ fill (now (dst .entry)) «dst_stride» w h (λ i j. putLine max (now (f .entry)) (p .round) n (p .step) (along (now (src .entry)) (p .start) «src_stride» (p .step) i j)) ⌝ }
 {
     let mut y = 0;
@@ -627,7 +627,7 @@ fn prep_lines16(
     w: usize,
     h: usize,
 )
-    requires { ⌜ (1 ≤ w) × Rows (length (now tmp)) «tmp_stride» w h × Reach (length (now src)) (p .start) «src_stride» (p .step) w h × (1 ≤ n) × (n ≤ 11) × Bits bits bias ⌝ }
+    requires { ⌜ Lines (length (now tmp)) «tmp_stride» (length (now src)) (p .start) «src_stride» (p .step) w h × (1 ≤ n) × (n ≤ 11) × Bits bits bias ⌝ }
     ensures { λ _. ⌜ now (tmp .exit) ≡ fill (now (tmp .entry)) «tmp_stride» w h (λ i j. prepLine bits bias (now (f .entry)) n (p .step) (along (now (src .entry)) (p .start) «src_stride» (p .step) i j)) ⌝ }
 {
     let mut y = 0;
@@ -650,7 +650,7 @@ fn mid_lines16(
     w: usize,
     h: usize,
 )
-    requires { ⌜ (1 ≤ w) × Rows (length (now dst)) «dst_stride» w h × Reach (length (now mid)) 0 64 64 w h × (1 ≤ n) × (n ≤ 11) ⌝ }
+    requires { ⌜ Lines (length (now dst)) «dst_stride» (length (now mid)) 0 64 64 w h × (1 ≤ n) × (n ≤ 11) ⌝ }
     ensures { λ _. ⌜ now (dst .exit) ≡ fill (now (dst .entry)) «dst_stride» w h (λ i j. clip max (tapped (now (f .entry)) (half n) n (λ t. at (now (mid .entry)) (j * 64 + i + t * 64)))) ⌝ }
 {
     let r = half_power(n);

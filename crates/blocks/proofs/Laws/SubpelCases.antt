@@ -14,7 +14,7 @@ use Rattle.rows.specs.Subpel.{Axis, whole, by, axis, filterBits, tapped, mid, p
 use Rattle.rows.proofs.Laws.Fill.{fill-in, fill-same}
 use Rattle.rows.proofs.Laws.Taps.{tapped-same}
 use Rattle.rows.proofs.Laws.Low.{low16-again}
-use Rattle.blocks.specs.Ready.{Block, Rows, Taps, Reach}
+use Rattle.blocks.specs.Ready.{Block, Rows, Taps, Lines}
 use Rattle.blocks.specs.Subpel.{on, axisOf, filterOf, Held, tapsOf, planOf, putLine, prepLine, along, put8Rule, prep8Rule}
 use Rattle.blocks.specs.declared.subpel.Filter.{Filter}
 use Rattle.blocks.specs.declared.subpel.Plan.{Plan}
@@ -82,16 +82,16 @@ module _ (o s w h : ℕ) (subpel ext : List ℤ) (t : ℤ) (N B : ℕ) where
     places x y a b e f q = rw (← e, ← f) q
 
     pub plan-reach : (x y : ℕ) → (3 * min y 1 * s + 3 * min x 1 ≤ o) × (o + (h - 1 + 4 * min y 1) * s + (w - 1 + 4 * min x 1) < sl)
-        → let p = P x y in Reach sl (p .start) s (p .step) w (rowsOf (p .both) h)
+        → let p = P x y in p .start + (rowsOf (p .both) h - 1) * s + w + 7 * p .step ≤ sl
     unfolding planOf
-    plan-reach zero zero q = let r = places 0 0 0 0 refl refl q in record { fits = omega arith }
-    plan-reach zero (suc y) q = let r = places 0 (suc y) 0 1 refl (omega arith) q in record { fits = omega arith }
-    plan-reach (suc x) zero q = let r = places (suc x) 0 1 0 (omega arith) refl q in record { fits = omega arith }
+    plan-reach zero zero q = let r = places 0 0 0 0 refl refl q in omega arith
+    plan-reach zero (suc y) q = let r = places 0 (suc y) 0 1 refl (omega arith) q in omega arith
+    plan-reach (suc x) zero q = let r = places (suc x) 0 1 0 (omega arith) refl q in omega arith
     plan-reach (suc x) (suc y) q =
         let r = places (suc x) (suc y) 1 1 (omega arith) (omega arith) q in
         let e : (h - 1 + 4) * s ≡ (h + 3) * s = ap (λ (n : ℕ). n * s) (omega arith) in
         let f : (h + 7 - 1) * s ≡ (h + 6) * s = ap (λ (n : ℕ). n * s) (omega arith) in
-        record { fits = omega arith }
+        omega arith
 
 -- ---- the pixel
 -- with a vertical filter, three rows stand before the block
@@ -157,14 +157,21 @@ module _ {subpel ext : List ℤ} {o s w h : ℕ} {mx my t : ℤ} {B : ℕ} {p : 
 
 module _ {subpel ext : List ℤ} {o s w h : ℕ} {mx my t : ℤ} {B : ℕ} {p : Plan} {sl tl el : ℕ}
     (z : Planned subpel ext o s w h mx my t B p) (b : Block w h) (k : Taps sl o s w h mx my t tl el) where
-  reach : Reach sl (p .start) s (p .step) w (rowsOf (p .both) h)
+  reach : p .start + (rowsOf (p .both) h - 1) * s + w + 7 * p .step ≤ sl
   reach = rw (z .is) (plan-reach o s w h subpel ext t (filterBits t) B sl (b .w1) (b .h1) (up mx) (up my) (k .before, k .last))
 
-  pub reach-one : p .both ≡ false → Reach sl (p .start) s (p .step) w h × (p .round < 2 ^ 20)
-  reach-one e = (rw e at reach, rw (z .is) (plan-round o s w h subpel ext t (filterBits t) B (up mx) (up my) (omega (arith, bits-fit t))))
+  pub one-ready : {dl ds : ℕ} → Rows dl ds w h → p .both ≡ false → Lines dl ds sl (p .start) s (p .step) w h × (p .round < 2 ^ 20)
+  one-ready r e = (
+    record { w1 = b .w1; dst = r; src = rw e at reach },
+    rw (z .is) (plan-round o s w h subpel ext t (filterBits t) B (up mx) (up my) (omega (arith, bits-fit t))),
+  )
 
-  pub reach-both : p .both ≡ true → Reach sl (p .start) s (p .step) w (h + 7)
-  reach-both e = rw e at reach
+  -- with both, into the intermediates, and from them
+  pub first-ready : p .both ≡ true → Lines 4544 64 sl (p .start) s (p .step) w (h + 7)
+  first-ready e = record { w1 = b .w1; dst = record { wide = b .w64; most = omega arith; fits = omega (arith, b) }; src = rw e at reach }
+
+  pub second-ready : {dl ds l : ℕ} → Rows dl ds w h → l ≡ 4544 → Lines dl ds l 0 64 64 w h
+  second-ready r e = record { w1 = b .w1; dst = r; src = omega (arith, b) }
 
   module _ (src : List ℕ) where
     pub put-block : p .both ≡ false → (M ds : ℕ) → 0 < ds → (d : List ℕ)

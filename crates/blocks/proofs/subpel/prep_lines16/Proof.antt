@@ -19,13 +19,14 @@ abbrev μ-loop : tie.MeasureT-loop
 abbrev entry : tie.In-loop Inv-loop μ-loop → tie.Start Inv-loop μ-loop
 entry c = c .before .before .before
 
-row : (c : tie.In-loop Inv-loop μ-loop) → let a = entry c .args in Turn (c .before .loop .tmp) (a .tmp-stride) (length (a .src .now)) (a .p .start) (a .src-stride) (a .p .step) (a .w) (c .before .loop .y)
-row c = turn (pos 0) (entry c .pre .1) (entry c .pre .2) (c .before .loop .inv) (c .loop-test .taken)
+row : (c : tie.In-loop Inv-loop μ-loop) → let a = entry c .args in
+    Turn (c .before .loop .tmp) (a .tmp-stride) (length (a .src .now)) (a .p .start) (a .src-stride) (a .p .step) (a .w) (c .before .loop .y)
+row c = turn (pos 0) (entry c .pre .0) (c .before .loop .inv) (c .loop-test .taken)
 
 loop-again : tie.Need-loop-again Inv-loop μ-loop
 loop-again c =
     let t = c .before .before .before .before in
-    filled-more (pos 0) _ (t .before .loop .inv) (entry t .pre .0) (entry t .pre .1) (t .loop-test .taken) (c .before .prep-line-row16 .ensures)
+    filled-more (pos 0) _ (t .before .loop .inv) (entry t .pre .0 .w1) (entry t .pre .0 .dst) (t .loop-test .taken) (c .before .prep-line-row16 .ensures)
 
 pub prep-lines16-spec : {M : Type 1} → statement M
 prep-lines16-spec =
@@ -33,7 +34,7 @@ prep-lines16-spec =
     (tie.spec
     Inv-loop
     μ-loop
-    (λ c. filled-none (pos 0) _ _ _ _ _ (omega (arith, c .before .pre .1)))  -- loop-holds
+    (λ c. filled-none (pos 0) _ _ _ _ _ (omega (arith, c .before .pre .0 .dst)))  -- loop-holds
     (λ c. omega (arith, row c))
     (λ c. omega (arith, row c))
     (λ c. omega (arith, row (c .before)))

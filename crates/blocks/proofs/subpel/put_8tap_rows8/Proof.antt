@@ -2,7 +2,7 @@ use mathlib.Core.Path.{_≡_, refl, _∙_}
 use native.Mathlib.Omega.{arith}
 use borrow.Author.Needs.{needs}
 use Rattle.rows.proofs.Laws.Signed.{back}
-use Rattle.blocks.proofs.Laws.SubpelCases.{Planned, bits-in, reach-one, reach-both, put-block, put-two}
+use Rattle.blocks.proofs.Laws.SubpelCases.{Planned, bits-in, one-ready, first-ready, second-ready, put-block, put-two}
 use Rattle.blocks.proofs.subpel.put_8tap_rows8.Statement.{statement}
 use Rattle.blocks.proofs.subpel.put_8tap_rows8.Tie as tie
 
@@ -22,25 +22,17 @@ prep-lines8-requires : tie.Need-prep-lines8-requires
 prep-lines8-requires c κs =
     let t = c .before .before .before in
     let d = t .before .before in
-    let s = begin d in (
-      s .pre .0 .w1,
-      record { wide = s .pre .0 .w64; most = omega arith; fits = omega (arith, s .pre .0) },
-      reach-both (planned d) (s .pre .0) (s .pre .2) (t .if1 .taken),
-      omega (arith, bits-in (planned d)),
-      omega (arith, bits-in (planned d)),
-    )
+    let s = begin d in
+    let n = bits-in (planned d) in
+    (first-ready (planned d) (s .pre .0) (s .pre .2) (t .if1 .taken), omega arith, omega arith)
 
 mid-lines8-requires : tie.Need-mid-lines8-requires
 mid-lines8-requires c κs =
     let m = c .before .before .before .before in
     let d = m .before .before .before .before .before .before in
-    let s = begin d in (
-      s .pre .0 .w1,
-      s .pre .1,
-      record { fits = omega (arith, s .pre .0, m .prep-lines8 .kept .0) },
-      omega (arith, bits-in (planned d)),
-      omega (arith, bits-in (planned d)),
-    )
+    let s = begin d in
+    let n = bits-in (planned d) in
+    (second-ready (planned d) (s .pre .0) (s .pre .2) (s .pre .1) (m .prep-lines8 .kept .0), omega arith, omega arith)
 
 returns : tie.Need-returns
 returns c =
@@ -49,22 +41,25 @@ returns c =
     let d = t .before .before in
     let s = begin d in
     c .before .before .mid-lines8 .ensures
-    ∙ put-two (planned d) (s .pre .0) (s .pre .2) (s .args .src .now) (t .if1 .taken) _ refl (m .prep-lines8 .ensures) _ _ (omega (arith, s .pre .0, s .pre .1)) _
+    ∙ put-two (planned d) (s .pre .0) (s .pre .2) (s .args .src .now) (t .if1 .taken) _ refl (m .prep-lines8 .ensures) _ _
+    (omega (arith, s .pre .0, s .pre .1)) _
 
 put-lines8-requires-last : tie.Need-put-lines8-requires
 put-lines8-requires-last c κs =
     let t = c .before .before in
     let d = t .before .before in
     let s = begin d in
-    let r = reach-one (planned d) (s .pre .0) (s .pre .2) (t .if1 .left) in
-    (s .pre .0 .w1, s .pre .1, r .0, r .1, omega (arith, bits-in (planned d)))
+    let n = bits-in (planned d) in
+    let r = one-ready (planned d) (s .pre .0) (s .pre .2) (s .pre .1) (t .if1 .left) in
+    (r .0, r .1, omega arith)
 
 returns-2 : tie.Need-returns-2
 returns-2 c =
     let t = c .before .before .before .before .before in
     let d = t .before .before in
     let s = begin d in
-    c .before .before .put-lines8 .ensures ∙ put-block (planned d) (s .pre .0) (s .pre .2) (s .args .src .now) (t .if1 .left) _ _ (omega (arith, s .pre .0, s .pre .1)) _
+    c .before .before .put-lines8 .ensures
+    ∙ put-block (planned d) (s .pre .0) (s .pre .2) (s .args .src .now) (t .if1 .left) _ _ (omega (arith, s .pre .0, s .pre .1)) _
 
 pub put-8tap-rows8-spec : {M : Type 1} → statement M
 put-8tap-rows8-spec =

@@ -12,6 +12,11 @@ returns c =
     let a = t .before .before .before .args in
     c .before .before .copy-row16 .ensures ∙ put-none _ (a .src .now) (a .o) (a .step) (a .f .now) _ _ _ (t .if1 .taken)
 
+returns-2 : tie.Need-returns-2
+returns-2 c =
+    let t = c .before .before .before .before in
+    c .before .before .tap-row16 .ensures ∙ row-same 0 _ _ _ (λ i b. put-some _ _ _ _ _ _ (omega (arith, t .if1 .left)))
+
 pub put-line-row16-spec : {M : Type 1} → statement M
 put-line-row16-spec =
     tie.close
@@ -21,4 +26,4 @@ put-line-row16-spec =
     (λ c. search needs)  -- same-length
     returns
     (λ c. search needs)  -- same-length-2
-    (λ c. c .before .before .tap-row16 .ensures ∙ row-same 0 _ _ _ (λ i b. put-some _ _ _ _ _ _ (omega (arith, c .before .before .before .before .if1 .left)))))  -- returns-2
+    returns-2)
