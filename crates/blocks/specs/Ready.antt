@@ -131,10 +131,6 @@ pub record Taps (sl o s w h : ℕ) (mx my filterType : ℤ) (tl el : ℕ) : Type
   pub across : Held tl el (filterOf filterType (up mx) w)
   pub down : Held tl el (filterOf filterType (up my) h)
 
--- h rows of w from place o on, s apart, with the seven places after each, a step apart
-pub record Reach (sl o s step w h : ℕ) : Type 0 where
-  pub fits : o + (h - 1) * s + w + 7 * step ≤ sl
-
 -- w_mask's buffers: dst, two intermediates without gaps, and a mask of mh rows of mw
 pub record Weighing (dl ds l1 l2 w h ml ms mw mh : ℕ) : Type 0 where
   pub block : Block w h
@@ -143,6 +139,7 @@ pub record Weighing (dl ds l1 l2 w h ml ms mw mh : ℕ) : Type 0 where
   pub tmp2 : Rows l2 w w h
   pub mw1 : 1 ≤ mw
   pub mask : Rows ml ms mw mh
+
 -- h rows of w into a buffer of dl places, from rows s apart from place o on, with the seven places after each, a step apart
 pub record Lines (dl ds sl o s step w h : ℕ) : Type 0 where
   pub w1 : 1 ≤ w
