@@ -14,9 +14,9 @@ use Rattle.rows.specs.Numbers.{up, between, half, clip, low16, minus16}
 use Rattle.rows.specs.Copy.{put, prep}
 use Rattle.rows.specs.Subpel.{Axis, whole, by, filter, family, axis, filterBits, tapped, put8, prep8}
 use Rattle.blocks.specs.Refuse.{Test, size, stride, number, table, read, written, _asks_, lowest, orSame, sizeOk, blockSide, strideOk, holds, reads, wholeFilters}
-use Rattle.blocks.specs.declared.subpel.Filter.{Filter}
-use Rattle.blocks.specs.declared.subpel.Filter.the-variants.{Off, Ext, Subpel}
-use Rattle.blocks.specs.declared.subpel.Plan.{Plan}
+use Rattle.blocks.specs.declared.filters.Filter.{Filter}
+use Rattle.blocks.specs.declared.filters.Filter.the-variants.{Off, Ext, Subpel}
+use Rattle.blocks.specs.declared.filters.Plan.{Plan}
 
 -- "Filter type -1 to 2"
 unfoldable pub typeOk : ℤ → Bool
@@ -88,7 +88,7 @@ axisOf subpel ext Off = whole
 axisOf subpel ext (Ext n) = by (filter ext n)
 axisOf subpel ext (Subpel n) = by (filter subpel n)
 
--- the filter that the numbers choose; as an axis it is `axis` (Laws/SubpelPlan)
+-- the filter that the numbers choose; as an axis it is `axis` (Laws/SubpelChoice)
 unfoldable pub filterOf : (filterType : ℤ) (fraction side : ℕ) → Filter
 filterOf filterType zero side = Off
 filterOf (negsuc t) (suc f) side = Ext f

@@ -4,6 +4,7 @@ pub mod blend;
 pub mod combine;
 pub mod copy;
 pub mod edge;
+pub mod filters;
 pub mod mask;
 pub mod order;
 pub mod refuse;

@@ -15,10 +15,9 @@ use Rattle.rows.proofs.Laws.Fill.{fill-in, fill-same}
 use Rattle.rows.proofs.Laws.Taps.{tapped-same}
 use Rattle.rows.proofs.Laws.Low.{low16-again}
 use Rattle.blocks.specs.Ready.{Block, Rows, Taps, Lines}
-use Rattle.blocks.specs.Subpel.{on, axisOf, filterOf, Held, tapsOf, planOf, putLine, prepLine, along, put8Rule, prep8Rule}
-use Rattle.blocks.specs.declared.subpel.Filter.{Filter}
-use Rattle.blocks.specs.declared.subpel.Plan.{Plan}
-use Rattle.blocks.proofs.Laws.SubpelChoice.{axis-of, bits-fit}
+use Rattle.blocks.specs.Subpel.{on, tapsOf, planOf, putLine, prepLine, along, put8Rule, prep8Rule}
+use Rattle.blocks.specs.declared.filters.Plan.{Plan}
+use Rattle.blocks.proofs.Laws.SubpelChoice.{bits-fit}
 use Rattle.blocks.proofs.Laws.SubpelLines.{put-some, prep-some}
 
 half-le : (n : ℕ) → n ≤ 11 → half n ≤ 1024
@@ -104,7 +103,9 @@ module _ (subpel ext : List ℤ) (src : List ℕ) (o s w h : ℕ) (t : ℤ) (N B
       → putLine M (p .first) (p .round) N (p .step) (along src (p .start) s (p .step) i j)
       ≡ put8 M B N (axis subpel ext t x w) (axis subpel ext t y h) (around 3 src o s i j)
   unfolding planOf put8 around putLine
-  put-one M zero zero q e i j = ap (λ (p : ℕ). getD src p 0) (omega arith) ∙ ap₂ (λ (a b : Axis). put8 M B N a b (around 3 src o s i j)) (no-taps subpel ext t w) (no-taps subpel ext t h)
+  put-one M zero zero q e i j =
+      ap (λ (p : ℕ). getD src p 0) (omega arith)
+      ∙ ap₂ (λ (a b : Axis). put8 M B N a b (around 3 src o s i j)) (no-taps subpel ext t w) (no-taps subpel ext t h)
   put-one M zero (suc y) q e i j =
       let r = three o s y (3 * min 0 1) q in
       sym (put-some M _ _ N s _ some)
@@ -120,7 +121,8 @@ module _ (subpel ext : List ℤ) (src : List ℕ) (o s w h : ℕ) (t : ℤ) (N B
       ≡ prep8 B P N (axis subpel ext t x w) (axis subpel ext t y h) (around 3 src o s i j)
   unfolding planOf prep8 around prepLine
   prep-one P zero zero q e i j =
-      ap (λ (p : ℕ). prep B P (getD src p 0)) (omega arith) ∙ ap₂ (λ (a b : Axis). prep8 B P N a b (around 3 src o s i j)) (no-taps subpel ext t w) (no-taps subpel ext t h)
+      ap (λ (p : ℕ). prep B P (getD src p 0)) (omega arith)
+      ∙ ap₂ (λ (a b : Axis). prep8 B P N a b (around 3 src o s i j)) (no-taps subpel ext t w) (no-taps subpel ext t h)
   prep-one P zero (suc y) q e i j =
       let r = three o s y (3 * min 0 1) q in
       sym (prep-some B P _ (N - B) s _ some)
@@ -196,7 +198,8 @@ module _ {subpel ext : List ℤ} {o s w h : ℕ} {mx my t : ℤ} {B : ℕ} {p : 
       two : Both o s w h subpel ext t (filterBits t) B (up mx) (up my) p
       two = rw (z .is) (is-both o s w h subpel ext t (filterBits t) B (up mx) (up my) (rw (← z .is) e))
 
-      summed : (r c i j : ℕ) → i < w → j < h → tapped (p .second) r c (λ u. at m (j * 64 + i + u * 64)) ≡ tapped (p .second) r c (mid B (p .bits) (p .first) (around 3 src o s i j))
+      summed : (r c i j : ℕ) → i < w → j < h
+          → tapped (p .second) r c (λ u. at m (j * 64 + i + u * 64)) ≡ tapped (p .second) r c (mid B (p .bits) (p .first) (around 3 src o s i j))
       summed r c i j x y =
           let v = rw (two .across, two .down) at (k .before) in
           tapped-same (p .second) r c _ _ λ u c.

@@ -1,6 +1,6 @@
 -- 8-tap: the filter that the code chooses is the axis of document 01, and the four cases of its plan. Assumes nothing.
-use mathlib.Core.Path.{_≡_, refl, sym, ap, _∙_}
-use mathlib.Core.Bool.{true, false}
+use mathlib.Core.Path.{_≡_, refl, ap}
+use mathlib.Core.Bool.{true}
 use mathlib.Core.List.{List}
 use Prim.Native.Nat.{ℕ, zero, suc, _+_, _-_, _*_, _%_, _≤_, _<_}
 use native.Mathlib.Omega.{arith}
@@ -9,9 +9,7 @@ use lib.IntN.{ℤ, pos, negsuc}
 use Rattle.rows.specs.Numbers.{up, dn, half}
 use Rattle.rows.specs.Subpel.{family, axis, filterBits}
 use Rattle.blocks.specs.Subpel.{axisOf, filterOf, tapsOf, byOne, planOf}
-use Rattle.blocks.specs.declared.subpel.Filter.{Filter}
-use Rattle.blocks.specs.declared.subpel.Filter.the-variants.{Off, Ext, Subpel}
-use Rattle.blocks.specs.declared.subpel.Plan.{Plan}
+use Rattle.blocks.specs.declared.filters.Filter.the-variants.{Off, Ext, Subpel}
 
 -- ---- the filter of an axis
 pub axis-of : (subpel ext : List ℤ) (t : ℤ) (f side : ℕ) → axisOf subpel ext (filterOf t f side) ≡ axis subpel ext t f side
@@ -83,7 +81,15 @@ module _ (o s w h : ℕ) (subpel ext : List ℤ) (t : ℤ) (N B x y : ℕ) {n r 
     unfolding planOf
     plan-both g-is e z = rw (n-is, r-is, q-is, f-is, g-is) (more x y e z) where
       more : (x y : ℕ) → 0 < x → 0 < y
-          → record { bits = N; both = true; start = o - (3 * s + 3); step = 1; round = half N + half (N - B); first = tapsOf (axis subpel ext t x w); second = tapsOf (axis subpel ext t y h) }
+          → record {
+            bits = N;
+            both = true;
+            start = o - (3 * s + 3);
+            step = 1;
+            round = half N + half (N - B);
+            first = tapsOf (axis subpel ext t x w);
+            second = tapsOf (axis subpel ext t y h);
+          }
           ≡ planOf o s w h subpel ext t N B x y
       more zero y e f = absurd (omega arith)
       more (suc x) zero e f = absurd (omega arith)

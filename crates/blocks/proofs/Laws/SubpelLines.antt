@@ -1,11 +1,11 @@
 -- 8-tap: the rows of a block by one filter at most, and the turns of the loops over them. Assumes nothing.
-use mathlib.Core.Path.{_≡_, refl, sym, ap, _∙_}
+use mathlib.Core.Path.{_≡_, refl, ap}
 use mathlib.Core.List.{List}
 use Prim.Native.Nat.{ℕ, zero, suc, _+_, _-_, _*_, _≤_, _<_}
 use native.Mathlib.Omega.{arith}
 use lib.IntN.{ℤ, pos}
 use lib.ListN.{length, getD}
-use Rattle.rows.specs.Numbers.{half, px, clip, low16, minus16}
+use Rattle.rows.specs.Numbers.{half, clip, low16, minus16}
 use Rattle.rows.specs.Places.{rowOf, span}
 use Rattle.rows.specs.Copy.{put, prep}
 use Rattle.rows.specs.Subpel.{tapped}

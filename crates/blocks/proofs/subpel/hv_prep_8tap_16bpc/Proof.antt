@@ -17,7 +17,8 @@ abbrev begin : tie.After-check-8tap → tie.Start
 begin c = c .before .before .before
 
 number : (c : tie.After-check-8tap) → let a = begin c .args in
-    c .check-8tap .result ≡ lowest (subpelTests (depthOk (a .depth)) (length (a .tmp .now)) (a .tmp-stride) (length (a .src .now)) (a .src-off) (a .src-stride) (a .w) (a .h) (a .mx) (a .my) (a .filter-type) (length (a .subpel .now)) (length (a .ext .now)))
+    c .check-8tap .result ≡ lowest (subpelTests (depthOk (a .depth)) (length (a .tmp .now)) (a .tmp-stride) (length (a .src .now))
+    (a .src-off) (a .src-stride) (a .w) (a .h) (a .mx) (a .my) (a .filter-type) (length (a .subpel .now)) (length (a .ext .now)))
 number c =
     let f = begin c .fits in
     rw (c .before .depth-ok .ensures, back (f .depth), back (f .mx), back (f .my), back (f .filter-type)) at (c .check-8tap .ensures)
@@ -33,8 +34,10 @@ returns c =
     let e = c .before in
     let d = e .before .before in
     let t = d .before in
-    let f = begin (t .before) .fits in
-    (number (t .before), rw (numbers d, back (f .mx), back (f .my), back (f .filter-type)) at (e .prep-8tap-rows16 .ensures) ∙ sym (done _ _ _ (t .if1 .taken)))
+    let f = begin (t .before) .fits in (
+      number (t .before),
+      rw (numbers d, back (f .mx), back (f .my), back (f .filter-type)) at (e .prep-8tap-rows16 .ensures) ∙ sym (done _ _ _ (t .if1 .taken)),
+    )
 
 prep-8tap-rows16-requires : tie.Need-prep-8tap-rows16-requires
 prep-8tap-rows16-requires c κs =

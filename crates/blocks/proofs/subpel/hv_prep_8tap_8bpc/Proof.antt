@@ -11,14 +11,17 @@ use Rattle.blocks.proofs.subpel.hv_prep_8tap_8bpc.Statement.{statement}
 use Rattle.blocks.proofs.subpel.hv_prep_8tap_8bpc.Tie as tie
 
 number : (c : tie.After-check-8tap) → let a = c .before .before .args in
-    c .check-8tap .result ≡ lowest (subpelTests true (length (a .tmp .now)) (a .tmp-stride) (length (a .src .now)) (a .src-off) (a .src-stride) (a .w) (a .h) (a .mx) (a .my) (a .filter-type) (length (a .subpel .now)) (length (a .ext .now)))
+    c .check-8tap .result ≡ lowest (subpelTests true (length (a .tmp .now)) (a .tmp-stride) (length (a .src .now))
+    (a .src-off) (a .src-stride) (a .w) (a .h) (a .mx) (a .my) (a .filter-type) (length (a .subpel .now)) (length (a .ext .now)))
 number c = let f = c .before .before .fits in rw (back (f .mx), back (f .my), back (f .filter-type)) at (c .check-8tap .ensures)
 
 returns : tie.Need-returns
 returns c =
     let t = c .before .before .before in
-    let f = t .before .before .before .fits in
-    (number (t .before), rw (back (f .mx), back (f .my), back (f .filter-type)) at (c .before .prep-8tap-rows8 .ensures) ∙ sym (done _ _ _ (t .if1 .taken)))
+    let f = t .before .before .before .fits in (
+      number (t .before),
+      rw (back (f .mx), back (f .my), back (f .filter-type)) at (c .before .prep-8tap-rows8 .ensures) ∙ sym (done _ _ _ (t .if1 .taken)),
+    )
 
 prep-8tap-rows8-requires : tie.Need-prep-8tap-rows8-requires
 prep-8tap-rows8-requires c κs =

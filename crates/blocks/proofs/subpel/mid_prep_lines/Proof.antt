@@ -13,7 +13,8 @@ use Rattle.blocks.proofs.subpel.mid_prep_lines.Statement.{statement}
 use Rattle.blocks.proofs.subpel.mid_prep_lines.Tie as tie
 
 abbrev Inv-loop : tie.InvT-loop
-Inv-loop tmp₀ ts mid f n bias w h r p y₀ tmp y = Filled ts w (λ i j. minus16 (low16 (tapped f (half n) n (λ t. at mid (j * 64 + i + t * 64)))) (pos bias)) tmp₀ h y tmp
+Inv-loop tmp₀ ts mid f n bias w h r p y₀ tmp y =
+    Filled ts w (λ i j. minus16 (low16 (tapped f (half n) n (λ t. at mid (j * 64 + i + t * 64)))) (pos bias)) tmp₀ h y tmp
 
 abbrev μ-loop : tie.MeasureT-loop
 μ-loop tmp₀ ts mid f n bias w h r p y₀ tmp y = h - y

@@ -1,4 +1,4 @@
-use mathlib.Core.Path.{_≡_, refl, _∙_}
+use mathlib.Core.Path.{refl, _∙_}
 use native.Mathlib.Omega.{arith}
 use borrow.Author.Needs.{needs}
 use Rattle.rows.proofs.Laws.Signed.{back}
@@ -10,7 +10,7 @@ abbrev begin : tie.After-plan-8tap → tie.Start
 begin c = c .before .before
 
 planned : (c : tie.After-plan-8tap) → let a = begin c .args in
-    Planned (a .subpel .now) (a .ext .now) (a .src-off) (a .src-stride) (a .w) (a .h) (a .mx) (a .my) (a .filter-type) (a .d .bits) (c .plan-8tap .result)
+    Planned (a .subpel .now) (a .ext .now) (a .o) (a .s) (a .w) (a .h) (a .mx) (a .my) (a .filter-type) (a .d .bits) (c .plan-8tap .result)
 planned c = let f = begin c .fits in record { is = rw (back (f .filter-type), back (f .mx), back (f .my)) at (c .plan-8tap .ensures) }
 
 plan-8tap-requires : tie.Need-plan-8tap-requires
@@ -20,25 +20,29 @@ plan-8tap-requires c κs =
 
 prep-lines16-requires : tie.Need-prep-lines16-requires
 prep-lines16-requires c κs =
-    let t = c .before .before .before in
-    let d = t .before .before in
+    let t = c .before .before in
+    let d = t .before in
     let s = begin d in
     let n = bits-in (planned d) in
-    (first-ready (planned d) (s .pre .1) (s .pre .3) (t .if1 .taken), omega (arith, s .pre .0), omega (arith, s .pre .0), record { bits4 = s .pre .0 .bits4; bias13 = omega arith })
+    (first-ready (planned d) (s .pre .1) (s .pre .3) (t .if1 .taken), n .0, n .1, record { bits4 = s .pre .0 .bits4; bias13 = omega arith })
 
 mid-prep-lines-requires : tie.Need-mid-prep-lines-requires
 mid-prep-lines-requires c κs =
     let m = c .before .before .before .before in
-    let d = m .before .before .before .before .before .before in
+    let d = m .before .before .before .before in
     let s = begin d in
-    let n = bits-in (planned d) in
-    (second-ready (planned d) (s .pre .1) (s .pre .3) (s .pre .2) (m .prep-lines16 .kept .0), omega (arith, s .pre .0), omega (arith, s .pre .0), s .pre .0 .bias13)
+    let n = bits-in (planned d) in (
+      second-ready (planned d) (s .pre .1) (s .pre .3) (s .pre .2) (m .prep-lines16 .kept .0),
+      omega (arith, s .pre .0),
+      omega (arith, s .pre .0),
+      s .pre .0 .bias13,
+    )
 
 returns : tie.Need-returns
 returns c =
     let m = c .before .before .before .before .before .before in
-    let t = m .before .before .before .before in
-    let d = t .before .before in
+    let t = m .before .before .before in
+    let d = t .before in
     let s = begin d in
     c .before .mid-prep-lines .ensures
     ∙ prep-two (planned d) (s .pre .1) (s .pre .3) (s .args .src .now) (t .if1 .taken) _ refl (m .prep-lines16 .ensures) _ _
@@ -46,17 +50,17 @@ returns c =
 
 prep-lines16-requires-last : tie.Need-prep-lines16-requires-2
 prep-lines16-requires-last c κs =
-    let t = c .before .before in
-    let d = t .before .before in
+    let t = c .before in
+    let d = t .before in
     let s = begin d in
     let n = bits-in (planned d) in
     let r = one-ready (planned d) (s .pre .1) (s .pre .3) (s .pre .2) (t .if1 .left) in
-    (r .0, omega (arith, s .pre .0), omega (arith, s .pre .0), s .pre .0)
+    (r .0, n .0, n .1, s .pre .0)
 
 returns-2 : tie.Need-returns-2
 returns-2 c =
-    let t = c .before .before .before .before in
-    let d = t .before .before in
+    let t = c .before .before .before in
+    let d = t .before in
     let s = begin d in
     c .before .prep-lines162 .ensures
     ∙ prep-block (planned d) (s .pre .1) (s .pre .3) (s .args .src .now) (t .if1 .left) _ _ (omega (arith, s .pre .1, s .pre .2)) _
@@ -67,14 +71,12 @@ prep-8tap-rows16-spec =
     (tie.spec
     plan-8tap-requires
     (λ c. search needs)  -- &mut mid
-    (λ c. omega (arith, bits-in (planned (c .before .before .before .before .before)), begin (c .before .before .before .before .before) .pre .0))  -- n - bits
     (λ c. search needs)  -- h + 7
     prep-lines16-requires
     (λ c. search needs)  -- &mid
     mid-prep-lines-requires
     (λ c. search needs)  -- same-length
     returns
-    (λ c. omega (arith, bits-in (planned (c .before .before .before .before)), begin (c .before .before .before .before) .pre .0))  -- n - bits
     prep-lines16-requires-last
     (λ c. search needs)  -- same-length-2
     returns-2)

@@ -1,4 +1,4 @@
-use mathlib.Core.Path.{_≡_, refl, _∙_}
+use mathlib.Core.Path.{refl, _∙_}
 use native.Mathlib.Omega.{arith}
 use borrow.Author.Needs.{needs}
 use Rattle.rows.proofs.Laws.Signed.{back}
@@ -10,7 +10,7 @@ abbrev begin : tie.After-plan-8tap → tie.Start
 begin c = c .before .before
 
 planned : (c : tie.After-plan-8tap) → let a = begin c .args in
-    Planned (a .subpel .now) (a .ext .now) (a .src-off) (a .src-stride) (a .w) (a .h) (a .mx) (a .my) (a .filter-type) 4 (c .plan-8tap .result)
+    Planned (a .subpel .now) (a .ext .now) (a .o) (a .s) (a .w) (a .h) (a .mx) (a .my) (a .filter-type) 4 (c .plan-8tap .result)
 planned c = let f = begin c .fits in record { is = rw (back (f .filter-type), back (f .mx), back (f .my)) at (c .plan-8tap .ensures) }
 
 plan-8tap-requires : tie.Need-plan-8tap-requires
@@ -20,16 +20,16 @@ plan-8tap-requires c κs =
 
 prep-lines8-requires : tie.Need-prep-lines8-requires
 prep-lines8-requires c κs =
-    let t = c .before .before .before in
-    let d = t .before .before in
+    let t = c .before .before in
+    let d = t .before in
     let s = begin d in
     let n = bits-in (planned d) in
-    (first-ready (planned d) (s .pre .0) (s .pre .2) (t .if1 .taken), omega arith, omega arith)
+    (first-ready (planned d) (s .pre .0) (s .pre .2) (t .if1 .taken), n .0, n .1)
 
 mid-prep-lines-requires : tie.Need-mid-prep-lines-requires
 mid-prep-lines-requires c κs =
     let m = c .before .before .before .before in
-    let d = m .before .before .before .before .before .before in
+    let d = m .before .before .before .before in
     let s = begin d in
     let n = bits-in (planned d) in
     (second-ready (planned d) (s .pre .0) (s .pre .2) (s .pre .1) (m .prep-lines8 .kept .0), omega arith, omega arith, omega arith)
@@ -37,8 +37,8 @@ mid-prep-lines-requires c κs =
 returns : tie.Need-returns
 returns c =
     let m = c .before .before .before .before .before .before in
-    let t = m .before .before .before .before in
-    let d = t .before .before in
+    let t = m .before .before .before in
+    let d = t .before in
     let s = begin d in
     c .before .mid-prep-lines .ensures
     ∙ prep-two (planned d) (s .pre .0) (s .pre .2) (s .args .src .now) (t .if1 .taken) _ refl (m .prep-lines8 .ensures) _ _
@@ -46,17 +46,17 @@ returns c =
 
 prep-lines8-requires-last : tie.Need-prep-lines8-requires-2
 prep-lines8-requires-last c κs =
-    let t = c .before .before in
-    let d = t .before .before in
+    let t = c .before in
+    let d = t .before in
     let s = begin d in
     let n = bits-in (planned d) in
     let r = one-ready (planned d) (s .pre .0) (s .pre .2) (s .pre .1) (t .if1 .left) in
-    (r .0, omega arith, omega arith)
+    (r .0, n .0, n .1)
 
 returns-2 : tie.Need-returns-2
 returns-2 c =
-    let t = c .before .before .before .before in
-    let d = t .before .before in
+    let t = c .before .before .before in
+    let d = t .before in
     let s = begin d in
     c .before .prep-lines82 .ensures
     ∙ prep-block (planned d) (s .pre .0) (s .pre .2) (s .args .src .now) (t .if1 .left) _ _ (omega (arith, s .pre .0, s .pre .1)) _
@@ -67,14 +67,12 @@ prep-8tap-rows8-spec =
     (tie.spec
     plan-8tap-requires
     (λ c. search needs)  -- &mut mid
-    (λ c. omega (arith, bits-in (planned (c .before .before .before .before .before))))  -- n - bits
     (λ c. search needs)  -- h + 7
     prep-lines8-requires
     (λ c. search needs)  -- &mid
     mid-prep-lines-requires
     (λ c. search needs)  -- same-length
     returns
-    (λ c. omega (arith, bits-in (planned (c .before .before .before .before))))  -- n - bits
     prep-lines8-requires-last
     (λ c. search needs)  -- same-length-2
     returns-2)

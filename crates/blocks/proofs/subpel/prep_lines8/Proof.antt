@@ -10,14 +10,15 @@ use Rattle.blocks.proofs.subpel.prep_lines8.Statement.{statement}
 use Rattle.blocks.proofs.subpel.prep_lines8.Tie as tie
 
 abbrev Inv-loop : tie.InvT-loop
-Inv-loop tmp₀ ts src s p f n w h y₀ tmp y = Filled ts w (λ i j. prepLine 4 0 f n (p .step) (along src (p .start) s (p .step) i j)) tmp₀ h y tmp
+Inv-loop tmp₀ ts src s p w h f n y₀ tmp y =
+    Filled ts w (λ i j. prepLine 4 0 (p .first) (p .bits - 4) (p .step) (along src (p .start) s (p .step) i j)) tmp₀ h y tmp
 
 abbrev μ-loop : tie.MeasureT-loop
-μ-loop tmp₀ ts src s p f n w h y₀ tmp y = h - y
+μ-loop tmp₀ ts src s p w h f n y₀ tmp y = h - y
 
 -- the function's entry, from a turn of the loop
 abbrev entry : tie.In-loop Inv-loop μ-loop → tie.Start Inv-loop μ-loop
-entry c = c .before .before .before
+entry c = c .before .before .before .before .before
 
 row : (c : tie.In-loop Inv-loop μ-loop) → let a = entry c .args in
     Turn (c .before .loop .tmp) (a .tmp-stride) (length (a .src .now)) (a .p .start) (a .src-stride) (a .p .step) (a .w) (c .before .loop .y)
@@ -25,7 +26,7 @@ row c = turn (pos 0) (entry c .pre .0) (c .before .loop .inv) (c .loop-test .tak
 
 loop-again : tie.Need-loop-again Inv-loop μ-loop
 loop-again c =
-    let t = c .before .before .before .before in
+    let t = c .before .before .before .before .before in
     filled-more (pos 0) _ (t .before .loop .inv) (entry t .pre .0 .w1) (entry t .pre .0 .dst) (t .loop-test .taken) (c .before .prep-line-row8 .ensures)
 
 pub prep-lines8-spec : {M : Type 1} → statement M
@@ -34,7 +35,8 @@ prep-lines8-spec =
     (tie.spec
     Inv-loop
     μ-loop
-    (λ c. filled-none (pos 0) _ _ _ _ _ (omega (arith, c .before .pre .0 .dst)))  -- loop-holds
+    (λ c. omega (arith, c .before .before .before .pre))  -- sub-n
+    (λ c. filled-none (pos 0) _ _ _ _ _ (omega (arith, c .before .before .before .pre .0 .dst)))  -- loop-holds
     (λ c. omega (arith, row c))
     (λ c. omega (arith, row c))
     (λ c. omega (arith, row (c .before)))
@@ -43,7 +45,7 @@ prep-lines8-spec =
     (λ c. omega (arith, row (c .before)))
     (λ c. omega (arith, row (c .before)))
     (λ c. omega (arith, row (c .before)))
-    (λ c κs. omega (arith, row (c .before .before)))  -- prep-line-row-requires
+    (λ c κs. let t = c .before .before .before in omega (arith, row t, entry t .pre))  -- prep-line-row-requires
     (λ c. search needs)  -- add-y
     (λ c. search needs)  -- loop-less
     loop-again

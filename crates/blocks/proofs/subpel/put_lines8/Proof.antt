@@ -9,14 +9,15 @@ use Rattle.blocks.proofs.subpel.put_lines8.Statement.{statement}
 use Rattle.blocks.proofs.subpel.put_lines8.Tie as tie
 
 abbrev Inv-loop : tie.InvT-loop
-Inv-loop dst₀ ds src s p f n w h y₀ dst y = Filled ds w (λ i j. putLine 255 f (p .round) n (p .step) (along src (p .start) s (p .step) i j)) dst₀ h y dst
+Inv-loop dst₀ ds src s p w h f y₀ dst y =
+    Filled ds w (λ i j. putLine 255 (p .first) (p .round) (p .bits) (p .step) (along src (p .start) s (p .step) i j)) dst₀ h y dst
 
 abbrev μ-loop : tie.MeasureT-loop
-μ-loop dst₀ ds src s p f n w h y₀ dst y = h - y
+μ-loop dst₀ ds src s p w h f y₀ dst y = h - y
 
 -- the function's entry, from a turn of the loop
 abbrev entry : tie.In-loop Inv-loop μ-loop → tie.Start Inv-loop μ-loop
-entry c = c .before .before .before .before
+entry c = c .before .before .before .before .before
 
 row : (c : tie.In-loop Inv-loop μ-loop) → let a = entry c .args in
     Turn (c .before .loop .dst) (a .dst-stride) (length (a .src .now)) (a .p .start) (a .src-stride) (a .p .step) (a .w) (c .before .loop .y)
@@ -24,7 +25,7 @@ row c = turn 0 (entry c .pre .0) (c .before .loop .inv) (c .loop-test .taken)
 
 loop-again : tie.Need-loop-again Inv-loop μ-loop
 loop-again c =
-    let t = c .before .before .before .before .before in
+    let t = c .before .before .before .before .before .before in
     filled-more 0 _ (t .before .loop .inv) (entry t .pre .0 .w1) (entry t .pre .0 .dst) (t .loop-test .taken) (c .before .before .put-line-row8 .ensures)
 
 pub put-lines8-spec : {M : Type 1} → statement M
@@ -33,7 +34,7 @@ put-lines8-spec =
     (tie.spec
     Inv-loop
     μ-loop
-    (λ c. filled-none 0 _ _ _ _ _ (omega (arith, c .before .before .pre .0 .dst)))  -- loop-holds
+    (λ c. filled-none 0 _ _ _ _ _ (omega (arith, c .before .before .before .pre .0 .dst)))  -- loop-holds
     (λ c. omega (arith, row c))
     (λ c. omega (arith, row c))
     (λ c. omega (arith, row (c .before)))
@@ -41,7 +42,7 @@ put-lines8-spec =
     (λ c. omega (arith, row (c .before)))
     (λ c. omega (arith, row (c .before)))
     (λ c. omega (arith, row (c .before)))
-    (λ c κs. omega (arith, row (c .before .before)))  -- put-line-row-requires
+    (λ c κs. let t = c .before .before .before in omega (arith, row t, entry t .pre))  -- put-line-row-requires
     (λ c. search needs)  -- add-y
     (λ c. search needs)  -- loop-less
     loop-again

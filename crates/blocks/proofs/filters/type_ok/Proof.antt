@@ -1,7 +1,7 @@
 use Rattle.rows.proofs.Laws.Signed.{back}
 use Rattle.blocks.specs.Subpel.{typeOk}
-use Rattle.blocks.proofs.subpel.type_ok.Statement.{statement}
-use Rattle.blocks.proofs.subpel.type_ok.Tie as tie
+use Rattle.blocks.proofs.filters.type_ok.Statement.{statement}
+use Rattle.blocks.proofs.filters.type_ok.Tie as tie
 
 returns : tie.Need-returns
 unfolding typeOk

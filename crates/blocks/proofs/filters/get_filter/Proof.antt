@@ -6,10 +6,10 @@ use Rattle.rows.specs.Numbers.{up, dn}
 use Rattle.rows.specs.Subpel.{family}
 use Rattle.rows.proofs.Laws.Signed.{signed, rd}
 use Rattle.blocks.specs.Subpel.{filterOf}
-use Rattle.blocks.specs.declared.subpel.Filter.the-variants.{Subpel}
+use Rattle.blocks.specs.declared.filters.Filter.the-variants.{Subpel}
 use Rattle.blocks.proofs.Laws.SubpelChoice.{filter-off, filter-ext, filter-sub, family-low, family-high}
-use Rattle.blocks.proofs.subpel.get_filter.Statement.{statement}
-use Rattle.blocks.proofs.subpel.get_filter.Tie as tie
+use Rattle.blocks.proofs.filters.get_filter.Statement.{statement}
+use Rattle.blocks.proofs.filters.get_filter.Tie as tie
 
 -- the fraction, as it is carried
 n-is : (c : tie.After-above) → (c .above .result ≡ up (c .before .args .f)) × (c .above .result < 2147483648)
@@ -20,12 +20,14 @@ t-is : (c : tie.After-above2) → let s = c .before .before .before .before in
     (c .above2 .result ≡ up (s .args .filter-type)) × (dn (s .args .filter-type) ≡ 0) × (c .above2 .result < 2147483648)
 t-is c =
     let s = c .before .before .before .before in
-    (omega (arith, c .above2 .ensures, rd (s .fits .filter-type)), omega (signed, c .before .if2 .left, rd (s .fits .filter-type)), omega (arith, c .above2 .ensures, rd (s .fits .filter-type)))
+    let f = rd (s .fits .filter-type) in
+    (omega (arith, c .above2 .ensures), omega (signed, c .before .if2 .left), omega (arith, c .above2 .ensures))
 
 returns-2 : tie.Need-returns-2
 returns-2 c =
     let b = c .before .before in
-    rw (n-is b .0) (filter-ext (b .before .args .filter-type) _ _ (omega (arith, n-is b, c .before .if1 .left)) (omega (signed, rd (b .before .fits .filter-type))))
+    rw (n-is b .0)
+    (filter-ext (b .before .args .filter-type) _ _ (omega (arith, n-is b, c .before .if1 .left)) (omega (signed, rd (b .before .fits .filter-type))))
 
 -- the number in subpel, of the family m
 number : (c : tie.After-above2) (m : ℕ) → let s = c .before .before .before .before in m ≡ family (up (s .args .filter-type)) (s .args .side)

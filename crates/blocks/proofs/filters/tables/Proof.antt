@@ -2,8 +2,8 @@ use borrow.Author.Needs.{needs}
 use Rattle.rows.proofs.Laws.Signed.{back}
 use Rattle.blocks.specs.Subpel.{subpelOk}
 use Rattle.blocks.specs.Refuse.{wholeFilters}
-use Rattle.blocks.proofs.subpel.tables.Statement.{statement}
-use Rattle.blocks.proofs.subpel.tables.Tie as tie
+use Rattle.blocks.proofs.filters.tables.Statement.{statement}
+use Rattle.blocks.proofs.filters.tables.Tie as tie
 
 returns : tie.Need-returns
 unfolding subpelOk wholeFilters

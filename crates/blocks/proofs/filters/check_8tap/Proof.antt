@@ -1,11 +1,11 @@
-use mathlib.Core.Path.{_≡_, sym, ap, _∙_}
+use mathlib.Core.Path.{_≡_, sym, _∙_}
 use native.Mathlib.Omega.{arith}
 use borrow.Author.Needs.{needs}
 use Rattle.rows.proofs.Laws.Signed.{back}
 use Rattle.blocks.specs.Refuse.{lowest}
 use Rattle.blocks.proofs.Laws.SubpelReady.{later, sooner, shapeTests, shape-met}
-use Rattle.blocks.proofs.subpel.check_8tap.Statement.{statement}
-use Rattle.blocks.proofs.subpel.check_8tap.Tie as tie
+use Rattle.blocks.proofs.filters.check_8tap.Statement.{statement}
+use Rattle.blocks.proofs.filters.check_8tap.Tie as tie
 
 -- what the first part answers
 shape : (c : tie.After-sizes) → let a = c .before .before .before .args in

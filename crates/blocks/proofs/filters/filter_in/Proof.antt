@@ -2,8 +2,8 @@ use borrow.Author.Needs.{needs}
 use native.Mathlib.Omega.{arith}
 use Rattle.rows.proofs.Laws.Signed.{back, rd}
 use Rattle.blocks.specs.Subpel.{filterIn}
-use Rattle.blocks.proofs.subpel.filter_in.Statement.{statement}
-use Rattle.blocks.proofs.subpel.filter_in.Tie as tie
+use Rattle.blocks.proofs.filters.filter_in.Statement.{statement}
+use Rattle.blocks.proofs.filters.filter_in.Tie as tie
 
 returns : tie.Need-returns
 unfolding filterIn

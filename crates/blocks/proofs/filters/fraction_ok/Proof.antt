@@ -1,7 +1,7 @@
 use Rattle.rows.proofs.Laws.Signed.{back}
 use Rattle.blocks.specs.Subpel.{sixteenthOk, fractionOk}
-use Rattle.blocks.proofs.subpel.fraction_ok.Statement.{statement}
-use Rattle.blocks.proofs.subpel.fraction_ok.Tie as tie
+use Rattle.blocks.proofs.filters.fraction_ok.Statement.{statement}
+use Rattle.blocks.proofs.filters.fraction_ok.Tie as tie
 
 returns : tie.Need-returns
 unfolding fractionOk sixteenthOk

@@ -1,7 +1,7 @@
 use Rattle.rows.proofs.Laws.Signed.{signed, rd}
 use Rattle.blocks.proofs.Laws.SubpelChoice.{bits-below, bits-above}
-use Rattle.blocks.proofs.subpel.filter_bits.Statement.{statement}
-use Rattle.blocks.proofs.subpel.filter_bits.Tie as tie
+use Rattle.blocks.proofs.filters.filter_bits.Statement.{statement}
+use Rattle.blocks.proofs.filters.filter_bits.Tie as tie
 
 pub filter-bits-spec : {M : Type 1} → statement M
 filter-bits-spec =

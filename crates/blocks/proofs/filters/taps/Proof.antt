@@ -2,8 +2,8 @@ use mathlib.Core.Path.{refl}
 use borrow.Author.Needs.{needs}
 use Rattle.rows.specs.Places.{rowOf, rowFrom}
 use Rattle.blocks.specs.Subpel.{axisOf, tapsOf}
-use Rattle.blocks.proofs.subpel.taps.Statement.{statement}
-use Rattle.blocks.proofs.subpel.taps.Tie as tie
+use Rattle.blocks.proofs.filters.taps.Statement.{statement}
+use Rattle.blocks.proofs.filters.taps.Tie as tie
 
 returns : tie.Need-returns
 unfolding tapsOf axisOf rowOf rowFrom

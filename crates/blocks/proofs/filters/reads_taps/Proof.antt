@@ -1,6 +1,5 @@
 use mathlib.Core.Path.{_≡_, refl, sym, _∙_}
-use mathlib.Core.Bool.{false, _&&_}
-use Prim.Native.Nat.{ℕ, _+_, _-_, _*_, _≤_, _<_}
+use Prim.Native.Nat.{ℕ, _+_, _-_, _*_, _≤_}
 use native.Mathlib.Nat.{mul-le-mul-right}
 use native.Mathlib.Omega.{arith}
 use lib.Dec.{leb, ltb}
@@ -9,8 +8,8 @@ use borrow.Author.Tests.{le-leb, lt-leb, lt-ltb, le-ltb}
 use Rattle.rows.proofs.Laws.Places.{by-lt}
 use Rattle.rows.proofs.Laws.Fill.{and-false}
 use Rattle.blocks.specs.Refuse.{reads}
-use Rattle.blocks.proofs.subpel.reads_taps.Statement.{statement}
-use Rattle.blocks.proofs.subpel.reads_taps.Tie as tie
+use Rattle.blocks.proofs.filters.reads_taps.Statement.{statement}
+use Rattle.blocks.proofs.filters.reads_taps.Tie as tie
 
 -- the products are small
 small : (c : tie.Start) → let a = c .args in (3 * a .y * a .s ≤ 3 * a .s) × ((a .h - 1 + 4 * a .y) * a .s ≤ 67 * a .s)

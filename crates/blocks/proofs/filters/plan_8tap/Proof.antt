@@ -7,8 +7,8 @@ use Rattle.rows.specs.Subpel.{axis, filterBits}
 use Rattle.rows.proofs.Laws.Signed.{back}
 use Rattle.blocks.specs.Subpel.{on, filterOf, tapsOf}
 use Rattle.blocks.proofs.Laws.SubpelChoice.{axis-of, bits-fit, plan-none, plan-down, plan-across, plan-both}
-use Rattle.blocks.proofs.subpel.plan_8tap.Statement.{statement}
-use Rattle.blocks.proofs.subpel.plan_8tap.Tie as tie
+use Rattle.blocks.proofs.filters.plan_8tap.Statement.{statement}
+use Rattle.blocks.proofs.filters.plan_8tap.Tie as tie
 
 abbrev begin : tie.After-taps2 → tie.Start
 begin c = c .before .before .before .before .before
@@ -25,9 +25,11 @@ down c = let f = c .before .before .before .before .fits in rw (back (f .filter-
 
 record Known (c : tie.After-half-power) : Type 0 where
   n : let d = c .before .before .before in d .before .before .before .before .filter-bits .result ≡ filterBits (begin d .args .filter-type)
-  n-in : let d = c .before .before .before in (6 ≤ d .before .before .before .before .filter-bits .result) × (d .before .before .before .before .filter-bits .result ≤ 7)
-  f : let d = c .before .before .before in let a = begin d .args in d .before .before .taps .result ≡ tapsOf (axis (a .subpel .now) (a .ext .now) (a .filter-type) (up (a .mx)) (a .w))
-  g : let d = c .before .before .before in let a = begin d .args in d .taps2 .result ≡ tapsOf (axis (a .subpel .now) (a .ext .now) (a .filter-type) (up (a .my)) (a .h))
+  n-in : let n = c .before .before .before .before .before .before .before .filter-bits .result in (6 ≤ n) × (n ≤ 7)
+  f : let d = c .before .before .before in let a = begin d .args in
+      d .before .before .taps .result ≡ tapsOf (axis (a .subpel .now) (a .ext .now) (a .filter-type) (up (a .mx)) (a .w))
+  g : let d = c .before .before .before in let a = begin d .args in
+      d .taps2 .result ≡ tapsOf (axis (a .subpel .now) (a .ext .now) (a .filter-type) (up (a .my)) (a .h))
   x : c .before .before .on-axis .result ≡ on (begin (c .before .before .before) .args .mx)
   y : c .before .on-axis2 .result ≡ on (begin (c .before .before .before) .args .my)
   r : c .half-power .result ≡ half (filterBits (begin (c .before .before .before) .args .filter-type))
@@ -40,15 +42,16 @@ known c =
     record {
       n = n;
       n-in = rw n (bits-fit (s .args .filter-type));
-      f = rw (across (d .before .before .before)) at (d .before .before .taps .ensures) ∙ ap tapsOf (axis-of _ _ (s .args .filter-type) (up (s .args .mx)) (s .args .w));
-      g = rw (down (d .before)) at (d .taps2 .ensures) ∙ ap tapsOf (axis-of _ _ (s .args .filter-type) (up (s .args .my)) (s .args .h));
+      f = rw (across (d .before .before .before)) at (d .before .before .taps .ensures) ∙ ap tapsOf (axis-of _ _ (s .args .filter-type) _ _);
+      g = rw (down (d .before)) at (d .taps2 .ensures) ∙ ap tapsOf (axis-of _ _ (s .args .filter-type) _ _);
       x = rw (back (s .fits .mx)) at (c .before .before .on-axis .ensures);
       y = rw (back (s .fits .my)) at (c .before .on-axis2 .ensures);
       r = rw n at (c .half-power .ensures .0);
     }
 
 -- the places before the block
-before : (c : tie.After-half-power) (x y : ℕ) → let a = begin (c .before .before .before) .args in on (a .mx) ≡ x → on (a .my) ≡ y → 3 * y * a .s + 3 * x ≤ a .o
+before : (c : tie.After-half-power) (x y : ℕ) → let a = begin (c .before .before .before) .args in
+    on (a .mx) ≡ x → on (a .my) ≡ y → 3 * y * a .s + 3 * x ≤ a .o
 before c x y e f = rw (← e, ← f) (begin (c .before .before .before) .pre .1)
 
 only-down : (c : tie.Else2) → let a = begin (c .before .before .before .before .before) .args in 3 * a .s ≤ a .o
@@ -58,10 +61,14 @@ both : (c : tie.Else3) → let a = begin (c .before .before .before .before .bef
 both c = let t = c .before .before .before in omega (arith, before t 1 1 (omega (arith, known t)) (omega (arith, known t)))
 
 returns : tie.Need-returns
-returns c = let k = known (c .before .before .before) in c .by-one .ensures ∙ plan-none _ _ _ _ _ _ _ _ _ _ _ (k .n) (k .r) (k .g) (omega arith) (omega arith)
+returns c =
+    let k = known (c .before .before .before) in
+    c .by-one .ensures ∙ plan-none _ _ _ _ _ _ _ _ _ _ _ (k .n) (k .r) (k .g) (omega arith) (omega arith)
 
 returns-2 : tie.Need-returns-2
-returns-2 c = let k = known (c .before .before .before) in c .by-one2 .ensures ∙ plan-down _ _ _ _ _ _ _ _ _ _ _ (k .n) (k .r) (k .g) (omega arith) (omega arith)
+returns-2 c =
+    let k = known (c .before .before .before) in
+    c .by-one2 .ensures ∙ plan-down _ _ _ _ _ _ _ _ _ _ _ (k .n) (k .r) (k .g) (omega arith) (omega arith)
 
 returns-3 : tie.Need-returns-3
 returns-3 c =
@@ -90,7 +97,7 @@ plan-8tap-spec =
     (λ c κs. rw (down c) (c .before .before .before .before .pre .3))  -- taps-requires-2
     (λ c κs. search needs)  -- on-axis-requires
     (λ c κs. search needs)  -- on-axis-requires-2
-    (λ c κs. let n = bits (c .before .before .before .before .before .before) in omega (arith, n, bits-fit (begin (c .before .before) .args .filter-type)))  -- half-power-requires
+    (λ c κs. omega (arith, bits (c .before .before .before .before .before .before), bits-fit (begin (c .before .before) .args .filter-type)))  -- half-power-requires
     (λ c κs. search needs)  -- by-one-requires
     returns
     (λ c. omega (arith, only-down c))  -- mul-by-one

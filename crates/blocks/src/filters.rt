@@ -1,0 +1,231 @@
+// The tests of 8-tap, the filter of an axis, and the plan of a block: which of the four cases it is.
+ghost use mathlib.Core.Path.{_≡_};
+ghost use Prim.Native.Nat.{_+_, _*_, _≤_};
+ghost use lib.ListN.{length};
+ghost use Rattle.rows.specs.Numbers.{up};
+ghost use Rattle.rows.specs.Subpel.{filterBits};
+ghost use Rattle.blocks.specs.Refuse.{need, lowest, reads, wholeFilters};
+ghost use Rattle.blocks.specs.Subpel.{typeOk, fractionOk, subpelOk, filterIn, on, subpelTests, axisOf, filterOf, Held, tapsOf, byOne, planOf};
+use crate::refuse::above;
+use crate::refuse::held;
+use crate::refuse::needed;
+use crate::refuse::sizes;
+use crate::refuse::stride;
+use rows::subpel::eight;
+use rows::warp::half_power;
+
+// A filter type.
+fn type_ok(filter_type: i32) -> bool
+    ensures { λ r. ⌜ r ≡ typeOk «filter_type» ⌝ }
+{
+    (-1 <= filter_type) & (filter_type <= 2)
+}
+
+// A fraction of the type.
+fn fraction_ok(filter_type: i32, f: i32) -> bool
+    ensures { λ r. ⌜ r ≡ fractionOk «filter_type» f ⌝ }
+{
+    ((0 <= f) & (f <= 15)) | ((filter_type < 0) & (0 <= f))
+}
+
+// The fraction's filter is in ext, where it comes from there.
+fn filter_in(filter_type: i32, f: i32, el: usize) -> bool
+    ensures { λ r. ⌜ r ≡ filterIn «filter_type» f el ⌝ }
+{
+    (0 <= filter_type) | (8 * above(f) as usize <= el)
+}
+
+// 1 where the fraction asks for a filter.
+fn on_axis(f: i32) -> usize
+    ensures { λ r. ⌜ r ≡ on f ⌝ }
+{
+    if f <= 0 { 0 } else { 1 }
+}
+
+// sl places hold those of each tap, with a filter on an axis where x or y is 1.
+fn reads_taps(sl: usize, o: usize, s: usize, w: usize, h: usize, x: usize, y: usize) -> bool
+    requires { ⌜ (s ≤ 32768) × (w ≤ 64) × (1 ≤ w) × (1 ≤ h) × (h ≤ 64) × (x ≤ 1) × (y ≤ 1) ⌝ }
+    ensures { λ r. ⌜ r ≡ reads sl o s w h (3 * x) (4 * x) (3 * y) (4 * y) ⌝ }
+{
+    let last = (h - 1 + 4 * y) * s + (w - 1 + 4 * x);
+    if o < 3 * y * s + 3 * x {
+        return false;
+    }
+    if sl < o {
+        return false;
+    }
+    last < sl - o
+}
+
+// The tests of the motion and of the tables, as links of the chain.
+fn motion(filter_type: i32, mx: i32, my: i32, rest: u32) -> u32
+    ensures { λ r. ⌜ r ≡ need (typeOk «filter_type») 3 (need (fractionOk «filter_type» mx) 3 (need (fractionOk «filter_type» my) 3 rest)) ⌝ }
+{
+    needed(
+        type_ok(filter_type),
+        3,
+        needed(
+            fraction_ok(filter_type, mx),
+            3,
+            needed(fraction_ok(filter_type, my), 3, rest),
+        ),
+    )
+}
+
+fn tables(filter_type: i32, mx: i32, my: i32, tl: usize, el: usize, rest: u32) -> u32
+    ensures { λ r. ⌜ r ≡ need (subpelOk tl) 4 (need (wholeFilters el) 4 (need (filterIn «filter_type» mx el) 4 (need (filterIn «filter_type» my el) 4 rest))) ⌝ }
+{
+    let there = needed(
+        filter_in(filter_type, mx, el),
+        4,
+        needed(filter_in(filter_type, my, el), 4, rest),
+    );
+    needed(tl == 600, 4, needed(el % 8 == 0, 4, there))
+}
+
+pub fn check_8tap(
+    deep: bool,
+    dl: usize,
+    dst_stride: usize,
+    sl: usize,
+    src_off: usize,
+    src_stride: usize,
+    w: usize,
+    h: usize,
+    mx: i32,
+    my: i32,
+    filter_type: i32,
+    tl: usize,
+    el: usize,
+) -> u32
+    ensures { λ r. ⌜ r ≡ lowest (subpelTests deep dl «dst_stride» sl «src_off» «src_stride» w h mx my «filter_type» tl el) ⌝ }
+{
+    let shape = sizes(w, h, stride(w, dst_stride, stride(w, src_stride, 0)));
+    if shape != 0 {
+        return shape;
+    }
+    let reads = reads_taps(sl, src_off, src_stride, w, h, on_axis(mx), on_axis(my));
+    let buffers = needed(reads, 5, held(dl, dst_stride, w, h, 6, 0));
+    needed(
+        deep,
+        3,
+        motion(
+            filter_type,
+            mx,
+            my,
+            tables(filter_type, mx, my, tl, el, buffers),
+        ),
+    )
+}
+
+// The filter of an axis: none, or the number of one in a lent table.
+pub enum Filter {
+    Off,
+    Ext(usize),
+    Subpel(usize),
+}
+
+// A side of four or less has its own families.
+fn get_filter(f: i32, filter_type: i32, side: usize) -> Filter
+    ensures { λ r. ⌜ r ≡ filterOf «filter_type» (up f) side ⌝ }
+{
+    let n = above(f) as usize;
+    if n == 0 {
+        return Filter::Off;
+    }
+    if filter_type < 0 {
+        return Filter::Ext(n - 1);
+    }
+    let t = above(filter_type) as usize;
+    if side <= 4 {
+        return Filter::Subpel(15 * (3 + t % 2) + (n - 1));
+    }
+    Filter::Subpel(15 * t + (n - 1))
+}
+
+fn taps(subpel: &[i8], ext: &[i8], k: Filter) -> [i8; 8]
+    requires { ⌜ Held (length (now subpel)) (length (now ext)) k ⌝ }
+    ensures { λ r. ⌜ r ≡ tapsOf (axisOf (now (subpel .entry)) (now (ext .entry)) k) ⌝ }
+{
+    match k {
+        Filter::Off => [0i8; 8],
+        Filter::Ext(n) => eight(ext, n),
+        Filter::Subpel(n) => eight(subpel, n),
+    }
+}
+
+// N
+fn filter_bits(filter_type: i32) -> u32
+    ensures { λ r. ⌜ r ≡ filterBits «filter_type» ⌝ }
+{
+    if filter_type < 0 { 7 } else { 6 }
+}
+
+// How the rows of a block are made: N, whether the second filter follows, where the taps of the first begin and how far apart they stand, put's
+// rounding with one filter, and the taps.
+pub struct Plan {
+    pub bits: u32,
+    pub both: bool,
+    pub start: usize,
+    pub step: usize,
+    pub round: u32,
+    pub first: [i8; 8],
+    pub second: [i8; 8],
+}
+
+fn by_one(bits: u32, start: usize, step: usize, round: u32, f: [i8; 8]) -> Plan
+    ensures { λ r. ⌜ r ≡ byOne bits start step round f ⌝ }
+{
+    Plan {
+        bits,
+        both: false,
+        start,
+        step,
+        round,
+        first: f,
+        second: f,
+    }
+}
+
+// The four cases.
+pub fn plan_8tap(
+    o: usize,
+    s: usize,
+    w: usize,
+    h: usize,
+    mx: i32,
+    my: i32,
+    filter_type: i32,
+    b: u32,
+    subpel: &[i8],
+    ext: &[i8],
+) -> Plan
+    requires { ⌜ (b ≤ 4) × (3 * on my * s + 3 * on mx ≤ o) × Held (length (now subpel)) (length (now ext)) (filterOf «filter_type» (up mx) w) × Held (length (now subpel)) (length (now ext)) (filterOf «filter_type» (up my) h) ⌝ }
+    ensures { λ r. ⌜ r ≡ planOf o s w h (now (subpel .entry)) (now (ext .entry)) «filter_type» (filterBits «filter_type») b (up mx) (up my) ⌝ }
+{
+    let n = filter_bits(filter_type);
+    let f = taps(subpel, ext, get_filter(mx, filter_type, w));
+    let g = taps(subpel, ext, get_filter(my, filter_type, h));
+    let x = on_axis(mx);
+    let y = on_axis(my);
+    let round = half_power(n);
+    if x == 0 {
+        if y == 0 {
+            return by_one(n, o, 0, round, g);
+        }
+        return by_one(n, o - 3 * s, s, round, g);
+    }
+    let round = round + half_power(n - b);
+    if y == 0 {
+        return by_one(n, o - 3, 1, round, f);
+    }
+    Plan {
+        bits: n,
+        both: true,
+        start: o - (3 * s + 3),
+        step: 1,
+        round,
+        first: f,
+        second: g,
+    }
+}
