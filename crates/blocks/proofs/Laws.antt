@@ -30,3 +30,4 @@ pub mod WarpReady
 pub mod Passes
 pub mod WarpAnswers
 pub mod Shears
+pub mod MaskAnswers

@@ -24,6 +24,16 @@ abbrev μ-loop : tie.MeasureT-loop
 abbrev entry : tie.In-loop Inv-loop μ-loop → tie.Start Inv-loop μ-loop
 entry c = c .before .before .before .before
 
+-- the turn, from its places: the second row's part, its weights, and the mask's row
+abbrev part2 : tie.After-m2 Inv-loop μ-loop → tie.In-loop Inv-loop μ-loop
+part2 c = c .before .before .before .before .before .before
+
+abbrev weights2 : tie.After-n Inv-loop μ-loop → tie.In-loop Inv-loop μ-loop
+weights2 c = part2 (c .before .before)
+
+abbrev kept : tie.After-n2 Inv-loop μ-loop → tie.In-loop Inv-loop μ-loop
+kept c = part2 (c .before .before .before .before .before .before)
+
 -- in a turn, rows 2y and 2y + 1 are within dst and both intermediates, and row y within the mask
 below : (c : tie.In-loop Inv-loop μ-loop) → 2 * c .before .loop .y + 1 < entry c .args .h
 below c = omega (arith, c .loop-test .taken)
@@ -61,10 +71,10 @@ weigh-row8-requires-2 c κs =
     let r = c .before .before .before .before .before in let t = r .before .before .before in let p = entry t .pre .0 in let i = t .before .loop .inv in
     omega (arith, row t, filled-span 0 (first r .1) (p .dst) (below t), front-span (entry t .args .w) (t .before .loop .n) (p .block .w64) (i .3))
 
-second : (c : tie.After-weigh-row82 Inv-loop μ-loop) → let t = c .before .before .before .before .before .before .before .before .before in let a = entry t .args in
+second : (c : tie.After-weigh-row82 Inv-loop μ-loop) → let t = weights2 (c .before) in let a = entry t .args in
     Front (a .w) (λ i. weigh 8 4 (a .tmp1 .now) (a .tmp2 .now) (a .w) i (2 * t .before .loop .y + 1)) (c .weigh-row82 .last .1 .0 ++ drop (a .w) (t .before .loop .n))
 second c =
-    let t = c .before .before .before .before .before .before .before .before .before in
+    let t = weights2 (c .before) in
     front _ _ _ _ (entry t .pre .0 .block .w64) (t .before .loop .inv .3) (c .weigh-row82 .ensures .0)
 
 four-row-requires : tie.Need-four-row-requires Inv-loop μ-loop
@@ -105,27 +115,27 @@ w-mask-fours8-spec =
     (λ c. let t = c .before .before in sym (front-span _ _ (entry t .pre .0 .block .w64) (t .before .loop .inv .2)))  -- slice-aggregate-weigh-row8
     (λ c. omega (arith, row (c .before .before)))  -- mul-weigh-row8
     weigh-row8-requires
-    (λ c. omega (arith, row (c .before .before .before .before .before .before)))  -- add-e
-    (λ c. omega (arith, row (c .before .before .before .before .before .before)))  -- mul-e
-    (λ c. omega (arith, row (c .before .before .before .before .before .before)))  -- add-weigh-row8-2
-    (λ c. omega (arith, row (c .before .before .before .before .before .before)))  -- sub-weigh-row8-2
-    (λ c. omega (arith, row (c .before .before .before .before .before .before)))  -- part-weigh-row8-start-2
-    (λ c. omega (arith, row (c .before .before .before .before .before .before)))  -- part-weigh-row8-end-2
-    (λ c. let t = c .before .before .before .before .before .before .before in omega (arith, entry t .pre .0 .block, t .before .loop .inv .3))  -- array-borrow-prefix-n
-    (λ c. let t = c .before .before .before .before .before .before .before .before in sym (front-span _ _ (entry t .pre .0 .block .w64) (t .before .loop .inv .3)))  -- slice-aggregate-weigh-row8-2
-    (λ c. omega (arith, row (c .before .before .before .before .before .before .before .before)))  -- add-weigh-row8-3
-    (λ c. omega (arith, row (c .before .before .before .before .before .before .before .before)))  -- mul-weigh-row8-2
+    (λ c. omega (arith, row (part2 c)))  -- add-e
+    (λ c. omega (arith, row (part2 c)))  -- mul-e
+    (λ c. omega (arith, row (part2 c)))  -- add-weigh-row8-2
+    (λ c. omega (arith, row (part2 c)))  -- sub-weigh-row8-2
+    (λ c. omega (arith, row (part2 c)))  -- part-weigh-row8-start-2
+    (λ c. omega (arith, row (part2 c)))  -- part-weigh-row8-end-2
+    (λ c. let t = part2 (c .before) in omega (arith, entry t .pre .0 .block, t .before .loop .inv .3))  -- array-borrow-prefix-n
+    (λ c. let t = weights2 c in sym (front-span _ _ (entry t .pre .0 .block .w64) (t .before .loop .inv .3)))  -- slice-aggregate-weigh-row8-2
+    (λ c. omega (arith, row (weights2 c)))  -- add-weigh-row8-3
+    (λ c. omega (arith, row (weights2 c)))  -- mul-weigh-row8-2
     weigh-row8-requires-2
-    (λ c. omega (arith, row (c .before .before .before .before .before .before .before .before .before .before .before .before)))  -- mul-k
-    (λ c. omega (arith, row (c .before .before .before .before .before .before .before .before .before .before .before .before)))  -- add-four-row
-    (λ c. omega (arith, row (c .before .before .before .before .before .before .before .before .before .before .before .before)))  -- sub-four-row
-    (λ c. omega (arith, row (c .before .before .before .before .before .before .before .before .before .before .before .before)))  -- part-four-row-start
-    (λ c. omega (arith, row (c .before .before .before .before .before .before .before .before .before .before .before .before)))  -- part-four-row-end
+    (λ c. let t = kept c in omega (arith, row t, entry t .good, t .before .loop .inv .1 .len))  -- mul-k
+    (λ c. let t = kept c in omega (arith, row t, entry t .good, t .before .loop .inv .1 .len))  -- add-four-row
+    (λ c. omega (arith, row (kept c)))  -- sub-four-row
+    (λ c. omega (arith, row (kept c)))  -- part-four-row-start
+    (λ c. omega (arith, row (kept c)))  -- part-four-row-end
     (λ c. sym (first (c .before .before .before .before .before .before .before .before .before .before .before) .0 .len))  -- slice-aggregate-four-row
     (λ c. sym (second (c .before .before .before .before .before .before) .len))  -- slice-aggregate-four-row-2
     four-row-requires
-    (λ c. let t = c .before .before .before .before .before .before .before .before .before .before .before .before .before .before .before .before .before .before in omega (arith, below t, entry t .pre .0 .block))  -- add-y
-    (λ c. let t = c .before .before .before .before .before .before .before .before .before .before .before .before .before .before .before .before .before .before in omega (arith, t .loop-test .taken))  -- loop-less
+    (λ c. let t = kept (c .before .before .before .before .before .before) in omega (arith, below t, entry t .pre .0 .block))  -- add-y
+    (λ c. let t = kept (c .before .before .before .before .before .before) in omega (arith, t .loop-test .taken))  -- loop-less
     loop-again
     (λ c. c .before .loop .inv .0 .len)  -- same-length
     (λ c. c .before .loop .inv .1 .len)  -- same-length-2
