@@ -1,7 +1,7 @@
 // w_mask: two blocks of intermediates combined by weights from their differences, and the mask of these weights.
 ghost use mathlib.Core.Path.{_≡_};
-ghost use mathlib.Core.Bool.{Bool, true, false};
-ghost use Prim.Native.Nat.{ℕ, _+_, _*_, _/_, _%_, _≤_};
+ghost use mathlib.Core.Bool.{true, false};
+ghost use Prim.Native.Nat.{_+_, _*_, _/_, _%_, _≤_};
 ghost use lib.ListN.{length};
 ghost use Rattle.rows.specs.Numbers.{up};
 ghost use Rattle.rows.specs.Places.{rowOf, fill};

@@ -1,8 +1,8 @@
 -- The search for a mask's value above 64: where it ends, as a number of places and as a row and a column. Assumes nothing.
-use mathlib.Core.Path.{_≡_, refl, sym, ap, _∙_, subst}
+use mathlib.Core.Path.{_≡_, refl, sym, _∙_, subst}
 use mathlib.Core.Bool.{Bool, true, false}
 use mathlib.Core.List.{List}
-use Prim.Native.Nat.{ℕ, zero, suc, _+_, _*_, _/_, _%_, _≤_, _<_}
+use Prim.Native.Nat.{ℕ, zero, suc, _+_, _*_, _≤_, _<_}
 use native.Mathlib.Nat.{add-zero, zero-add, not-suc-le-zero, le-of-suc-le-suc, mul-comm}
 use native.Mathlib.Omega.{arith}
 use borrow.Author.Tests.{le-leb, lt-leb, leb-true}
@@ -66,10 +66,12 @@ module _ (mask : List ℕ) where
     abbrev ended : Spot
     ended = spotAt w (firstAbove mask 0 (w * h))
 
-    pub spot-found : (row col : ℕ) → AtMost 64 mask 0 (row * w + col) → row < h → col < w → 64 < getD mask (row * w + col) 0 → record { row = row; col = col } ≡ ended
+    pub spot-found : (row col : ℕ) → AtMost 64 mask 0 (row * w + col) → row < h → col < w → 64 < getD mask (row * w + col) 0
+        → record { row = row; col = col } ≡ ended
     spot-found row col m r c a =
         let b : row * w + col < w * h = omega (arith, row-le w r, mul-comm w h) in
-        let e : firstAbove mask 0 (w * h) ≡ row * w + col = first-found 0 (w * h) (row * w + col) m b (rw (zero-add (row * w + col)) a) ∙ zero-add (row * w + col) in
+        let z = zero-add (row * w + col) in
+        let e : firstAbove mask 0 (w * h) ≡ row * w + col = first-found 0 (w * h) (row * w + col) m b (rw z a) ∙ z in
         rw (e, col-of w col row c, row-of w col row c) refl
 
     pub spot-none : AtMost 64 mask 0 (w * h) → 0 < w → record { row = h; col = 0 } ≡ ended

@@ -2,18 +2,17 @@
 use mathlib.Core.Path.{_≡_, refl, sym, ap, _∙_}
 use mathlib.Core.Bool.{Bool, true, false}
 use mathlib.Core.List.{List, [], _∷_, _++_}
-use Prim.Native.Nat.{ℕ, zero, suc, _+_, _*_, _/_, _%_, _^_, _≤_, _<_}
+use Prim.Native.Nat.{ℕ, _*_, _/_, _^_, _≤_, _<_}
 use native.Mathlib.Nat.{mul-comm, le-div-iff-mul-le, div-lt-iff-lt-mul}
 use native.Mathlib.Omega.{arith}
 use borrow.Author.Tests.{le-leb, lt-leb, leb-true, ne-eqb}
-use lib.Dec.{leb}
 use lib.IntN.{ℤ, natAbs}
 use lib.ListN.{length}
 use Rattle.rows.specs.Places.{pixel, fill}
 use Rattle.rows.specs.Combine.{blend, AtMost}
 use Rattle.blocks.specs.Refuse.{Test, need, lowest, orSame, sizeOk, blockSide, strideOk, holds, above64, _asks_}
 use Rattle.blocks.specs.Ready.{Block, Rows}
-use Rattle.blocks.specs.Blend.{firstAbove, noneAbove, blendShape, blendTests, spotAt, spotOf, BlendAnswer, morphTests}
+use Rattle.blocks.specs.Blend.{firstAbove, noneAbove, blendShape, spotAt, spotOf, BlendAnswer, morphTests}
 use Rattle.blocks.specs.declared.blend.Spot.{Spot}
 use Rattle.blocks.proofs.Laws.Refuse.{Met, all-met, refused}
 use Rattle.blocks.proofs.Laws.Ready.{block-met, rows-met}
@@ -89,7 +88,8 @@ module _ {dst : List ℕ} {ds : ℕ} {tmp : List ℕ} {w h : ℕ} {mask : List �
   unfolding need noneAbove spotOf orSame
   blend-above lt =
       let k : firstAbove mask 0 (w * h) / w < h = rw (ap (λ (t : Spot). t .row) (p .ends)) at lt in
-      (sym (then-mask ∙ rw (lt-leb (w * h) (firstAbove mask 0 (w * h)) (omega (arith, div-lt-iff-lt-mul (ready .0 .w1) .0 k, mul-comm w h))) refl), refl, p .ends)
+      let m : firstAbove mask 0 (w * h) < w * h = omega (arith, div-lt-iff-lt-mul (ready .0 .w1) .0 k, mul-comm w h) in
+      (sym (then-mask ∙ rw (lt-leb (w * h) (firstAbove mask 0 (w * h)) m) refl), refl, p .ends)
 
   -- by neither: the rows get what they rely on
   none-above : h ≤ s .row → w * h ≤ firstAbove mask 0 (w * h)
@@ -111,4 +111,5 @@ pub morph-ready : (deep : Bool) (dl ds : ℕ) (alpha beta : ℤ) (w h : ℕ) →
 morph-ready deep dl ds alpha beta w h e =
     let m = all-met (morphTests deep dl ds alpha beta w h) e in
     let t = m .1 .1 in let n = t .1 .1 in
-    (t .1 .0, block-met w h (m .0) (m .1 .0), rows-met dl ds w h (t .0) (n .1 .1 .0), leb-true (natAbs alpha) (2 ^ 14) (n .0), leb-true (natAbs beta) (2 ^ 22) (n .1 .0))
+    let a = leb-true (natAbs alpha) (2 ^ 14) (n .0) in
+    (t .1 .0, block-met w h (m .0) (m .1 .0), rows-met dl ds w h (t .0) (n .1 .1 .0), a, leb-true (natAbs beta) (2 ^ 22) (n .1 .0))

@@ -1,7 +1,7 @@
 -- Buffers of w x h places "without gaps". Assumes nothing.
 use mathlib.Core.Path.{_≡_}
 use mathlib.Core.Bool.{true}
-use Prim.Native.Nat.{ℕ, suc, _+_, _-_, _*_, _≤_}
+use Prim.Native.Nat.{ℕ, suc, _-_, _*_, _≤_}
 use native.Mathlib.Nat.{suc-mul, mul-comm, le-refl}
 use native.Mathlib.Omega.{arith}
 use Rattle.blocks.specs.Refuse.{holdsAll}

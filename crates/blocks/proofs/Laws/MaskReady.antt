@@ -1,7 +1,7 @@
 -- w_mask: what its flags tell, and what its rows rely on. Assumes nothing.
-use mathlib.Core.Path.{_≡_, refl, sym, ap, _∙_}
+use mathlib.Core.Path.{_≡_, refl, sym}
 use mathlib.Core.Bool.{Bool, true, false, true≢false}
-use Prim.Native.Nat.{ℕ, _+_, _/_, _%_, _≤_}
+use Prim.Native.Nat.{ℕ, _%_, _≤_}
 use native.Mathlib.Omega.{arith}
 use borrow.Author.Tests.{eqb-true}
 use lib.IntN.{ℤ, pos}
@@ -12,7 +12,7 @@ use Rattle.rows.proofs.Laws.Depth.{high}
 use Rattle.rows.proofs.Laws.Signed.{le-yes, one-part}
 use Rattle.rows.proofs.Laws.Fill.{and-true}
 use Rattle.blocks.specs.Refuse.{lowest, depthOk}
-use Rattle.blocks.specs.Ready.{Block, Rows, Weighing, Depths, numbersOf}
+use Rattle.blocks.specs.Ready.{Weighing, Depths, numbersOf}
 use Rattle.blocks.specs.declared.refuse.DepthNumbers.{DepthNumbers}
 use Rattle.blocks.specs.Mask.{evenOk, maskSide, flagsOk, signOk, wMaskTests}
 use Rattle.blocks.proofs.Laws.Refuse.{all-met}
@@ -43,8 +43,10 @@ side-met : (flag : Bool) (n : ℕ) → evenOk flag n ≡ true → 1 ≤ n → 1 
 side-met true n e b = omega (arith, even-met true n e refl)
 side-met false n e b = b
 
-pub w-mask-ready : (deep : Bool) (dl ds l1 l2 w h ml ms : ℕ) (sign : ℤ) (ssHor ssVer : Bool) → lowest (wMaskTests deep dl ds l1 l2 w h ml ms sign ssHor ssVer) ≡ 0
-    → (deep ≡ true) × Weighing dl ds l1 l2 w h ml ms (maskSide ssHor w) (maskSide ssVer h) × (evenOk ssVer h ≡ true) × (flagsOk ssHor ssVer ≡ true) × (up sign ≤ 1)
+pub w-mask-ready : (deep : Bool) (dl ds l1 l2 w h ml ms : ℕ) (sign : ℤ) (ssHor ssVer : Bool)
+    → lowest (wMaskTests deep dl ds l1 l2 w h ml ms sign ssHor ssVer) ≡ 0
+    → (deep ≡ true) × Weighing dl ds l1 l2 w h ml ms (maskSide ssHor w) (maskSide ssVer h)
+    × (evenOk ssVer h ≡ true) × (flagsOk ssHor ssVer ≡ true) × (up sign ≤ 1)
 w-mask-ready deep dl ds l1 l2 w h ml ms sign ssHor ssVer e =
     let m = all-met (wMaskTests deep dl ds l1 l2 w h ml ms sign ssHor ssVer) e in
     let b = block-met w h (m .0) (m .1 .0) in

@@ -1,7 +1,7 @@
 -- w_mask's rows: what is read of a row of weights. Assumes nothing.
-use mathlib.Core.Path.{_≡_, refl, sym, ap, ap₂, _∙_, subst}
+use mathlib.Core.Path.{_≡_, ap, ap₂, _∙_}
 use mathlib.Core.List.{List, _++_}
-use Prim.Native.Nat.{ℕ, _+_, _-_, _*_, _/_, _≤_, _<_}
+use Prim.Native.Nat.{ℕ, _+_, _*_, _≤_, _<_}
 use native.Mathlib.Nat.{zero-add}
 use native.Mathlib.Omega.{arith}
 use lib.IntN.{ℤ}
@@ -20,7 +20,8 @@ abbrev pub mixed : (M B P depth : ℕ) (tmp1 tmp2 : List ℤ) (w : ℕ) → ℕ 
 mixed M B P depth tmp1 tmp2 w i j = both (masked M B P (weigh depth B tmp1 tmp2 w i j)) tmp1 tmp2 (j * w) i
 
 -- pixels made by weights that were read back from their row m
-pub weighed : (rule : ℕ → ℕ → ℕ) (g : ℕ → ℕ) (m : List ℕ) (k n : ℕ) (d : List ℕ) → m ≡ rowOf k g → k ≡ n → d ≡ rowOf n (λ i. rule i (getD m (0 + i) 0)) → d ≡ rowOf n (λ i. rule i (g i))
+pub weighed : (rule : ℕ → ℕ → ℕ) (g : ℕ → ℕ) (m : List ℕ) (k n : ℕ) (d : List ℕ)
+    → m ≡ rowOf k g → k ≡ n → d ≡ rowOf n (λ i. rule i (getD m (0 + i) 0)) → d ≡ rowOf n (λ i. rule i (g i))
 weighed rule g m k n d e l p =
     p ∙ row-same 0 n (λ i. rule i (getD m (0 + i) 0)) (λ i. rule i (g i)) λ i b.
     ap (rule i) (ap₂ (λ (t : List ℕ) (q : ℕ). getD t q 0) e (zero-add i) ∙ getD-rowOf 0 k g i (omega arith))
@@ -53,4 +54,5 @@ pub fours : {w : ℕ} {g g′ : ℕ → ℕ} {m m′ : List ℕ} (sign n : ℕ) 
     → r ≡ rowOf n (λ i. fourOf sign (g (2 * i) + g (2 * i + 1) + g′ (2 * i) + g′ (2 * i + 1)))
 fours sign n r f f′ b e =
     e ∙ row-same 0 n _ _ λ i h.
-    ap (fourOf sign) (omega (arith, f .same (2 * i) (omega arith), f .same (2 * i + 1) (omega arith), f′ .same (2 * i) (omega arith), f′ .same (2 * i + 1) (omega arith)))
+    ap (fourOf sign)
+    (omega (arith, f .same (2 * i) (omega arith), f .same (2 * i + 1) (omega arith), f′ .same (2 * i) (omega arith), f′ .same (2 * i + 1) (omega arith)))

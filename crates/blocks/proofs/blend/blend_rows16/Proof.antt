@@ -1,5 +1,5 @@
 use native.Mathlib.Omega.{arith}
-use Prim.Native.Nat.{ℕ, _+_, _-_, _*_, _≤_}
+use Prim.Native.Nat.{_+_, _-_, _*_, _≤_}
 use lib.ListN.{length}
 use borrow.Author.Needs.{needs}
 use Rattle.rows.specs.Places.{pixel}
@@ -39,7 +39,8 @@ loop-again c =
     let t = c .before .before .before .before in
     let a = entry t .args in
     let p = entry t .pre in
-    filled-over 0 (λ i j v. blend (pixel (a .mask .now) (a .w) i j) v (pixel (a .tmp .now) (a .w) i j)) _ (t .before .loop .inv) (p .0 .w1) (p .1) (t .loop-test .taken)
+    filled-over 0 (λ i j v. blend (pixel (a .mask .now) (a .w) i j) v (pixel (a .tmp .now) (a .w) i j)) _
+    (t .before .loop .inv) (p .0 .w1) (p .1) (t .loop-test .taken)
     (c .before .before .blend-row16 .ensures)
 
 pub blend-rows16-spec : {M : Type 1} → statement M

@@ -1,12 +1,12 @@
 use native.Mathlib.Omega.{arith}
 use native.Mathlib.Nat.{suc-mul, zero-mul, mul-comm}
-use Prim.Native.Nat.{ℕ, _+_, _-_, _*_, _≤_, _<_}
+use Prim.Native.Nat.{_+_, _-_, _*_, _≤_}
 use mathlib.Core.Path.{_≡_, refl}
 use lib.ListN.{length}
 use borrow.Author.Needs.{needs}
 use Rattle.rows.specs.Combine.{AtMost}
 use Rattle.blocks.proofs.Laws.Rows.{row-in}
-use Rattle.blocks.proofs.Laws.Above.{at-most-none, at-most-more, spot-found, spot-none}
+use Rattle.blocks.proofs.Laws.Above.{at-most-more, spot-found, spot-none}
 use Rattle.blocks.proofs.blend.find_above.Statement.{statement}
 use Rattle.blocks.proofs.blend.find_above.Tie as tie
 
@@ -31,8 +31,10 @@ row c = let s = c .before .before .before in row-in (s .search .row) (s .before 
 loop-again : tie.Need-loop-again Inv-loop μ-loop Inv-search μ-search
 loop-again c =
     let t = c .before .before .before in
-    let s = t .before .before in
-    (omega arith, λ i b. at-most-more 64 (s .before .args .mask .now) (s .search .row * s .before .args .w + t .loop .col) (t .loop .inv .1) (c .if1 .left) i (omega arith))
+    let s = t .before .before in let n = s .search .row * s .before .args .w + t .loop .col in (
+      omega arith,
+      λ i b. at-most-more 64 (s .before .args .mask .now) n (t .loop .inv .1) (c .if1 .left) i (omega arith),
+    )
 
 search-again : tie.Need-search-again Inv-loop μ-loop Inv-search μ-search
 search-again c =

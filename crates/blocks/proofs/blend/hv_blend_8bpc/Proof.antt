@@ -11,10 +11,12 @@ use Rattle.blocks.proofs.blend.hv_blend_8bpc.Tie as tie
 abbrev entry : tie.After-check-blend → tie.Start
 entry t = t .before .before .before .before
 
-shape : (c : tie.Else1) → let a = entry (c .before) .args in lowest (blendShape (length (a .dst .now)) (a .dst-stride) (length (a .tmp .now)) (a .w) (a .h) (length (a .mask .now))) ≡ 0
+shape : (c : tie.Else1) → let a = entry (c .before) .args in
+    lowest (blendShape (length (a .dst .now)) (a .dst-stride) (length (a .tmp .now)) (a .w) (a .h) (length (a .mask .now))) ≡ 0
 shape c = sym (c .before .check-blend .ensures) ∙ c .if1 .left
 
-searched : (c : tie.After-first-above) → let a = entry (c .before .before) .args in Searched (a .dst .now) (a .dst-stride) (a .tmp .now) (a .w) (a .h) (a .mask .now) (c .first-above .result)
+searched : (c : tie.After-first-above) → let a = entry (c .before .before) .args in
+    Searched (a .dst .now) (a .dst-stride) (a .tmp .now) (a .w) (a .h) (a .mask .now) (c .first-above .result)
 searched c = record { shape = shape (c .before); ends = c .first-above .ensures }
 
 first-above-requires : tie.Need-first-above-requires

@@ -1,10 +1,8 @@
 use mathlib.Core.Path.{_≡_, sym, _∙_}
 use lib.ListN.{length}
 use borrow.Author.Needs.{needs}
-use Rattle.rows.specs.Numbers.{up}
 use Rattle.rows.proofs.Laws.Signed.{back}
 use Rattle.blocks.specs.Refuse.{lowest, depthOk}
-use Rattle.blocks.specs.Ready.{numbersOf}
 use Rattle.blocks.specs.Blend.{morphTests}
 use Rattle.blocks.proofs.Laws.Refuse.{done, refused}
 use Rattle.blocks.proofs.Laws.BlendReady.{morph-ready}
@@ -17,7 +15,9 @@ entry c = c .before .before .before
 
 number : (c : tie.After-check-morph) → let a = entry c .args in
     c .check-morph .result ≡ lowest (morphTests (depthOk (a .depth)) (length (a .dst .now)) (a .dst-stride) (a .alpha) (a .beta) (a .w) (a .h))
-number c = let t = entry c in simp (c .before .depth-ok .ensures, back (t .fits .depth), back (t .fits .alpha), back (t .fits .beta)) at (c .check-morph .ensures)
+number c =
+    let t = entry c in
+    simp (c .before .depth-ok .ensures, back (t .fits .depth), back (t .fits .alpha), back (t .fits .beta)) at (c .check-morph .ensures)
 
 depth-numbers-requires : tie.Need-depth-numbers-requires
 depth-numbers-requires c κs =

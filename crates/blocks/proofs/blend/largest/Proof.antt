@@ -1,5 +1,5 @@
 use native.Mathlib.Omega.{arith}
-use Prim.Native.Nat.{ℕ, _-_, _≤_}
+use Prim.Native.Nat.{_-_, _≤_}
 use borrow.Author.Needs.{needs}
 use Rattle.rows.specs.Combine.{AtMost}
 use Rattle.blocks.proofs.Laws.Above.{at-most-none, at-most-more, at-most-wider}
@@ -16,7 +16,8 @@ loop-again : tie.Need-loop-again Inv-loop μ-loop
 loop-again c =
     let t = c .before .before .before in
     let l = t .before .before .args .mask .now in
-    (omega arith, at-most-more (c .larger .result) l (t .loop .i) (at-most-wider (t .loop .m) l (c .larger .result) (t .loop .i) (c .larger .ensures .0) (t .loop .inv .1)) (c .larger .ensures .1))
+    let w = at-most-wider (t .loop .m) l (c .larger .result) (t .loop .i) (c .larger .ensures .0) (t .loop .inv .1) in
+    (omega arith, at-most-more (c .larger .result) l (t .loop .i) w (c .larger .ensures .1))
 
 pub largest-spec : {M : Type 1} → statement M
 largest-spec =

@@ -1,5 +1,5 @@
 use native.Mathlib.Omega.{arith}
-use Prim.Native.Nat.{ℕ, _+_, _-_, _*_, _≤_}
+use Prim.Native.Nat.{_+_, _-_, _*_, _≤_}
 use lib.ListN.{length}
 use mir.Syntax.{w32}
 use mir.Val.{toZ, ofZ}
@@ -31,7 +31,8 @@ loop-again c =
     let t = c .before .before .before .before in
     let a = entry t .args in
     let p = entry t .pre in
-    filled-over 0 (λ i j v. morph 255 (toZ w32 (ofZ w32 (a .alpha))) (toZ w32 (ofZ w32 (a .beta))) v) _ (t .before .loop .inv) (p .0 .w1) (p .1) (t .loop-test .taken) (c .before .before .morph-row8 .ensures)
+    filled-over 0 (λ i j v. morph 255 (toZ w32 (ofZ w32 (a .alpha))) (toZ w32 (ofZ w32 (a .beta))) v) _
+    (t .before .loop .inv) (p .0 .w1) (p .1) (t .loop-test .taken) (c .before .before .morph-row8 .ensures)
 
 pub morph-rows8-spec : {M : Type 1} → statement M
 morph-rows8-spec =
@@ -50,4 +51,5 @@ morph-rows8-spec =
     (λ c. search needs)  -- loop-less
     loop-again
     (λ c. c .before .loop .inv .len)  -- same-length
-    (λ c. let t = c .before .before .before in simp (back (t .fits .alpha), back (t .fits .beta)) at (filled-all (c .before .loop .inv) (c .loop-test .left))))  -- returns
+    (λ c. let t = c .before .before .before in
+    simp (back (t .fits .alpha), back (t .fits .beta)) at (filled-all (c .before .loop .inv) (c .loop-test .left))))  -- returns

@@ -17,8 +17,8 @@ abbrev entry : tie.After-check-w-mask → tie.Start
 entry c = c .before .before .before .before
 
 number : (c : tie.After-check-w-mask) → let a = entry c .args in
-    c .check-w-mask .result ≡ lowest (wMaskTests (depthOk (a .depth)) (length (a .dst .now)) (a .dst-stride) (length (a .tmp1 .now)) (length (a .tmp2 .now)) (a .w) (a .h)
-    (length (a .mask .now)) (a .mask-stride) (a .sign) (a .ss-hor) (a .ss-ver))
+    c .check-w-mask .result ≡ lowest (wMaskTests (depthOk (a .depth)) (length (a .dst .now)) (a .dst-stride) (length (a .tmp1 .now)) (length (a .tmp2 .now))
+    (a .w) (a .h) (length (a .mask .now)) (a .mask-stride) (a .sign) (a .ss-hor) (a .ss-ver))
 number c = simp (c .before .depth-ok .ensures, back (entry c .fits .depth), back (entry c .fits .sign)) at (c .check-w-mask .ensures)
 
 depth-numbers-requires : tie.Need-depth-numbers-requires

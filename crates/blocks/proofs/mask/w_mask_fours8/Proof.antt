@@ -1,10 +1,9 @@
 use native.Mathlib.Omega.{arith}
-use Prim.Native.Nat.{ℕ, _+_, _-_, _*_, _/_, _≤_, _<_}
-use mathlib.Core.Bool.{true, false}
+use Prim.Native.Nat.{_+_, _-_, _*_, _/_, _≤_, _<_}
+use mathlib.Core.Bool.{true}
 use lib.ListN.{length, drop}
-use borrow.Author.Needs.{needs}
 use mathlib.Core.List.{_++_}
-use mathlib.Core.Path.{_≡_, refl, sym, subst}
+use mathlib.Core.Path.{_≡_, refl, sym}
 use Rattle.rows.specs.Places.{splice}
 use Rattle.rows.specs.Mask.{maskAt}
 use Rattle.blocks.proofs.Laws.Rows.{Filled, filled-none, filled-more, filled-all, filled-span, row-in}
@@ -14,7 +13,8 @@ use Rattle.blocks.proofs.mask.w_mask_fours8.Tie as tie
 
 abbrev Inv-loop : tie.InvT-loop
 Inv-loop dst₀ ds tmp1 tmp2 w h mask₀ ms sign m₀ n₀ y₀ dst mask m n y =
-    Filled ds w (mixed 255 4 0 8 tmp1 tmp2 w) dst₀ h (2 * y) dst × Filled ms (w / 2) (maskAt sign true true (weigh 8 4 tmp1 tmp2 w)) mask₀ (h / 2) y mask
+    Filled ds w (mixed 255 4 0 8 tmp1 tmp2 w) dst₀ h (2 * y) dst
+    × Filled ms (w / 2) (maskAt sign true true (weigh 8 4 tmp1 tmp2 w)) mask₀ (h / 2) y mask
     × (length m ≡ 64) × (length n ≡ 64)
 
 abbrev μ-loop : tie.MeasureT-loop
@@ -55,7 +55,8 @@ row c =
 weigh-row8-requires : tie.Need-weigh-row8-requires Inv-loop μ-loop
 weigh-row8-requires c κs =
     let t = c .before .before in let p = entry t .pre .0 in let i = t .before .loop .inv in let lt = below t in
-    omega (arith, row t, row-in (2 * t .before .loop .y) (p .tmp2) (omega arith), filled-span 0 (i .0) (p .dst) (omega arith), front-span (entry t .args .w) (t .before .loop .m) (p .block .w64) (i .2))
+    let k = row-in (2 * t .before .loop .y) (p .tmp2) (omega arith) in let n = filled-span 0 (i .0) (p .dst) (omega arith) in
+    omega (arith, row t, front-span (entry t .args .w) (t .before .loop .m) (p .block .w64) (i .2))
 
 -- after the first row, its weights are in m, and dst has one row more
 first : (c : tie.After-weigh-row8 Inv-loop μ-loop) → let t = c .before .before .before in let a = entry t .args in let y = 2 * t .before .loop .y in
@@ -63,16 +64,24 @@ first : (c : tie.After-weigh-row8 Inv-loop μ-loop) → let t = c .before .befor
     × Filled (a .dst-stride) (a .w) (mixed 255 4 0 8 (a .tmp1 .now) (a .tmp2 .now) (a .w)) (a .dst .now) (a .h) (y + 1)
     (splice (t .before .loop .dst) (y * a .dst-stride) (y * a .dst-stride + a .w) (c .weigh-row8 .last .0))
 first c =
-    let t = c .before .before .before in let p = entry t .pre .0 in let i = t .before .loop .inv in let lt = below t in
-    (front _ _ _ _ (p .block .w64) (i .2) (c .weigh-row8 .ensures .0), filled-more 0 _ (i .0) (p .block .w1) (p .dst) (omega arith) (c .weigh-row8 .ensures .1))
+    let t = c .before .before .before in let p = entry t .pre .0 in let i = t .before .loop .inv in let lt = below t in (
+      front _ _ _ _ (p .block .w64) (i .2) (c .weigh-row8 .ensures .0),
+      filled-more 0 _ (i .0) (p .block .w1) (p .dst) (omega arith) (c .weigh-row8 .ensures .1),
+    )
 
 weigh-row8-requires-2 : tie.Need-weigh-row8-requires-2 Inv-loop μ-loop
 weigh-row8-requires-2 c κs =
     let r = c .before .before .before .before .before in let t = r .before .before .before in let p = entry t .pre .0 in let i = t .before .loop .inv in
-    omega (arith, row t, filled-span 0 (first r .1) (p .dst) (below t), front-span (entry t .args .w) (t .before .loop .n) (p .block .w64) (i .3))
+    omega (
+      arith,
+      row t,
+      filled-span 0 (first r .1) (p .dst) (below t),
+      front-span (entry t .args .w) (t .before .loop .n) (p .block .w64) (i .3),
+    )
 
 second : (c : tie.After-weigh-row82 Inv-loop μ-loop) → let t = weights2 (c .before) in let a = entry t .args in
-    Front (a .w) (λ i. weigh 8 4 (a .tmp1 .now) (a .tmp2 .now) (a .w) i (2 * t .before .loop .y + 1)) (c .weigh-row82 .last .1 .0 ++ drop (a .w) (t .before .loop .n))
+    Front (a .w) (λ i. weigh 8 4 (a .tmp1 .now) (a .tmp2 .now) (a .w) i (2 * t .before .loop .y + 1))
+    (c .weigh-row82 .last .1 .0 ++ drop (a .w) (t .before .loop .n))
 second c =
     let t = weights2 (c .before) in
     front _ _ _ _ (entry t .pre .0 .block .w64) (t .before .loop .inv .3) (c .weigh-row82 .ensures .0)
@@ -104,7 +113,8 @@ w-mask-fours8-spec =
     (tie.spec
     Inv-loop
     μ-loop
-    (λ c. let p = c .before .before .pre in (filled-none 0 _ _ _ _ _ (omega (arith, p)), filled-none 0 _ _ _ _ _ (omega (arith, p)), refl, refl))  -- loop-holds
+    (λ c. let p = c .before .before .pre in
+    (filled-none 0 _ _ _ _ _ (omega (arith, p)), filled-none 0 _ _ _ _ _ (omega (arith, p)), refl, refl))  -- loop-holds
     (λ c. omega (arith, row c))  -- mul-r
     (λ c. omega (arith, row c))  -- mul-d
     (λ c. omega (arith, row c))  -- add-weigh-row8
@@ -139,4 +149,5 @@ w-mask-fours8-spec =
     loop-again
     (λ c. c .before .loop .inv .0 .len)  -- same-length
     (λ c. c .before .loop .inv .1 .len)  -- same-length-2
-    (λ c. let i = c .before .loop .inv in let p = c .before .before .before .before .pre in (filled-all (i .0) (omega (arith, p .1, c .loop-test .left)), filled-all (i .1) (c .loop-test .left))))  -- returns
+    (λ c. let i = c .before .loop .inv in let p = c .before .before .before .before .pre in
+    (filled-all (i .0) (omega (arith, p .1, c .loop-test .left)), filled-all (i .1) (c .loop-test .left))))  -- returns

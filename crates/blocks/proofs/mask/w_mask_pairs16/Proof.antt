@@ -1,5 +1,5 @@
 use native.Mathlib.Omega.{arith}
-use Prim.Native.Nat.{ℕ, _+_, _-_, _*_, _/_, _≤_}
+use Prim.Native.Nat.{_+_, _-_, _*_, _/_, _≤_}
 use mathlib.Core.Bool.{true, false}
 use lib.ListN.{length, drop}
 use borrow.Author.Needs.{needs}
@@ -13,7 +13,8 @@ use Rattle.blocks.proofs.mask.w_mask_pairs16.Tie as tie
 
 abbrev Inv-loop : tie.InvT-loop
 Inv-loop dst₀ ds tmp1 tmp2 w h mask₀ ms sign depth bits bias max m₀ y₀ dst mask m y =
-    Filled ds w (mixed max bits bias depth tmp1 tmp2 w) dst₀ h y dst × Filled ms (w / 2) (maskAt sign true false (weigh depth bits tmp1 tmp2 w)) mask₀ h y mask × (length m ≡ 64)
+    Filled ds w (mixed max bits bias depth tmp1 tmp2 w) dst₀ h y dst
+    × Filled ms (w / 2) (maskAt sign true false (weigh depth bits tmp1 tmp2 w)) mask₀ h y mask × (length m ≡ 64)
 
 abbrev μ-loop : tie.MeasureT-loop
 μ-loop dst₀ ds tmp1 tmp2 w h mask₀ ms sign depth bits bias max m₀ y₀ dst mask m y = h - y
@@ -37,7 +38,8 @@ weigh-row16-requires c κs =
 
 -- the row's weights, as they stand in the array
 weighed : (c : tie.After-weigh-row16 Inv-loop μ-loop) → let t = c .before .before .before in let a = entry t .args in
-    Front (a .w) (λ i. weigh (a .depth) (a .bits) (a .tmp1 .now) (a .tmp2 .now) (a .w) i (t .before .loop .y)) (c .weigh-row16 .last .1 .0 ++ drop (a .w) (t .before .loop .m))
+    Front (a .w) (λ i. weigh (a .depth) (a .bits) (a .tmp1 .now) (a .tmp2 .now) (a .w) i (t .before .loop .y))
+    (c .weigh-row16 .last .1 .0 ++ drop (a .w) (t .before .loop .m))
 weighed c = let t = c .before .before .before in front _ _ _ _ (entry t .pre .0 .block .w64) (t .before .loop .inv .2) (c .weigh-row16 .ensures .0)
 
 pair-row-requires : tie.Need-pair-row-requires Inv-loop μ-loop

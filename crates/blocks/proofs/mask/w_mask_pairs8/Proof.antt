@@ -1,5 +1,5 @@
 use native.Mathlib.Omega.{arith}
-use Prim.Native.Nat.{ℕ, _+_, _-_, _*_, _/_, _≤_}
+use Prim.Native.Nat.{_+_, _-_, _*_, _/_, _≤_}
 use mathlib.Core.Bool.{true, false}
 use lib.ListN.{length, drop}
 use borrow.Author.Needs.{needs}
@@ -13,7 +13,8 @@ use Rattle.blocks.proofs.mask.w_mask_pairs8.Tie as tie
 
 abbrev Inv-loop : tie.InvT-loop
 Inv-loop dst₀ ds tmp1 tmp2 w h mask₀ ms sign m₀ y₀ dst mask m y =
-    Filled ds w (mixed 255 4 0 8 tmp1 tmp2 w) dst₀ h y dst × Filled ms (w / 2) (maskAt sign true false (weigh 8 4 tmp1 tmp2 w)) mask₀ h y mask × (length m ≡ 64)
+    Filled ds w (mixed 255 4 0 8 tmp1 tmp2 w) dst₀ h y dst
+    × Filled ms (w / 2) (maskAt sign true false (weigh 8 4 tmp1 tmp2 w)) mask₀ h y mask × (length m ≡ 64)
 
 abbrev μ-loop : tie.MeasureT-loop
 μ-loop dst₀ ds tmp1 tmp2 w h mask₀ ms sign m₀ y₀ dst mask m y = h - y

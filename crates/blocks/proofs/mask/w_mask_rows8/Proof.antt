@@ -1,5 +1,6 @@
 use mathlib.Core.Path.{_≡_}
 use mathlib.Core.Bool.{true}
+use native.Mathlib.Omega.{arith}
 use borrow.Author.Needs.{needs}
 use Rattle.rows.specs.Mask.{maskAt}
 use Rattle.blocks.proofs.Laws.MaskReady.{even-met, flags-met}
@@ -13,12 +14,12 @@ hor c = flags-met _ _ (c .before .before .before .pre .2) (c .if1 .taken)
 w-mask-fours8-requires : tie.Need-w-mask-fours8-requires
 w-mask-fours8-requires c κs =
     let i = c .before .before in let p = i .before .before .before .pre in
-    (rw (hor i, i .if1 .taken) at (p .0), even-met _ _ (p .1) (i .if1 .taken), p .3)
+    (rw (hor i, i .if1 .taken) at (p .0), even-met _ _ (p .1) (i .if1 .taken), omega (arith, p))
 
 w-mask-pairs8-requires : tie.Need-w-mask-pairs8-requires
 w-mask-pairs8-requires c κs =
     let i = c .before .before in let e = i .before in let p = e .before .before .before .pre in
-    (rw (i .if2 .taken, e .if1 .left) at (p .0), p .3)
+    (rw (i .if2 .taken, e .if1 .left) at (p .0), omega (arith, p))
 
 w-mask-each8-requires : tie.Need-w-mask-each8-requires
 w-mask-each8-requires c κs =

@@ -9,7 +9,8 @@ returns c =
     let r = c .before .before in let t = r .before .before .before .before .before in let s = t .before .before .before .before in
     let a = s .args in (
       t .weight-row .ensures,
-      weighed (λ i v. both (masked (a .max) (a .bits) (a .bias) v) (a .tmp1 .now) (a .tmp2 .now) (a .q) i) _ _ _ _ _ (t .weight-row .ensures) (s .pre .0) (r .mask-row16 .ensures),
+      weighed (λ i v. both (masked (a .max) (a .bits) (a .bias) v) (a .tmp1 .now) (a .tmp2 .now) (a .q) i) _ _ _ _ _
+          (t .weight-row .ensures) (s .pre .0) (r .mask-row16 .ensures),
     )
 
 pub weigh-row16-spec : {M : Type 1} → statement M
