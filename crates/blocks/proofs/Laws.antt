@@ -24,10 +24,10 @@ pub mod BilinReady
 pub mod BilinRule
 pub mod Weighed
 pub mod MaskReady
+pub mod MaskAnswers
 pub mod SearchReady
 pub mod Corners
 pub mod WarpReady
 pub mod Passes
 pub mod WarpAnswers
 pub mod Shears
-pub mod MaskAnswers

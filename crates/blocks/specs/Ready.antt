@@ -145,6 +145,7 @@ pub record Lines (dl ds sl o s step w h : ℕ) : Type 0 where
   pub w1 : 1 ≤ w
   pub dst : Rows dl ds w h
   pub src : o + (h - 1) * s + w + 7 * step ≤ sl
+
 -- and the depth, with what depends on it
 pub record Depths (depth bits bias : ℕ) : Type 0 where
   pub depth8 : 8 ≤ depth

@@ -15,11 +15,9 @@ use Rattle.blocks.specs.declared.blend.Spot.{Spot}
 pub blend-unique : (dst : List ℕ) (ds : ℕ) (tmp : List ℕ) (w h : ℕ) (mask : List ℕ) (r r′ : ℕ) (d d′ : List ℕ) (row col row′ col′ : ℕ)
     → BlendAnswer dst ds tmp w h mask r d row col → BlendAnswer dst ds tmp w h mask r′ d′ row′ col′ → (r ≡ r′) × (d ≡ d′) × (row ≡ row′) × (col ≡ col′)
 blend-unique dst ds tmp w h mask r r′ d d′ row col row′ col′ a b =
-    let p = unique-of _ (λ (n : ℕ). orSame n (fill dst ds w h (λ i j. blend (pixel mask w i j) (pixel dst ds i j) (pixel tmp w i j))) dst) (a .0, a .1) (b .0, b .1) in
-    let q = unique-of _ (λ (n : ℕ). spotOf n w h mask) {d = record { row = row; col = col }} {d′ = record { row = row′; col = col′ }} (a .0, a .2) (b .0, b .2) in
     let f = fill dst ds w h (λ i j. blend (pixel mask w i j) (pixel dst ds i j) (pixel tmp w i j)) in
-    let p = one-answer _ (λ (n : ℕ). orSame n f dst) r r′ d d′ (a .0, a .1) (b .0, b .1) in
-    let q = one-answer _ (λ (n : ℕ). spotOf n w h mask) r r′ (record { row = row; col = col }) (record { row = row′; col = col′ }) (a .0, a .2) (b .0, b .2) in
+    let p = unique-of _ (λ (n : ℕ). orSame n f dst) (a .0, a .1) (b .0, b .1) in
+    let q = unique-of _ (λ (n : ℕ). spotOf n w h mask) {d = record { row = row; col = col }} {d′ = record { row = row′; col = col′ }} (a .0, a .2) (b .0, b .2) in
     (p .0, p .1, ap (λ (s : Spot). s .row) (q .1), ap (λ (s : Spot). s .col) (q .1))
 
 pub morph-unique : (deep : Bool) (depth : ℕ) (dst : List ℕ) (ds : ℕ) (alpha beta : ℤ) (w h : ℕ) (r r′ : ℕ) (d d′ : List ℕ)

@@ -11,7 +11,7 @@ use Rattle.rows.specs.Combine.{masked, both}
 use Rattle.rows.specs.Mask.{maskAt}
 use Rattle.blocks.specs.Refuse.{need, lowest, orSame, sizeOk, strideOk, holds, depthOk}
 use Rattle.blocks.specs.Mask.{evenOk, maskSide, flagsOk, signOk, wMaskTests, weights, WMaskAnswer}
-use Rattle.blocks.proofs.Laws.BlendAnswers.{one-answer}
+use Rattle.blocks.proofs.Laws.Answer.{unique-of}
 
 pub w-mask-unique : (deep : Bool) (depth : ℕ) (dst : List ℕ) (ds : ℕ) (tmp1 tmp2 : List ℤ) (w h : ℕ) (mask : List ℕ) (ms : ℕ) (sign : ℤ) (ssHor ssVer : Bool)
     (r r′ : ℕ) (d d′ m m′ : List ℕ) → WMaskAnswer deep depth dst ds tmp1 tmp2 w h mask ms sign ssHor ssVer r d m
@@ -20,8 +20,8 @@ w-mask-unique deep depth dst ds tmp1 tmp2 w h mask ms sign ssHor ssVer r r′ d 
     let W = weights depth w tmp1 tmp2 in
     let f = fill dst ds w h (λ i j. both (masked (maxOf depth) (bitsOf depth) (biasOf depth) (W i j)) tmp1 tmp2 (j * w) i) in
     let g = fill mask ms (maskSide ssHor w) (maskSide ssVer h) (maskAt (up sign) ssHor ssVer W) in
-    let p = one-answer _ (λ (n : ℕ). orSame n f dst) r r′ d d′ (a .0, a .1) (b .0, b .1) in
-    let q = one-answer _ (λ (n : ℕ). orSame n g mask) r r′ m m′ (a .0, a .2) (b .0, b .2) in
+    let p = unique-of _ (λ (n : ℕ). orSame n f dst) (a .0, a .1) (b .0, b .1) in
+    let q = unique-of _ (λ (n : ℕ). orSame n g mask) (a .0, a .2) (b .0, b .2) in
     (p .0, p .1, q .1)
 
 -- two rows of four: each weight kept, pairs and fours are accepted in masks that hold just that; one place less in the mask is 6
