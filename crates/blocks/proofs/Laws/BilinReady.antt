@@ -24,22 +24,6 @@ use Rattle.blocks.proofs.Laws.Rows.{Filled, row-in}
 
 -- ---- the number
 
--- where a side is refused the later tests don't count, and where none is they alone do
-pub sides-stop : (a b : Bool) (rest : ℕ) → (need a 1 (need b 1 0) ≡ 0 → ⊥) → need a 1 (need b 1 0) ≡ need a 1 (need b 1 rest)
-unfolding need
-sides-stop true true rest n = absurd (n refl)
-sides-stop true false rest n = refl
-sides-stop false b rest n = refl
-
-pub sides-pass : (a b : Bool) (rest : ℕ) → need a 1 (need b 1 0) ≡ 0 → rest ≡ need a 1 (need b 1 rest)
-unfolding need
-sides-pass true true rest e = refl
-sides-pass true false rest e = absurd (omega arith)
-sides-pass false b rest e = absurd (omega arith)
-
-pub sides-block : (w h : ℕ) → need (sizeOk blockSide w) 1 (need (sizeOk blockSide h) 1 0) ≡ 0 → Block w h
-sides-block w h e = let m = all-met (size asks sizeOk blockSide w ∷ size asks sizeOk blockSide h ∷ []) e in block-met w h (m .0) (m .1 .0)
-
 -- from place 0 on, a block with x columns and y rows more is read where the buffer holds as many rows of that length
 pub reads-holds : (l s : ℕ) {w h : ℕ} (x y : ℕ) → Block w h → holds l s (w + x) (h + y) ≡ reads l 0 s w h 0 x 0 y
 unfolding holds reads

@@ -26,24 +26,6 @@ use Rattle.blocks.proofs.Laws.Refuse.{all-met, done}
 use Rattle.blocks.proofs.Laws.Ready.{block-met, rows-met}
 use Rattle.blocks.proofs.Laws.Answer.{unique-of}
 
--- ---- the sizes first, then the rest
--- where the sizes refuse, they give the number, whatever the rest says
-pub sizes-first : (a b : Bool) (rest : ℕ) → (need a 1 (need b 1 0) ≡ 0 → ⊥) → need a 1 (need b 1 0) ≡ need a 1 (need b 1 rest)
-unfolding need
-sizes-first true true rest h = absurd (h refl)
-sizes-first true false rest h = refl
-sizes-first false b rest h = refl
-
--- where they don't, the rest does, and the sides are those of a block
-pub sizes-then : (a b : Bool) (rest : ℕ) → need a 1 (need b 1 0) ≡ 0 → rest ≡ need a 1 (need b 1 rest)
-unfolding need
-sizes-then true true rest h = refl
-sizes-then true false rest h = absurd (omega arith)
-sizes-then false b rest h = absurd (omega arith)
-
-pub sizes-block : (w h : ℕ) → need (sizeOk 64 w) 1 (need (sizeOk 64 h) 1 0) ≡ 0 → Block w h
-sizes-block w h e = let m = all-met (size asks sizeOk 64 w ∷ size asks sizeOk 64 h ∷ []) e in block-met w h (m .0) (m .1 .0)
-
 -- ---- what the rows rely on
 pub sads-ready : (m : ℕ) (deep : Bool) (l0 s0 l1 s1 w h : ℕ) → lowest (sadsTests m deep l0 s0 l1 s1 w h) ≡ 0
     → Block w h × Rows l0 s0 (w + m) (h + m) × Rows l1 s1 (w + m) (h + m) × (deep ≡ true)

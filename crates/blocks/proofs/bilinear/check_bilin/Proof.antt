@@ -3,15 +3,16 @@ use native.Mathlib.Omega.{arith}
 use borrow.Author.Needs.{needs}
 use Rattle.rows.proofs.Laws.Signed.{back}
 use Rattle.blocks.specs.Ready.{Block}
-use Rattle.blocks.proofs.Laws.BilinReady.{sides-stop, sides-pass, sides-block, reads-holds}
+use Rattle.blocks.proofs.Laws.BilinReady.{reads-holds}
+use Rattle.blocks.proofs.Laws.Ready.{sizes-stop, sizes-pass, sizes-block}
 use Rattle.blocks.proofs.bilinear.check_bilin.Statement.{statement}
 use Rattle.blocks.proofs.bilinear.check_bilin.Tie as tie
 
 block : (c : tie.Else1) → let a = c .before .before .args in Block (a .w) (a .h)
-block c = sides-block _ _ (sym (c .before .sizes .ensures) ∙ c .if1 .left)
+block c = sizes-block _ _ (sym (c .before .sizes .ensures) ∙ c .if1 .left)
 
 returns : tie.Need-returns
-returns c = let e = c .before .sizes .ensures in e ∙ sides-stop _ _ _ (λ q. c .if1 .taken (e ∙ q))
+returns c = let e = c .before .sizes .ensures in e ∙ sizes-stop _ _ _ (λ q. c .if1 .taken (e ∙ q))
 
 returns-2 : tie.Need-returns-2
 returns-2 c =
@@ -36,7 +37,7 @@ returns-2 c =
       back (s .fits .my),
       reads-holds (s .args .sl) (s .args .src-stride) _ _ (block t),
     )
-    (sides-pass _ _ _ (sym (t .before .sizes .ensures) ∙ t .if1 .left))
+    (sizes-pass _ _ _ (sym (t .before .sizes .ensures) ∙ t .if1 .left))
 
 pub check-bilin-spec : {M : Type 1} → statement M
 check-bilin-spec =
