@@ -14,25 +14,10 @@ use Rattle.blocks.specs.Refuse.{Test, need, lowest, orSame, sizeOk, bloc
 use Rattle.blocks.specs.Ready.{Block, Rows}
 use Rattle.blocks.specs.Blend.{firstAbove, noneAbove, blendShape, spotAt, spotOf, BlendAnswer, morphTests}
 use Rattle.blocks.specs.declared.blend.Spot.{Spot}
-use Rattle.blocks.proofs.Laws.Refuse.{Met, all-met, refused}
+use Rattle.blocks.proofs.Laws.Refuse.{all-met, later, sooner, refused}
 use Rattle.blocks.proofs.Laws.Ready.{block-met, rows-met}
 use Rattle.blocks.proofs.Laws.Gapless.{gapless-met}
 use Rattle.blocks.proofs.Laws.Above.{first-all}
-
--- ---- tests in two parts: the first's number, or the second's where that is 0
-need-first : (b : Bool) (n x y : ℕ) → ((y ≡ 0 → ⊥) → x ≡ y) → (need b n y ≡ 0 → ⊥) → need b n x ≡ need b n y
-unfolding need
-need-first true n x y e f = e f
-need-first false n x y e f = refl
-
-pub lowest-first : (ts us : List Test) → (lowest ts ≡ 0 → ⊥) → lowest (ts ++ us) ≡ lowest ts
-lowest-first [] us f = absurd (f refl)
-lowest-first (t ∷ ts) us f = need-first (t .meets) _ _ _ (lowest-first ts us) f
-
-pub lowest-next : (ts us : List Test) → Met ts → lowest (ts ++ us) ≡ lowest us
-unfolding need
-lowest-next [] us m = refl
-lowest-next (t ∷ ts) us m = rw (m .0) (lowest-next ts us (m .1))
 
 -- ---- blend
 pub blend-ready : (dl ds tl w h ml : ℕ) → lowest (blendShape dl ds tl w h ml) ≡ 0 → Block w h × Rows dl ds w h × Rows tl w w h × Rows ml w w h
@@ -69,7 +54,7 @@ pub blend-refused : (dst : List ℕ) (ds : ℕ) (tmp : List ℕ) (w h : ℕ) (ma
 unfolding spotOf
 blend-refused dst ds tmp w h mask r e f =
     let g : r < 7 = omega (arith, shape-lt (length dst) ds (length tmp) w h (length mask)) in
-    (e ∙ sym (lowest-first (shapeOf dst ds tmp w h mask) (lastOf w h mask) (λ z. f (e ∙ z))), sym (refused r _ dst f), rw (ne-eqb r 7 (λ z. omega arith)) refl)
+    (e ∙ sooner (shapeOf dst ds tmp w h mask) (lowest (lastOf w h mask)) (λ z. f (e ∙ z)), sym (refused r _ dst f), rw (ne-eqb r 7 (λ z. omega arith)) refl)
 
 -- a call whose shape passed, and whose search ended at s
 pub record Searched (dst : List ℕ) (ds : ℕ) (tmp : List ℕ) (w h : ℕ) (mask : List ℕ) (s : Spot) : Type 0 where
@@ -81,7 +66,7 @@ module _ {dst : List ℕ} {ds : ℕ} {tmp : List ℕ} {w h : ℕ} {mask : List �
   ready = blend-ready (length dst) ds (length tmp) w h (length mask) (p .shape)
 
   then-mask : lowest (shapeOf dst ds tmp w h mask ++ lastOf w h mask) ≡ need (noneAbove mask w h) 7 0
-  then-mask = lowest-next (shapeOf dst ds tmp w h mask) (lastOf w h mask) (all-met (shapeOf dst ds tmp w h mask) (p .shape))
+  then-mask = sym (later (shapeOf dst ds tmp w h mask) (lowest (lastOf w h mask)) (p .shape))
 
   -- by a value above 64
   pub blend-above : s .row < h → BlendAnswer dst ds tmp w h mask 7 dst (s .row) (s .col)

@@ -41,6 +41,27 @@ unfolding need
 met-all [] m = refl
 met-all (t ∷ ts) m = rw (m .0) (met-all ts (m .1))
 
+-- ---- tests in two parts: n is what the later ones say
+abbrev pub then : List Test → ℕ → ℕ
+then [] n = n
+then (t ∷ ts) n = need (t .meets) (numberOf (t .reason)) (then ts n)
+
+-- where the first part refuses nothing, the later tests give the number
+pub later : (ts : List Test) (n : ℕ) → lowest ts ≡ 0 → n ≡ then ts n
+unfolding need
+later [] n e = refl
+later (t ∷ ts) n e = let m = all-met (t ∷ ts) e in rw (m .0) (later ts n (rw (m .0) at e))
+
+-- where it refuses, it gives the number, whatever the later tests say
+pub sooner : (ts : List Test) (n : ℕ) → (lowest ts ≡ 0 → ⊥) → lowest ts ≡ then ts n
+unfolding need
+sooner [] n h = absurd (h refl)
+sooner (t ∷ ts) n h = go (t .meets) h (sooner ts n) where
+  go : (b : Bool) → (need b (numberOf (t .reason)) (lowest ts) ≡ 0 → ⊥) → ((lowest ts ≡ 0 → ⊥) → lowest ts ≡ then ts n)
+      → need b (numberOf (t .reason)) (lowest ts) ≡ need b (numberOf (t .reason)) (then ts n)
+  go true h k = k h
+  go false h k = refl
+
 -- ---- what a test that is met tells
 pub size-met : (most n : ℕ) → sizeOk most n ≡ true → (1 ≤ n) × (n ≤ most)
 unfolding sizeOk

@@ -19,25 +19,6 @@ use Rattle.blocks.proofs.Laws.Refuse.{all-met, stride-met}
 use Rattle.blocks.proofs.Laws.Ready.{block-met, rows-met}
 use Rattle.blocks.proofs.Laws.SubpelChoice.{family-low, family-high}
 
--- ---- tests in two parts: n is what the later ones say
-abbrev then : List Test → ℕ → ℕ
-then [] n = n
-then (t ∷ ts) n = need (t .meets) (numberOf (t .reason)) (then ts n)
-
-pub later : (ts : List Test) (n : ℕ) → lowest ts ≡ 0 → n ≡ then ts n
-unfolding need
-later [] n e = refl
-later (t ∷ ts) n e = let m = all-met (t ∷ ts) e in rw (m .0) (later ts n (rw (m .0) at e))
-
-pub sooner : (ts : List Test) (n : ℕ) → (lowest ts ≡ 0 → ⊥) → lowest ts ≡ then ts n
-unfolding need
-sooner [] n h = absurd (h refl)
-sooner (t ∷ ts) n h = go (t .meets) h (sooner ts n) where
-  go : (b : Bool) → (need b (numberOf (t .reason)) (lowest ts) ≡ 0 → ⊥) → ((lowest ts ≡ 0 → ⊥) → lowest ts ≡ then ts n)
-      → need b (numberOf (t .reason)) (lowest ts) ≡ need b (numberOf (t .reason)) (then ts n)
-  go true h k = k h
-  go false h k = refl
-
 abbrev pub shapeTests : (ds ss w h : ℕ) → List Test
 shapeTests ds ss w h = size asks sizeOk blockSide w ∷ size asks sizeOk blockSide h ∷ stride asks strideOk w ds ∷ stride asks strideOk w ss ∷ []
 

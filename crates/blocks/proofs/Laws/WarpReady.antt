@@ -1,5 +1,5 @@
 -- Warp's number 0 gives what its passes rely on; its tests in two parts. Assumes nothing.
-use mathlib.Core.Path.{_≡_, refl}
+use mathlib.Core.Path.{_≡_, refl, sym}
 use mathlib.Core.Bool.{Bool, true, false}
 use mathlib.Core.List.{List, [], _∷_, _++_}
 use Prim.Native.Nat.{ℕ, _+_, _*_, _/_, _^_, _≤_}
@@ -11,25 +11,9 @@ use Rattle.rows.proofs.Laws.Fill.{and-true}
 use Rattle.blocks.specs.Refuse.{Test, stride, number, table, read, written, _asks_, numberOf, need, lowest, strideOk, holds, reads, wholeFilters}
 use Rattle.blocks.specs.Ready.{Pass, Margins, Warps}
 use Rattle.blocks.specs.Warp.{warpPlaceOk, warpTests}
-use Rattle.blocks.proofs.Laws.Refuse.{all-met, stride-met}
+use Rattle.blocks.proofs.Laws.Refuse.{all-met, later, sooner, stride-met}
 use Rattle.blocks.proofs.Laws.Ready.{rows-met}
 use Rattle.blocks.proofs.Laws.Corners.{every-at}
-
--- ---- tests in two parts: the second part counts where the first refuses nothing
-need-rest : (b : Bool) (n : ℕ) {k m : ℕ} → (b ≡ true → k ≡ m) → need b n k ≡ need b n m
-unfolding need
-need-rest true n f = f refl
-need-rest false n f = refl
-
-first-part : (ts us : List Test) → (lowest ts ≡ 0 → ⊥) → lowest (ts ++ us) ≡ lowest ts
-unfolding need
-first-part [] us h = absurd (h refl)
-first-part (t ∷ ts) us h = need-rest (t .meets) (numberOf (t .reason)) λ e. first-part ts us λ z. h (rw (e, z))
-
-second-part : (ts us : List Test) → lowest ts ≡ 0 → lowest (ts ++ us) ≡ lowest us
-unfolding need
-second-part [] us e = refl
-second-part (t ∷ ts) us e = let m = all-met (t ∷ ts) e in rw (m .0) (second-part ts us (rw (m .0) at e))
 
 -- ---- the first part of warp's tests
 abbrev pub numberTests : (deep : Bool) (dstStride srcStride : ℕ) (mx my : ℤ) → List Test
@@ -64,11 +48,11 @@ bufferTests dl dstStride sl srcStride srcOff a b c d mx my tl =
 module _ (deep : Bool) (dl ds sl ss off : ℕ) (a b c d mx my : ℤ) (tl : ℕ) where
   pub warp-stop : (lowest (numberTests deep ds ss mx my) ≡ 0 → ⊥)
       → lowest (warpTests deep dl ds sl ss off a b c d mx my tl) ≡ lowest (numberTests deep ds ss mx my)
-  warp-stop h = first-part (numberTests deep ds ss mx my) (bufferTests dl ds sl ss off a b c d mx my tl) h
+  warp-stop h = sym (sooner (numberTests deep ds ss mx my) (lowest (bufferTests dl ds sl ss off a b c d mx my tl)) h)
 
   pub warp-go : lowest (numberTests deep ds ss mx my) ≡ 0
       → lowest (warpTests deep dl ds sl ss off a b c d mx my tl) ≡ lowest (bufferTests dl ds sl ss off a b c d mx my tl)
-  warp-go e = second-part (numberTests deep ds ss mx my) (bufferTests dl ds sl ss off a b c d mx my tl) e
+  warp-go e = sym (later (numberTests deep ds ss mx my) (lowest (bufferTests dl ds sl ss off a b c d mx my tl)) e)
 
 -- ---- all of them
 margins-met : (sl o s : ℕ) → strideOk 8 s ≡ true → reads sl o s 8 8 3 4 3 4 ≡ true → Margins sl o s

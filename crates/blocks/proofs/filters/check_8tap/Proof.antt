@@ -3,7 +3,8 @@ use native.Mathlib.Omega.{arith}
 use borrow.Author.Needs.{needs}
 use Rattle.rows.proofs.Laws.Signed.{back}
 use Rattle.blocks.specs.Refuse.{lowest}
-use Rattle.blocks.proofs.Laws.SubpelReady.{later, sooner, shapeTests, shape-met}
+use Rattle.blocks.proofs.Laws.Refuse.{later, sooner}
+use Rattle.blocks.proofs.Laws.SubpelReady.{shapeTests, shape-met}
 use Rattle.blocks.proofs.filters.check_8tap.Statement.{statement}
 use Rattle.blocks.proofs.filters.check_8tap.Tie as tie
 
