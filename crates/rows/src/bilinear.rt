@@ -12,12 +12,22 @@ use crate::numbers::clip16;
 use crate::subpel::kept;
 use crate::subpel::rounded;
 
-// 16a + f(b - a): within 2^22, for any pixels and intermediates
+// 16a + f(b - a): within 2^22, for any pixels and intermediates. A fraction that is seen to be a byte makes the product of bytes a short one.
 fn bilin_sum(a: i32, b: i32, f: u32) -> i32
     requires { ⌜ (natAbs a ≤ 65535) × (natAbs b ≤ 65535) × (f ≤ 15) ⌝ }
     ensures { λ r. ⌜ (r ≡ bilin a b f) × (mag r < 2 ^ 22) ⌝ }
 {
+    let f = f as u8;
     16 * a + f as i32 * (b - a)
+}
+
+// The same as (16 - f)a + fb: intermediates, unlike their differences, are of sixteen bits, and so both products are short ones.
+fn bilin_weighed(a: i32, b: i32, f: u32) -> i32
+    requires { ⌜ (natAbs a ≤ 65535) × (natAbs b ≤ 65535) × (f ≤ 15) ⌝ }
+    ensures { λ r. ⌜ (r ≡ bilin a b f) × (mag r < 2 ^ 22) ⌝ }
+{
+    let f = f as u8;
+    (16 - f) as i32 * a + f as i32 * b
 }
 
 // The sum of two bytes, of two 16-bit pixels and of two intermediates.
@@ -39,7 +49,7 @@ fn between_i16(mid: &[i16], p: usize, step: usize, f: u32) -> i32
     requires { ⌜ (p + step < length (now mid)) × (f ≤ 15) ⌝ }
     ensures { λ r. ⌜ (r ≡ bilinAt (at (now (mid .entry))) p step f) × (mag r < 2 ^ 22) ⌝ }
 {
-    bilin_sum(mid[p] as i32, mid[p + step] as i32, f)
+    bilin_weighed(mid[p] as i32, mid[p + step] as i32, f)
 }
 
 // Half of 2^n, nothing for n = 0.

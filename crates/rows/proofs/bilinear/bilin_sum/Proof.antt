@@ -61,6 +61,7 @@ pub bilin-sum-spec : {M : Type 1} → statement M
 bilin-sum-spec =
     tie.close
     (tie.spec
+    (λ c. search needs)  -- f as u8
     (λ c. simp (back (c .fits .a)) (l-fits c))  -- 16 * a
     (λ c. search needs)  -- f as i32
     (λ c. simp (back (c .fits .a), back (c .fits .b)) (d-fits c))  -- b - a
