@@ -13,3 +13,4 @@ pub mod Warp
 pub mod Shear
 pub mod Window
 pub mod Order
+pub mod Cut

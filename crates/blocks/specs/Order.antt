@@ -1,20 +1,23 @@
 -- Prediction orders: their numbers, and their pixels on the endless plane. Assumes nothing.
 use Prim.Native.Nat.{ℕ, zero, suc, _/_}
 use lib.Dec.{leb, eqb}
-use lib.IntN.{ℤ, pos, negsuc, _+ℤ_}
+use lib.IntN.{ℤ}
 use mathlib.Core.Bool.{Bool, true, false, _&&_}
 use mathlib.Core.List.{List, [], _∷_}
+use mathlib.Core.Path.{_≡_}
+use lib.ListN.{length}
 use Rattle.rows.specs.Numbers.{up}
-use Rattle.rows.specs.Places.{pick}
+use Rattle.rows.specs.Depth.{bitsOf, biasOf, maxOf}
+use Rattle.rows.specs.Places.{pick, fill}
 use Rattle.rows.specs.Copy.{put, prep}
 use Rattle.rows.specs.Bilinear.{putBilin, prepBilin}
 use Rattle.rows.specs.Warp.{allThere, warpPut, warpPrep}
-use Rattle.rows.specs.Edge.{endless, edge, aroundAt}
-use Rattle.blocks.specs.Refuse.{Test, size, stride, number, table, read, written, _asks_, sizeOk, blockSide, strideOk, holds, holdsAll, wholeFilters}
+use Rattle.rows.specs.Edge.{endless, aroundAt}
+use Rattle.blocks.specs.Refuse.{Test, size, stride, number, table, read, written, _asks_, lowest, orSame, sizeOk, blockSide, strideOk, holds, holdsAll, wholeFilters}
 use Rattle.blocks.specs.Edge.{placeOk}
 use Rattle.blocks.specs.Subpel.{typeOk, sixteenthOk, fractionOk, subpelOk, filterIn, put8Rule, prep8Rule}
 use Rattle.blocks.specs.Warp.{warpPlaceOk}
-use Rattle.blocks.specs.Window.{planeW, planeH, frameSizesOk, frameNamesOk, windowSide, scratchOf}
+use Rattle.blocks.specs.Window.{planeW, planeH, frameSizesOk, frameNamesOk, before, windowSide, scratchOf}
 use Rattle.blocks.specs.declared.window.Frame.{Frame}
 use Rattle.blocks.specs.declared.order.Order.{Order}
 use Rattle.blocks.specs.declared.order.Kind.{Kind}
@@ -90,18 +93,57 @@ orderScratch r f planeNo plane planeStride o scratch =
 abbrev pub planeOf : (f : Frame) (planeNo : ℕ) (plane : List ℕ) (planeStride : ℕ) → ℤ → ℤ → ℕ
 planeOf f planeNo plane planeStride = endless plane planeStride (planeW f planeNo) (planeH f planeNo)
 
--- "An order is run as put": the pixel at column i of row j of a block of w x h at x, y of the plane g
-unfoldable pub putPixel : (M B : ℕ) (subpel ext warp : List ℤ) → Kind → (w h : ℕ) → (ℤ → ℤ → ℕ) → (x y : ℤ) → (i j : ℕ) → ℕ
-putPixel M B subpel ext warp Copy w h g x y i j = put (aroundAt (pos 0) g x y i j 0 0)
-putPixel M B subpel ext warp (Subpel m) w h g x y i j = put8Rule M B subpel ext (m .mx) (m .my) (m .«filter_type») w h (aroundAt (negsuc 2) g x y i j)
-putPixel M B subpel ext warp (Bilinear m) w h g x y i j = putBilin M B (up (m .mx)) (up (m .my)) (aroundAt (pos 0) g x y i j)
-putPixel M B subpel ext warp (Warp s) w h g x y i j =
-    warpPut M B warp (s .mx) (s .my) (s .a) (s .b) (s .c) (s .d) i j (aroundAt (negsuc 2) g x y i j)
+-- "An order is run as put": the pixel at column i of row j of a block of w x h, from the pixels q around it, of which column 0 and row 0 stand at the
+-- window's margin before it
+unfoldable pub putRule : (M B : ℕ) (subpel ext warp : List ℤ) → Kind → (w h i j : ℕ) → (ℕ → ℕ → ℕ) → ℕ
+putRule M B subpel ext warp Copy w h i j q = put (q 0 0)
+putRule M B subpel ext warp (Subpel m) w h i j q = put8Rule M B subpel ext (m .mx) (m .my) (m .«filter_type») w h q
+putRule M B subpel ext warp (Bilinear m) w h i j q = putBilin M B (up (m .mx)) (up (m .my)) q
+putRule M B subpel ext warp (Warp s) w h i j q = warpPut M B warp (s .mx) (s .my) (s .a) (s .b) (s .c) (s .d) i j q
 
 -- "or as prep (8x8t for warp)"
-unfoldable pub prepPixel : (B P : ℕ) (subpel ext warp : List ℤ) → Kind → (w h : ℕ) → (ℤ → ℤ → ℕ) → (x y : ℤ) → (i j : ℕ) → ℤ
-prepPixel B P subpel ext warp Copy w h g x y i j = prep B P (aroundAt (pos 0) g x y i j 0 0)
-prepPixel B P subpel ext warp (Subpel m) w h g x y i j = prep8Rule B P subpel ext (m .mx) (m .my) (m .«filter_type») w h (aroundAt (negsuc 2) g x y i j)
-prepPixel B P subpel ext warp (Bilinear m) w h g x y i j = prepBilin B P (up (m .mx)) (up (m .my)) (aroundAt (pos 0) g x y i j)
-prepPixel B P subpel ext warp (Warp s) w h g x y i j =
-    warpPrep B P warp (s .mx) (s .my) (s .a) (s .b) (s .c) (s .d) i j (aroundAt (negsuc 2) g x y i j)
+unfoldable pub prepRule : (B P : ℕ) (subpel ext warp : List ℤ) → Kind → (w h i j : ℕ) → (ℕ → ℕ → ℕ) → ℤ
+prepRule B P subpel ext warp Copy w h i j q = prep B P (q 0 0)
+prepRule B P subpel ext warp (Subpel m) w h i j q = prep8Rule B P subpel ext (m .mx) (m .my) (m .«filter_type») w h q
+prepRule B P subpel ext warp (Bilinear m) w h i j q = prepBilin B P (up (m .mx)) (up (m .my)) q
+prepRule B P subpel ext warp (Warp s) w h i j q = warpPrep B P warp (s .mx) (s .my) (s .a) (s .b) (s .c) (s .d) i j q
+
+-- the pixels around column i of row j of the order's block on the plane g
+abbrev pub aroundIn : Order → (ℤ → ℤ → ℕ) → (i j : ℕ) → ℕ → ℕ → ℕ
+aroundIn o g i j = aroundAt (before (kindNumber (o .kind))) g (o .x) (o .y) i j
+
+-- the order's block on the plane g, run as put and as prep at the depth
+unfoldable pub putPicture : (depth : ℕ) (subpel ext warp : List ℤ) → Order → (ℤ → ℤ → ℕ) → (i j : ℕ) → ℕ
+putPicture depth subpel ext warp o g i j =
+    putRule (maxOf depth) (bitsOf depth) subpel ext warp (o .kind) (o .w) (o .h) i j (aroundIn o g i j)
+
+unfoldable pub prepPicture : (depth : ℕ) (subpel ext warp : List ℤ) → Order → (ℤ → ℤ → ℕ) → (i j : ℕ) → ℤ
+prepPicture depth subpel ext warp o g i j =
+    prepRule (bitsOf depth) (biasOf depth) subpel ext warp (o .kind) (o .w) (o .h) i j (aroundIn o g i j)
+
+-- ---- what a call answers, at the depth: the number r, and scratch and dst (or tmp) at the end
+
+-- "into a lent buffer that begins at the block's first pixel": dst where the number is r
+unfoldable pub orderDst : (r depth : ℕ) (f : Frame) (planeNo : ℕ) (plane : List ℕ) (planeStride : ℕ) (o : Order) (subpel ext warp : List ℤ) (dstStride : ℕ) → List ℕ → List ℕ
+orderDst r depth f planeNo plane planeStride o subpel ext warp dstStride dst =
+    orSame r (fill dst dstStride (o .w) (o .h) (putPicture depth subpel ext warp o (planeOf f planeNo plane planeStride))) dst
+
+unfoldable pub orderTmp : (r depth : ℕ) (f : Frame) (planeNo : ℕ) (plane : List ℕ) (planeStride : ℕ) (o : Order) (subpel ext warp : List ℤ) (tmpStride : ℕ) → List ℤ → List ℤ
+orderTmp r depth f planeNo plane planeStride o subpel ext warp tmpStride tmp =
+    orSame r (fill tmp tmpStride (o .w) (o .h) (prepPicture depth subpel ext warp o (planeOf f planeNo plane planeStride))) tmp
+
+abbrev pub orderNumber : (deep named : Bool) (f : Frame) (planeNo : ℕ) (plane : List ℕ) (planeStride : ℕ) (o : Order) (subpel ext warp : List ℤ) (sl dl dstStride : ℕ) → ℕ
+orderNumber deep named f planeNo plane planeStride o subpel ext warp sl dl dstStride =
+    lowest (orderTests deep named f planeNo (length plane) planeStride o (length subpel) (length ext) (length warp) sl dl dstStride)
+
+abbrev pub OrderPutAnswer : (deep named : Bool) (depth : ℕ) (f : Frame) (planeNo : ℕ) (plane : List ℕ) (planeStride : ℕ) (o : Order) (subpel ext warp : List ℤ) (scratch dst : List ℕ) (dstStride : ℕ) → (r : ℕ) (scratch′ dst′ : List ℕ) → Type 0
+OrderPutAnswer deep named depth f planeNo plane planeStride o subpel ext warp scratch dst dstStride r scratch′ dst′ =
+    (r ≡ orderNumber deep named f planeNo plane planeStride o subpel ext warp (length scratch) (length dst) dstStride)
+    × (scratch′ ≡ orderScratch r f planeNo plane planeStride o scratch)
+    × (dst′ ≡ orderDst r depth f planeNo plane planeStride o subpel ext warp dstStride dst)
+
+abbrev pub OrderPrepAnswer : (deep named : Bool) (depth : ℕ) (f : Frame) (planeNo : ℕ) (plane : List ℕ) (planeStride : ℕ) (o : Order) (subpel ext warp : List ℤ) (scratch : List ℕ) (tmp : List ℤ) (tmpStride : ℕ) → (r : ℕ) (scratch′ : List ℕ) (tmp′ : List ℤ) → Type 0
+OrderPrepAnswer deep named depth f planeNo plane planeStride o subpel ext warp scratch tmp tmpStride r scratch′ tmp′ =
+    (r ≡ orderNumber deep named f planeNo plane planeStride o subpel ext warp (length scratch) (length tmp) tmpStride)
+    × (scratch′ ≡ orderScratch r f planeNo plane planeStride o scratch)
+    × (tmp′ ≡ orderTmp r depth f planeNo plane planeStride o subpel ext warp tmpStride tmp)

@@ -6,7 +6,12 @@ use lib.IntN.{ℤ, natAbs}
 use Rattle.rows.specs.Numbers.{at, up}
 use Rattle.rows.specs.Warp.{RowThere}
 use Rattle.rows.specs.Depth.{bitsOf, biasOf, maxOf}
-use Rattle.blocks.specs.Subpel.{on, filterOf, Held}
+use mathlib.Core.Bool.{true}
+use Rattle.blocks.specs.Subpel.{on, filterOf, Held, subpelOk}
+use Rattle.blocks.specs.Window.{windowSide}
+use Rattle.blocks.specs.Order.{kindNumber, kindSizeOk, motionOk, filtersOk}
+use Rattle.blocks.specs.declared.window.Part.{Part}
+use Rattle.blocks.specs.declared.order.Kind.{Kind}
 use Rattle.blocks.specs.declared.refuse.DepthNumbers.{DepthNumbers}
 
 -- a block of w columns and h rows
@@ -153,3 +158,18 @@ pub record Depths (depth bits bias : ℕ) : Type 0 where
   pub bits2 : 2 ≤ bits
   pub bits4 : bits ≤ 4
   pub bias13 : bias ≤ 8192
+
+-- a block of a kind, from a source that begins at its window's first pixel: the window's rows at the stride s in sl places; its numbers, and its filters in
+-- tables of tl, el and wl numbers
+pub record Windowed (k : Kind) (sl s w h tl el wl : ℕ) : Type 0 where
+  pub block : Block w h
+  pub size : kindSizeOk k w h ≡ true
+  pub src : Rows sl s (windowSide (kindNumber k) w) (windowSide (kindNumber k) h)
+  pub motion : motionOk k ≡ true
+  pub subpel : subpelOk tl ≡ true
+  pub filters : filtersOk k el wl ≡ true
+
+-- a part whose places its buffer has, of a plane of pl places or of sl places of scratch
+pub record PartIn (p : Part) (pl sl : ℕ) : Type 0 where
+  pub plane : p .buffer ≡ 1 → p .place + p .len ≤ pl
+  pub scratch : p .buffer ≡ 2 → p .place + p .len ≤ sl

@@ -6,8 +6,9 @@ use lib.ListN.{length}
 use lib.Signed.{leZ, ltZ}
 use mathlib.Core.Bool.{Bool, true, false, _&&_, _||_}
 use mathlib.Core.List.{List, [], _∷_}
+use mathlib.Core.Path.{_≡_}
 use Rattle.rows.specs.Numbers.{up}
-use Rattle.rows.specs.Places.{pick, span, fill}
+use Rattle.rows.specs.Places.{pick, span, fill, around}
 use Rattle.rows.specs.Edge.{edge}
 use Rattle.blocks.specs.Refuse.{Test, size, stride, number, read, written, _asks_, lowest, orSame, sizeOk, blockSide, strideOk, partLen, holds, holdsAll}
 use Rattle.blocks.specs.Edge.{placeOk}
@@ -74,11 +75,15 @@ windowTests f planeNo pl planeStride kind w h x y mode sl =
 unfoldable pub inside : ℤ → (n side : ℕ) → Bool
 inside x n side = leZ (pos 0) x && leZ (x +ℤ pos n) (pos side)
 
--- "Mode 0 is the default: if the whole window is inside the plane, the answer is a part of the lent plane"; "Mode 1 always uses scratch"
-unfoldable pub isPlanes : (f : Frame) (planeNo kind w h : ℕ) (x y : ℤ) (mode : ℕ) → Bool
-isPlanes f planeNo kind w h x y mode =
-    eqb mode 0
-    && (inside (windowStart kind x) (windowSide kind w) (planeW f planeNo) && inside (windowStart kind y) (windowSide kind h) (planeH f planeNo))
+-- "Mode 0 is the default: if the whole window is inside the plane, the answer is a part of the lent plane"; "Mode 1 always uses scratch": of a window of
+-- ww columns and wh rows from x and y on, in a plane of iw columns and ih rows
+unfoldable pub isPlanes : (mode ww wh iw ih : ℕ) (x y : ℤ) → Bool
+isPlanes mode ww wh iw ih x y = eqb mode 0 && (inside x ww iw && inside y wh ih)
+
+-- the same of a block's window
+abbrev pub ownPlane : (f : Frame) (planeNo kind w h : ℕ) (x y : ℤ) (mode : ℕ) → Bool
+ownPlane f planeNo kind w h x y mode =
+    isPlanes mode (windowSide kind w) (windowSide kind h) (planeW f planeNo) (planeH f planeNo) (windowStart kind x) (windowStart kind y)
 
 -- "One call answers number, buffer (1 plane, 2 scratch), place and stride"; "Scratch has the window's width as stride"; "The part begins at the window's
 -- first pixel and ends after its last"
@@ -95,24 +100,30 @@ unfoldable pub windowOf : (f : Frame) (planeNo pl planeStride kind w h : ℕ) (x
 windowOf f planeNo pl planeStride kind w h x y mode sl =
     let verdict = lowest (windowTests f planeNo pl planeStride kind w h x y mode sl) in
     orSame verdict
-    (windowAt (isPlanes f planeNo kind w h x y mode) planeStride (windowSide kind w) (windowSide kind h) (windowStart kind x) (windowStart kind y))
+    (windowAt (ownPlane f planeNo kind w h x y mode) planeStride (windowSide kind w) (windowSide kind h) (windowStart kind x) (windowStart kind y))
     (noPart verdict)
 
 -- "else scratch is filled by emu_edge"; "only the window's places change"
-unfoldable pub filled : (f : Frame) (planeNo : ℕ) (plane : List ℕ) (planeStride kind w h : ℕ) (x y : ℤ) → List ℕ → List ℕ
-filled f planeNo plane planeStride kind w h x y scratch =
-    fill scratch (windowSide kind w) (windowSide kind w) (windowSide kind h)
-    (edge plane planeStride (planeW f planeNo) (planeH f planeNo) (windowStart kind x) (windowStart kind y))
+unfoldable pub fetched : (planes : Bool) (plane : List ℕ) (planeStride ww wh iw ih : ℕ) (x y : ℤ) → List ℕ → List ℕ
+fetched true plane planeStride ww wh iw ih x y scratch = scratch
+fetched false plane planeStride ww wh iw ih x y scratch = fill scratch ww ww wh (edge plane planeStride iw ih x y)
 
 unfoldable pub scratchOf : (verdict : ℕ) (f : Frame) (planeNo : ℕ) (plane : List ℕ) (planeStride kind w h : ℕ) (x y : ℤ) (mode : ℕ) → List ℕ → List ℕ
 scratchOf verdict f planeNo plane planeStride kind w h x y mode scratch =
-    orSame verdict (pick (isPlanes f planeNo kind w h x y mode) scratch (filled f planeNo plane planeStride kind w h x y scratch)) scratch
+    orSame verdict
+    (fetched (ownPlane f planeNo kind w h x y mode) plane planeStride (windowSide kind w) (windowSide kind h) (planeW f planeNo) (planeH f planeNo)
+    (windowStart kind x) (windowStart kind y) scratch)
+    scratch
 
 -- "a second on the same arguments gives the part, empty where refused"
 unfoldable pub partOf : Part → (plane scratch : List ℕ) → List ℕ
 partOf p plane scratch =
     pick (eqb (p .buffer) 1) (span plane (p .place) (p .place + p .len))
     (pick (eqb (p .buffer) 2) (span scratch (p .place) (p .place + p .len)) [])
+
+-- the pixels around column i of row j of the block, in a buffer of stride s that begins at its window's first pixel
+abbrev pub aroundPart : (kind : ℕ) → List ℕ → (s i j : ℕ) → ℕ → ℕ → ℕ
+aroundPart kind part s i j = around (before kind) part (before kind * s + before kind) s i j
 
 -- ---- "A helper hands back one row of a plane as a part of it; a row outside 0 to height - 1 is number 3"
 abbrev pub rowTests : (f : Frame) (planeNo pl planeStride : ℕ) (row : ℤ) → List Test
@@ -130,3 +141,13 @@ rowAt f planeNo pl planeStride row =
     orSame verdict
     (record { number = 0; buffer = 1; place = up row * planeStride; stride = planeStride; len = planeW f planeNo })
     (noPart verdict)
+
+-- ---- what the C functions answer: the number r, and a part's other numbers
+abbrev pub PartAnswer : Part → (r buffer place apart len : ℕ) → Type 0
+PartAnswer p r buffer place apart len = (r ≡ p .number) × (buffer ≡ p .buffer) × (place ≡ p .place) × (apart ≡ p .stride) × (len ≡ p .len)
+
+-- and scratch at the end
+abbrev pub WindowAnswer : (f : Frame) (planeNo : ℕ) (plane : List ℕ) (planeStride kind w h : ℕ) (x y : ℤ) (mode : ℕ) (scratch : List ℕ) → (r buffer place apart len : ℕ) (scratch′ : List ℕ) → Type 0
+WindowAnswer f planeNo plane planeStride kind w h x y mode scratch r buffer place apart len scratch′ =
+    PartAnswer (windowOf f planeNo (length plane) planeStride kind w h x y mode (length scratch)) r buffer place apart len
+    × (scratch′ ≡ scratchOf r f planeNo plane planeStride kind w h x y mode scratch)

@@ -33,7 +33,7 @@ use rows::bilinear::put_bilin_row16;
 use rows::warp::half_power;
 
 // A fraction of sixteenths.
-fn sixteenth_ok(f: i32) -> bool
+pub fn sixteenth_ok(f: i32) -> bool
     ensures { λ r. ⌜ r ≡ sixteenthOk f ⌝ }
 {
     (0 <= f) & (f <= 15)
@@ -196,7 +196,7 @@ fn prep_bilin_both8(
 }
 
 // The block in its four cases: both fractions, the horizontal alone, the vertical alone, none.
-fn put_bilin_rows8(
+pub fn put_bilin_rows8(
     dst: &mut [u8],
     ds: usize,
     src: &[u8],
@@ -222,7 +222,7 @@ fn put_bilin_rows8(
     }
 }
 
-fn prep_bilin_rows8(
+pub fn prep_bilin_rows8(
     tmp: &mut [i16],
     ts: usize,
     src: &[u8],
@@ -421,7 +421,7 @@ fn prep_bilin_both16(
     mid_bilin_prep_rows(tmp, ts, &mid, w, h, g, 4, bias as i16);
 }
 
-fn put_bilin_rows16(
+pub fn put_bilin_rows16(
     dst: &mut [u16],
     ds: usize,
     src: &[u16],
@@ -450,7 +450,7 @@ fn put_bilin_rows16(
     }
 }
 
-fn prep_bilin_rows16(
+pub fn prep_bilin_rows16(
     tmp: &mut [i16],
     ts: usize,
     src: &[u16],

@@ -15,21 +15,21 @@ use rows::subpel::eight;
 use rows::warp::half_power;
 
 // A filter type.
-fn type_ok(filter_type: i32) -> bool
+pub fn type_ok(filter_type: i32) -> bool
     ensures { λ r. ⌜ r ≡ typeOk «filter_type» ⌝ }
 {
     (-1 <= filter_type) & (filter_type <= 2)
 }
 
 // A fraction of the type.
-fn fraction_ok(filter_type: i32, f: i32) -> bool
+pub fn fraction_ok(filter_type: i32, f: i32) -> bool
     ensures { λ r. ⌜ r ≡ fractionOk «filter_type» f ⌝ }
 {
     ((0 <= f) & (f <= 15)) | ((filter_type < 0) & (0 <= f))
 }
 
 // The fraction's filter is in ext, where it comes from there.
-fn filter_in(filter_type: i32, f: i32, el: usize) -> bool
+pub fn filter_in(filter_type: i32, f: i32, el: usize) -> bool
     ensures { λ r. ⌜ r ≡ filterIn «filter_type» f el ⌝ }
 {
     (0 <= filter_type) | (8 * above(f) as usize <= el)

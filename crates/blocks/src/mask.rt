@@ -44,7 +44,7 @@ fn sign_ok(sign: i32) -> bool
 }
 
 // ss_ver comes with ss_hor.
-fn flags_ok(ss_hor: bool, ss_ver: bool) -> bool
+pub fn flags_ok(ss_hor: bool, ss_ver: bool) -> bool
     ensures { λ r. ⌜ r ≡ flagsOk «ss_hor» «ss_ver» ⌝ }
 {
     ss_hor | !ss_ver

@@ -144,7 +144,7 @@ fn mid_prep_lines(
 }
 
 // The block: by one filter at most, or by the horizontal filter into an array of intermediates, and from there by the vertical.
-fn put_8tap_rows8(
+pub fn put_8tap_rows8(
     dst: &mut [u8],
     dst_stride: usize,
     src: &[u8],
@@ -173,7 +173,7 @@ fn put_8tap_rows8(
     put_lines8(dst, dst_stride, src, s, p, w, h);
 }
 
-fn prep_8tap_rows8(
+pub fn prep_8tap_rows8(
     tmp: &mut [i16],
     tmp_stride: usize,
     src: &[u8],
@@ -418,7 +418,7 @@ fn mid_lines16(
 }
 
 // The block: by one filter at most, or by the horizontal filter into an array of intermediates, and from there by the vertical.
-fn put_8tap_rows16(
+pub fn put_8tap_rows16(
     d: DepthNumbers,
     dst: &mut [u16],
     dst_stride: usize,
@@ -449,7 +449,7 @@ fn put_8tap_rows16(
     put_lines16(dst, dst_stride, src, s, p, d.max, w, h);
 }
 
-fn prep_8tap_rows16(
+pub fn prep_8tap_rows16(
     d: DepthNumbers,
     tmp: &mut [i16],
     tmp_stride: usize,

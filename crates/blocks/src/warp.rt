@@ -43,7 +43,7 @@ fn pass_there(m: i32, a: i16, b: i16, last: u32, n: usize) -> bool
         & corner_there(m, a, b, last, 7, n)
 }
 
-fn filters_there(a: i16, b: i16, c: i16, d: i16, mx: i32, my: i32, n: usize) -> bool
+pub fn filters_there(a: i16, b: i16, c: i16, d: i16, mx: i32, my: i32, n: usize) -> bool
     requires { ⌜ (natAbs mx ≤ 2 ^ 20) × (natAbs my ≤ 2 ^ 20) ⌝ }
     ensures { λ v. ⌜ v ≡ allThere n mx my a b c d ⌝ }
 {
@@ -319,7 +319,7 @@ fn warp_prep_rows(
     }
 }
 
-fn warp_put8(
+pub fn warp_put8(
     dst: &mut [u8],
     dst_stride: usize,
     src: &[u8],
@@ -352,7 +352,7 @@ fn warp_put8(
     warp_put_rows8(dst, dst_stride, &mid, warp, my, c, d, 4);
 }
 
-fn warp_put16(
+pub fn warp_put16(
     dst: &mut [u16],
     dst_stride: usize,
     src: &[u16],
@@ -387,7 +387,7 @@ fn warp_put16(
     warp_put_rows16(dst, dst_stride, &mid, warp, my, c, d, bits, max);
 }
 
-fn warp_prep8(
+pub fn warp_prep8(
     tmp: &mut [i16],
     tmp_stride: usize,
     src: &[u8],
@@ -420,7 +420,7 @@ fn warp_prep8(
     warp_prep_rows(tmp, tmp_stride, &mid, warp, my, c, d, 0);
 }
 
-fn warp_prep16(
+pub fn warp_prep16(
     tmp: &mut [i16],
     tmp_stride: usize,
     src: &[u16],

@@ -11,6 +11,7 @@ pub mod Places
 pub mod Fill
 pub mod Cut
 pub mod Kernel
+pub mod Local
 pub mod Combine
 pub mod Pixel
 pub mod Edge

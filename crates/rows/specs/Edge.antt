@@ -1,6 +1,6 @@
 -- A plane that goes on for ever by repeating its border pixels: `emu_edge`, and the plane that demand 3 speaks of. Assumes nothing.
 use Prim.Native.Nat.{ℕ, _+_, _-_, min}
-use lib.IntN.{ℤ, pos, negsuc, _+ℤ_}
+use lib.IntN.{ℤ, pos, _+ℤ_, _-ℤ_}
 use mathlib.Core.List.{List}
 use Rattle.rows.specs.Numbers.{clip}
 use Rattle.rows.specs.Places.{pixel}
@@ -13,6 +13,6 @@ endless plane s iw ih x y = pixel plane s (clip (iw - 1) x) (clip (ih - 1) y)
 unfoldable pub edge : List ℕ → (s iw ih : ℕ) → ℤ → ℤ → ℕ → ℕ → ℕ
 edge plane s iw ih x y i j = endless plane s iw ih (x +ℤ pos i) (y +ℤ pos j)
 
--- the pixels around column i of row j of a block at x, y of the endless plane g: column a and row b, from 0 up, stand at m + a and m + b from it
-unfoldable pub aroundAt : ℤ → (ℤ → ℤ → ℕ) → ℤ → ℤ → ℕ → ℕ → ℕ → ℕ → ℕ
-aroundAt m g x y i j a b = g ((x +ℤ m) +ℤ pos (i + a)) ((y +ℤ m) +ℤ pos (j + b))
+-- the pixels around column i of row j of a block at x, y of the endless plane g: column 0 and row 0 stand m columns left of and m rows above it
+unfoldable pub aroundAt : ℕ → (ℤ → ℤ → ℕ) → ℤ → ℤ → ℕ → ℕ → ℕ → ℕ → ℕ
+aroundAt m g x y i j a b = g ((x -ℤ pos m) +ℤ pos (i + a)) ((y -ℤ pos m) +ℤ pos (j + b))

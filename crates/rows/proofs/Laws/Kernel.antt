@@ -5,7 +5,7 @@ use mathlib.Core.List.{List, [], _∷_, _++_}
 use Prim.Native.Nat.{ℕ, _+_, _≤_, _<_}
 use native.Mathlib.Nat.{add-assoc}
 use lib.ListN.{length, take, drop}
-use lib.IntN.{ℤ, pos, _+ℤ_, +ℤ-assoc, +ℤ-comm, pos-+ℤ-pos}
+use lib.IntN.{ℤ, pos, negℤ, _+ℤ_, +ℤ-assoc, +ℤ-comm, pos-+ℤ-pos}
 use Rattle.rows.specs.Places.{fill}
 use Rattle.rows.specs.Edge.{aroundAt}
 use Rattle.rows.specs.Cut.{Rect, Cut, Each, begins, putEach}
@@ -19,11 +19,11 @@ place-margin x m a k =
     ∙ +ℤ-assoc (x +ℤ m) (pos a) (pos k)
     ∙ ap (λ (t : ℤ). (x +ℤ m) +ℤ t) (pos-+ℤ-pos a k)
 
-pub around-moved : (m : ℤ) (g : ℤ → ℤ → ℕ) (x y : ℤ) (rx ry i j a b : ℕ) → aroundAt m g (x +ℤ pos rx) (y +ℤ pos ry) i j a b ≡ aroundAt m g x y (rx + i) (ry + j) a b
+pub around-moved : (m : ℕ) (g : ℤ → ℤ → ℕ) (x y : ℤ) (rx ry i j a b : ℕ) → aroundAt m g (x +ℤ pos rx) (y +ℤ pos ry) i j a b ≡ aroundAt m g x y (rx + i) (ry + j) a b
 unfolding aroundAt
-around-moved m g x y rx ry i j a b = rw (place-margin x m rx (i + a), place-margin y m ry (j + b), add-assoc rx i a, add-assoc ry j b) refl
+around-moved m g x y rx ry i j a b = rw (place-margin x (negℤ (pos m)) rx (i + a), place-margin y (negℤ (pos m)) ry (j + b), add-assoc rx i a, add-assoc ry j b) refl
 
-module _ {A : Type 0} (z : A) (s : ℕ) (some : 0 < s) (m : ℤ) (g : ℤ → ℤ → ℕ) (x y : ℤ) (K : (ℕ → ℕ → ℕ) → A) (KR : Rect → (ℕ → ℕ → ℕ) → A) where
+module _ {A : Type 0} (z : A) (s : ℕ) (some : 0 < s) (m : ℕ) (g : ℤ → ℤ → ℕ) (x y : ℤ) (K : (ℕ → ℕ → ℕ) → A) (KR : Rect → (ℕ → ℕ → ℕ) → A) where
   moved : (r : Rect) → KR r ≡ K → (i j : ℕ) → KR r (aroundAt m g (x +ℤ pos (r .x)) (y +ℤ pos (r .y)) i j) ≡ K (aroundAt m g x y (r .x + i) (r .y + j))
   moved r e i j t = e t (λ a b. around-moved m g x y (r .x) (r .y) i j a b t)
 
