@@ -11,9 +11,9 @@ RAV2D_SRC ?= ../shared/docs/src
 N ?= 20000
 SEED ?=
 
-# The oracle stands one folder deeper, so it is given the whole path.
+# The oracle and the bindings stand deeper, so they are given whole paths. $(1) is the archive.
 SOURCE := $(abspath $(RAV2D_SRC))
-ORACLE = cd oracle && RAV2D_SRC='$(SOURCE)' HEMAVOLUPS_ARCHIVE=../dist/libblocks.a cargo
+ORACLE = cd oracle && RAV2D_SRC='$(SOURCE)' HEMAVOLUPS_ARCHIVE='$(abspath $(1))' cargo
 
 # Prints why nothing can be compared with the Rust, in one sentence; nothing where it can.
 define lacking
@@ -47,17 +47,24 @@ check:
 dist/libblocks.a: crates.txt tools/native-archive $(shell find crates -name '*.rt' -o -name '*.antt')
 	@tools/native-archive blocks $@
 
+# What `make test` compares: the same code, compiled in seconds; `rt ci` proves it in the same run.
+DRAFT := $(if $(ARCHIVE),target/draft/libblocks.a)
+target/draft/libblocks.a: crates.txt tools/draft-archive $(shell find crates -name '*.rt')
+	@tools/draft-archive blocks $@
+
 # The verdict is the last line, so rt ci comes last; it proves everything anew.
-test: $(if $(shell $(lacking)),,$(ARCHIVE))
+test: $(if $(shell command -v cargo),$(DRAFT))
 	@if command -v python3 >/dev/null; then tools/reading; fi
-	@why=$$($(lacking)); if [ -n "$$why" ]; then echo "$$why"; else ($(ORACLE) run --offline) && ($(ORACLE) test --offline --release -q) \
-	    && ($(ORACLE) run --offline --release -- compare 300) && ($(ORACLE) run --offline --release -- guard 100); fi
+	@if command -v cc >/dev/null; then cc -std=c99 -Wall -Wextra -pedantic -Werror -fsyntax-only include/hemavolups.h; fi
+	@why=$$($(lacking)); if [ -n "$$why" ]; then echo "$$why"; else ($(call ORACLE,$(DRAFT)) run --offline) \
+	    && ($(call ORACLE,$(DRAFT)) test --offline --release -q) && ($(call ORACLE,$(DRAFT)) run --offline --release -- compare 300) \
+	    && ($(call ORACLE,$(DRAFT)) run --offline --release -- guard 100); fi
 	@rt ci
 
 compare: $(if $(shell $(lacking)),,$(ARCHIVE))
 	@why=$$($(lacking)); if [ -n "$$why" ]; then echo "$$why" >&2; exit 1; fi
-	@$(ORACLE) run --offline --release -- compare $(N) $(SEED)
-	@$(ORACLE) run --offline --release -- guard $(N) $(SEED)
+	@$(call ORACLE,$(ARCHIVE)) run --offline --release -- compare $(N) $(SEED)
+	@$(call ORACLE,$(ARCHIVE)) run --offline --release -- guard $(N) $(SEED)
 
 wrong:
 	@tools/wrong
@@ -67,4 +74,4 @@ bench: $(if $(shell $(lacking)),,$(ARCHIVE))
 	@cd bench && RAV2D_SRC='$(SOURCE)' HEMAVOLUPS_ARCHIVE='$(abspath dist/libblocks.a)' cargo run --offline --release
 
 clean:
-	rm -rf target dist oracle/target bench/target
+	rm -rf target dist oracle/target bench/target bindings/rust/target
