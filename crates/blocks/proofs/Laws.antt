@@ -31,3 +31,4 @@ pub mod WarpReady
 pub mod Passes
 pub mod WarpAnswers
 pub mod Shears
+pub mod Local
