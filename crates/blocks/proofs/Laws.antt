@@ -32,3 +32,4 @@ pub mod Passes
 pub mod WarpAnswers
 pub mod Shears
 pub mod Local
+pub mod KindsReady

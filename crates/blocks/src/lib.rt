@@ -5,6 +5,7 @@ pub mod combine;
 pub mod copy;
 pub mod edge;
 pub mod filters;
+pub mod kinds;
 pub mod mask;
 pub mod order;
 pub mod refuse;

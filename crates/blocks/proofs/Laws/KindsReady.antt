@@ -1,0 +1,147 @@
+-- A block of a kind and its window give what the kind's rows rely on. Assumes nothing.
+use mathlib.Core.Path.{_≡_, refl, sym, _∙_}
+use mathlib.Core.Bool.{Bool, true, false, _&&_, _||_}
+use Prim.Native.Nat.{ℕ, zero, suc, _+_, _-_, _*_, _/_, _^_, _≤_, _<_, min}
+use native.Mathlib.Omega.{arith}
+use borrow.Author.Tests.{leb-true, eqb-true, le-ltb}
+use lib.Dec.{leb, ltb, eqb}
+use lib.IntN.{ℤ, pos, negsuc, natAbs}
+use lib.Signed.{leZ}
+use Rattle.rows.specs.Numbers.{up}
+use Rattle.rows.specs.Subpel.{family}
+use Rattle.rows.specs.Warp.{filterNo, isThere, every, allThere}
+use Rattle.rows.proofs.Laws.Places.{by-lt}
+use Rattle.rows.proofs.Laws.Fill.{and-true}
+use Rattle.blocks.specs.Subpel.{typeOk, sixteenthOk, fractionOk, subpelOk, filterIn, on, filterOf, Held}
+use Rattle.blocks.specs.Warp.{warpPlaceOk}
+use Rattle.blocks.specs.Window.{before, after}
+use Rattle.blocks.specs.Order.{kindSizeOk, motionOk, filtersOk}
+use Rattle.blocks.specs.Ready.{Block, Rows, Taps, Bilin, Pass, Warps, Windowed}
+use Rattle.blocks.specs.declared.order.Kind.{Kind}
+use Rattle.blocks.specs.declared.order.Kind.the-variants.{Copy, Subpel, Bilinear, Warp}
+use Rattle.blocks.specs.declared.order.SubpelMotion.{SubpelMotion}
+use Rattle.blocks.specs.declared.order.BilinMotion.{BilinMotion}
+use Rattle.blocks.specs.declared.order.Shears.{Shears}
+use Rattle.blocks.proofs.Laws.SubpelChoice.{family-low, family-high}
+use Rattle.blocks.proofs.Laws.BilinReady.{sixteenth-met}
+use Rattle.blocks.proofs.Laws.Corners.{every-at}
+
+-- ---- a filter that passed its tests is in its table
+family-le : (t side : ℕ) → t ≤ 2 → family t side ≤ 4
+family-le t side h = by-lt 4 side (λ b. rw (← family-high t side b) (omega arith)) λ b. rw (← family-low t side b) (omega arith)
+
+first-of : (a b : Bool) → a || b ≡ true → b ≡ false → a ≡ true
+first-of true b e f = refl
+first-of false b e f = sym f ∙ e
+
+held : (t f : ℤ) (side tl el : ℕ) → typeOk t ≡ true → fractionOk t f ≡ true → subpelOk tl ≡ true → filterIn t f el ≡ true → Held tl el (filterOf t (up f) side)
+unfolding filterOf typeOk sixteenthOk fractionOk filterIn subpelOk
+held t (negsuc f) side tl el a b c d = tt
+held t (pos zero) side tl el a b c d = tt
+held (negsuc t) (pos (suc f)) side tl el a b c d = omega (arith, leb-true (8 * suc f) el d)
+held (pos t) (pos (suc f)) side tl el a b c d =
+    let m = family-le t side (leb-true t 2 (and-true (leZ (negsuc 0) (pos t)) (leb t 2) a .1)) in
+    let z : ltb t 0 && leb 0 (suc f) ≡ false = rw (le-ltb t 0 (omega arith)) refl in
+    let q = first-of (leb 0 (suc f) && leb (suc f) 15) (ltb t 0 && leb 0 (suc f)) b z in
+    let n = leb-true (suc f) 15 (and-true (leb 0 (suc f)) (leb (suc f) 15) q .1) in
+    omega (arith, eqb-true tl 600 c)
+
+-- ---- a window's places hold those of each tap, with a filter on an axis where x or y is 1
+taps-before : (s x y : ℕ) → x ≤ 1 → y ≤ 1 → 3 * y * s + 3 * x ≤ 3 * s + 3
+taps-before s x zero a b = omega arith
+taps-before s x (suc zero) a b = omega arith
+taps-before s x (suc (suc y)) a b = absurd (omega arith)
+
+taps-last : (sl s w h x y : ℕ) → Block w h → x ≤ 1 → y ≤ 1 → (3 + h + 4 - 1) * s + (3 + w + 4) ≤ sl
+    → 3 * s + 3 + (h - 1 + 4 * y) * s + (w - 1 + 4 * x) < sl
+taps-last sl s w h x y b m n e =
+    let z : 3 + h + 4 - 1 ≡ h - 1 + 7 = omega (arith, b) in
+    go y n (rw z at e) where
+  go : (y : ℕ) → y ≤ 1 → (h - 1 + 7) * s + (3 + w + 4) ≤ sl → 3 * s + 3 + (h - 1 + 4 * y) * s + (w - 1 + 4 * x) < sl
+  go zero n e = omega (arith, b)
+  go (suc zero) n e = omega (arith, b)
+  go (suc (suc y)) n e = absurd (omega arith)
+
+-- and those of the pairs of a bilinear block
+pairs-in : (sl s w h x y : ℕ) → Block w h → x ≤ 1 → y ≤ 1 → (0 + h + 1 - 1) * s + (0 + w + 1) ≤ sl → (h + y - 1) * s + (w + x) ≤ sl
+pairs-in sl s w h x zero b m n e =
+    let z : 0 + h + 1 - 1 ≡ h - 1 + 1 = omega (arith, b) in
+    let o : h + 0 - 1 ≡ h - 1 = omega arith in
+    let f = rw z at e in rw o (omega arith)
+pairs-in sl s w h x (suc zero) b m n e =
+    let z : 0 + h + 1 - 1 ≡ h + 1 - 1 = omega arith in
+    let f = rw z at e in omega arith
+pairs-in sl s w h x (suc (suc y)) b m n e = absurd (omega arith)
+
+-- ---- warp's size, and its passes
+eight : (m : Shears) (w h : ℕ) → kindSizeOk (Warp m) w h ≡ true → (w ≡ 8) × (h ≡ 8)
+unfolding kindSizeOk
+eight m w h e = let p = and-true (eqb w 8) (eqb h 8) e in (eqb-true w 8 (p .0), eqb-true h 8 (p .1))
+
+passes : (n : ℕ) (mx my a b c d : ℤ) → warpPlaceOk mx && warpPlaceOk my ≡ true → allThere n mx my a b c d ≡ true → Pass n mx a b 15 × Pass n my c d 8
+unfolding allThere warpPlaceOk
+passes n mx my a b c d p e =
+    let m = and-true (warpPlaceOk mx) (warpPlaceOk my) p in
+    let f = and-true (every 15 (λ r. every 8 (λ i. isThere n (filterNo mx a b r i)))) _ e in (
+      record { near = leb-true _ _ (m .0); there = λ r h c k. every-at 8 (λ i. isThere n (filterNo mx a b r i)) (every-at 15 _ (f .0) r h) c k },
+      record { near = leb-true _ _ (m .1); there = λ r h i k. every-at 8 (λ i. isThere n (filterNo my c d r i)) (every-at 8 _ (f .1) r h) i k },
+    )
+
+-- ---- what each kind's rows rely on
+module _ {k : Kind} {sl s w h tl el wl dl ds : ℕ} (p : Windowed k sl s w h tl el wl) (dst : Rows dl ds w h) where
+  pub copy-ready : k ≡ Copy → Block w h × Rows dl ds w h × Rows sl s w h
+  unfolding before after
+  copy-ready e =
+      let r = rw e at (p .src) in
+      let z : 0 + h + 0 - 1 ≡ h - 1 = omega arith in
+      let f = rw z at (r .fits) in
+      (p .block, dst, record { wide = omega (arith, r .wide); most = r .most; fits = omega arith })
+
+  pub subpel-ready : {m : SubpelMotion} → k ≡ Subpel m → Block w h × Rows dl ds w h × Taps sl (3 * s + 3) s w h (m .mx) (m .my) (m .«filter_type») tl el
+  unfolding before after motionOk filtersOk
+  subpel-ready {m} e =
+      let t = m .«filter_type» in
+      let q : Windowed (Subpel m) sl s w h tl el wl = rw e at p in
+      let n = and-true (typeOk t) (fractionOk t (m .mx) && fractionOk t (m .my)) (q .motion) in
+      let f = and-true (fractionOk t (m .mx)) (fractionOk t (m .my)) (n .1) in
+      let i = and-true (filterIn t (m .mx) el) (filterIn t (m .my) el) (q .filters) in (
+        p .block,
+        dst,
+        record {
+          wide = omega (arith, q .src .wide);
+          most = q .src .most;
+          before = taps-before s (on (m .mx)) (on (m .my)) (omega arith) (omega arith);
+          last = taps-last sl s w h (on (m .mx)) (on (m .my)) (p .block) (omega arith) (omega arith) (q .src .fits);
+          across = held t (m .mx) w tl el (n .0) (f .0) (p .subpel) (i .0);
+          down = held t (m .my) h tl el (n .0) (f .1) (p .subpel) (i .1);
+        },
+      )
+
+  pub bilin-ready : {m : BilinMotion} → k ≡ Bilinear m → Bilin dl ds sl s w h (up (m .mx)) (up (m .my))
+  unfolding before after motionOk
+  bilin-ready {m} e =
+      let q : Windowed (Bilinear m) sl s w h tl el wl = rw e at p in
+      let f = and-true (sixteenthOk (m .mx)) (sixteenthOk (m .my)) (q .motion) in
+      record {
+        block = p .block;
+        dst = dst;
+        wide = omega (arith, q .src .wide);
+        most = q .src .most;
+        fits = pairs-in sl s w h (on (m .mx)) (on (m .my)) (p .block) (omega arith) (omega arith) (q .src .fits);
+        f15 = sixteenth-met (m .mx) (f .0);
+        g15 = sixteenth-met (m .my) (f .1);
+      }
+
+  pub warp-ready : {m : Shears} → k ≡ Warp m → Warps dl ds sl (3 * s + 3) s (wl / 8) (m .a) (m .b) (m .c) (m .d) (m .mx) (m .my)
+  unfolding before after motionOk filtersOk
+  warp-ready {m} e =
+      let q : Windowed (Warp m) sl s w h tl el wl = rw e at p in
+      let z = eight m w h (q .size) in
+      let f = passes (wl / 8) (m .mx) (m .my) (m .a) (m .b) (m .c) (m .d) (q .motion) (q .filters) in
+      let r = rw (z .0, z .1) at (q .src) in
+      record {
+        dst = rw (z .0, z .1) at dst;
+        src = record { most = r .most; before = omega arith; after = omega (arith, r .fits) };
+        first = f .0;
+        second = f .1;
+      }
