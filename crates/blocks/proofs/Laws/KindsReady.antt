@@ -1,20 +1,26 @@
 -- A block of a kind and its window give what the kind's rows rely on. Assumes nothing.
-use mathlib.Core.Path.{_≡_, refl, sym, _∙_}
+use mathlib.Core.Path.{_≡_, refl, sym, ap, _∙_, fun-ext}
 use mathlib.Core.Bool.{Bool, true, false, _&&_, _||_}
+use mathlib.Core.List.{List}
 use Prim.Native.Nat.{ℕ, zero, suc, _+_, _-_, _*_, _/_, _^_, _≤_, _<_, min}
 use native.Mathlib.Omega.{arith}
 use borrow.Author.Tests.{leb-true, eqb-true, le-ltb}
 use lib.Dec.{leb, ltb, eqb}
 use lib.IntN.{ℤ, pos, negsuc, natAbs}
-use lib.Signed.{leZ}
+use lib.ListN.{getD}
+use lib.Signed.{leZ, mag}
+use mir.Syntax.{Width, w16, w32}
+use mir.Val.{toZ, ofZ, hbits}
 use Rattle.rows.specs.Numbers.{up}
+use Rattle.rows.specs.Places.{pixel, around}
 use Rattle.rows.specs.Subpel.{family}
 use Rattle.rows.specs.Warp.{filterNo, isThere, every, allThere}
 use Rattle.rows.proofs.Laws.Places.{by-lt}
 use Rattle.rows.proofs.Laws.Fill.{and-true}
+use Rattle.rows.proofs.Laws.Signed.{back, fit}
 use Rattle.blocks.specs.Subpel.{typeOk, sixteenthOk, fractionOk, subpelOk, filterIn, on, filterOf, Held}
 use Rattle.blocks.specs.Warp.{warpPlaceOk}
-use Rattle.blocks.specs.Window.{before, after}
+use Rattle.blocks.specs.Window.{before, after, aroundPart}
 use Rattle.blocks.specs.Order.{kindSizeOk, motionOk, filtersOk}
 use Rattle.blocks.specs.Ready.{Block, Rows, Taps, Bilin, Pass, Warps, Windowed}
 use Rattle.blocks.specs.declared.order.Kind.{Kind}
@@ -74,9 +80,9 @@ pairs-in sl s w h x (suc zero) b m n e =
 pairs-in sl s w h x (suc (suc y)) b m n e = absurd (omega arith)
 
 -- ---- warp's size, and its passes
-eight : (m : Shears) (w h : ℕ) → kindSizeOk (Warp m) w h ≡ true → (w ≡ 8) × (h ≡ 8)
+pub warp-size : {k : Kind} {m : Shears} {sl s w h tl el wl : ℕ} → Windowed k sl s w h tl el wl → k ≡ Warp m → (w ≡ 8) × (h ≡ 8)
 unfolding kindSizeOk
-eight m w h e = let p = and-true (eqb w 8) (eqb h 8) e in (eqb-true w 8 (p .0), eqb-true h 8 (p .1))
+warp-size {k} {m} {sl} {s} {w} {h} p e = let q = and-true (eqb w 8) (eqb h 8) (rw e at (p .size)) in (eqb-true w 8 (q .0), eqb-true h 8 (q .1))
 
 passes : (n : ℕ) (mx my a b c d : ℤ) → warpPlaceOk mx && warpPlaceOk my ≡ true → allThere n mx my a b c d ≡ true → Pass n mx a b 15 × Pass n my c d 8
 unfolding allThere warpPlaceOk
@@ -86,6 +92,29 @@ passes n mx my a b c d p e =
       record { near = leb-true _ _ (m .0); there = λ r h c k. every-at 8 (λ i. isThere n (filterNo mx a b r i)) (every-at 15 _ (f .0) r h) c k },
       record { near = leb-true _ _ (m .1); there = λ r h i k. every-at 8 (λ i. isThere n (filterNo my c d r i)) (every-at 8 _ (f .1) r h) i k },
     )
+
+-- ---- a kind by its numbers as a call passes them: they are what they were, since each is in the range of its type
+abbrev Told : Width → ℤ → Type 0 → Type 0 → Type 0
+Told w z A B = (A × (mag z < 2 ^ hbits w)) × B
+
+abbrev passed : Width → ℤ → ℤ
+passed w z = toZ w (ofZ w z)
+
+pub subpel-passed : {k : Kind} {m : SubpelMotion} {A B C D : Type 0} → k ≡ Subpel m → Told w32 (m .mx) A (Told w32 (m .my) B (Told w32 (m .«filter_type») C D))
+    → k ≡ Subpel (record { mx = passed w32 (m .mx); my = passed w32 (m .my); «filter_type» = passed w32 (m .«filter_type») })
+subpel-passed e g = rw (back (fit w32 (g .0 .1)), back (fit w32 (g .1 .0 .1)), back (fit w32 (g .1 .1 .0 .1))) e
+
+pub bilin-passed : {k : Kind} {m : BilinMotion} {A B C : Type 0} → k ≡ Bilinear m → Told w32 (m .mx) A (Told w32 (m .my) B C)
+    → k ≡ Bilinear (record { mx = passed w32 (m .mx); my = passed w32 (m .my) })
+bilin-passed e g = rw (back (fit w32 (g .0 .1)), back (fit w32 (g .1 .0 .1))) e
+
+pub warp-passed : {k : Kind} {m : Shears} {A B C D E F G : Type 0} → k ≡ Warp m
+    → Told w16 (m .a) A (Told w16 (m .b) B (Told w16 (m .c) C (Told w16 (m .d) D (Told w32 (m .mx) E (Told w32 (m .my) F G)))))
+    → k ≡ Warp (record { a = passed w16 (m .a); b = passed w16 (m .b); c = passed w16 (m .c); d = passed w16 (m .d); mx = passed w32 (m .mx); my = passed w32 (m .my) })
+warp-passed e g =
+    let n = g .1 .1 .1 .1 in
+    rw (back (fit w16 (g .0 .1)), back (fit w16 (g .1 .0 .1)), back (fit w16 (g .1 .1 .0 .1)), back (fit w16 (g .1 .1 .1 .0 .1)),
+    back (fit w32 (n .0 .1)), back (fit w32 (n .1 .0 .1))) e
 
 -- ---- what each kind's rows rely on
 module _ {k : Kind} {sl s w h tl el wl dl ds : ℕ} (p : Windowed k sl s w h tl el wl) (dst : Rows dl ds w h) where
@@ -136,7 +165,7 @@ module _ {k : Kind} {sl s w h tl el wl dl ds : ℕ} (p : Windowed k sl s w h tl 
   unfolding before after motionOk filtersOk
   warp-ready {m} e =
       let q : Windowed (Warp m) sl s w h tl el wl = rw e at p in
-      let z = eight m w h (q .size) in
+      let z = warp-size p e in
       let f = passes (wl / 8) (m .mx) (m .my) (m .a) (m .b) (m .c) (m .d) (q .motion) (q .filters) in
       let r = rw (z .0, z .1) at (q .src) in
       record {
@@ -145,3 +174,12 @@ module _ {k : Kind} {sl s w h tl el wl dl ds : ℕ} (p : Windowed k sl s w h tl 
         first = f .0;
         second = f .1;
       }
+
+-- ---- a window without a margin before the block: the block begins at its first place, and a copied pixel is the one there
+pub no-margin : (s : ℕ) → 0 * s + 0 ≡ 0
+no-margin s = omega arith
+
+pub from-window : {A : Type 0} (rule : ℕ → A) (src : List ℕ) (s : ℕ)
+    → _≡_ {A = ℕ → ℕ → A} (λ i j. rule (pixel src s i j)) (λ i j. rule (aroundPart 0 src s i j 0 0))
+unfolding before around
+from-window rule src s = fun-ext λ i. fun-ext λ j. ap (λ (p : ℕ). rule (getD src p 0)) (omega arith)

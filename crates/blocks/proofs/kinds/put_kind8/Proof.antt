@@ -1,30 +1,89 @@
+use native.Mathlib.Omega.{arith}
 use borrow.Author.Needs.{needs}
+use mathlib.Core.Path.{ap, _∙_}
+use Rattle.rows.specs.Places.{fill}
+use Rattle.rows.specs.Copy.{put}
+use Rattle.blocks.specs.Window.{before}
+use Rattle.blocks.specs.Order.{putRule}
+use Rattle.blocks.proofs.Laws.KindsReady.{copy-ready, subpel-ready, bilin-ready, warp-ready, subpel-passed, bilin-passed, warp-passed, warp-size, from-window, no-margin}
 use Rattle.blocks.proofs.kinds.put_kind8.Statement.{statement}
 use Rattle.blocks.proofs.kinds.put_kind8.Tie as tie
+
+put-rows8-requires : tie.Need-put-rows8-requires
+put-rows8-requires c κs = let p = c .before .before .before .before .before .pre in copy-ready (p .0) (p .1) (c .before .enum-told .given .1)
+
+put-8tap-rows8-requires : tie.Need-put-8tap-rows8-requires
+put-8tap-rows8-requires c κs =
+    let k = c .before .before .before .before .before in
+    let p = k .before .before .before .before .pre in
+    subpel-ready (p .0) (p .1) (subpel-passed (k .k .given .1) (c .struct-told3 .given))
+
+put-bilin-rows8-requires : tie.Need-put-bilin-rows8-requires
+put-bilin-rows8-requires c κs =
+    let b = c .before in
+    let a = b .before in
+    let k = a .before .before .before .before in
+    let p = k .before .before .before .before .pre in
+    rw (a .above .ensures, c .above2 .ensures) (bilin-ready (p .0) (p .1) (bilin-passed (k .k2 .given .1) (b .struct-told5 .given)))
+
+warp-put8-requires : tie.Need-warp-put8-requires
+warp-put8-requires c κs =
+    let k = c .before .before .before .before .before .before .before .before in
+    let p = k .before .before .before .before .pre in
+    warp-ready (p .0) (p .1) (warp-passed (k .k3 .given .1) (c .struct-told11 .given))
+
+returns-2 : tie.Need-returns-2
+unfolding putRule before
+returns-2 c =
+    let t = c .before .before .before in
+    let k = t .before .before .before .before .before in
+    rw (subpel-passed (k .k .given .1) (t .struct-told3 .given)) (c .before .before .put-8tap-rows8 .ensures)
+
+returns : tie.Need-returns
+unfolding putRule
+returns c = rw (c .before .before .before .before .enum-told .given .1) (c .before .before .put-rows8 .ensures ∙ ap (fill _ _ _ _) (from-window put _ _))
+
+returns-3 : tie.Need-returns-3
+unfolding putRule before
+returns-3 c =
+    let b = c .before .before .before in
+    let a = b .before .before in
+    let k = a .before .before .before .before in
+    let e = rw (a .above .ensures, b .above2 .ensures) at (c .before .before .put-bilin-rows8 .ensures) in
+    rw (bilin-passed (k .k2 .given .1) (b .before .struct-told5 .given), no-margin (k .before .before .before .before .args .s)) e
+
+returns-4 : tie.Need-returns-4
+unfolding putRule before
+returns-4 c =
+    let t = c .before .before .before in
+    let k = t .before .before .before .before .before .before .before .before in
+    let e = warp-passed (k .k3 .given .1) (t .struct-told11 .given) in
+    let z = warp-size (k .before .before .before .before .pre .0) e in
+    rw (z .0, z .1, e) (c .before .before .warp-put8 .ensures)
 
 pub put-kind8-spec : {M : Type 1} → statement M
 put-kind8-spec =
     tie.close
     (tie.spec
     (λ c. search needs)  -- enum-told
-    (λ c κs. ?)  -- put-rows8-requires
+    put-rows8-requires
     (λ c. search needs)  -- enum-known-k
-    (λ c. ?)  -- mul-put-8tap-rows8
-    (λ c. ?)  -- add-put-8tap-rows8
-    (λ c κs. let g = c .struct-told3 .given in let g1 = c .before .before .struct-told .given in ?)  -- put-8tap-rows8-requires
+    (λ c. omega (arith, c .before .before .before .before .before .before .pre .0 .src .most))  -- mul-put-8tap-rows8
+    (λ c. omega (arith, c .before .before .before .before .before .before .pre .0 .src .most))  -- add-put-8tap-rows8
+    put-8tap-rows8-requires
     (λ c. search needs)  -- enum-known-k-2
     (λ c κs. search needs)  -- above-requires
     (λ c κs. search needs)  -- above-requires-2
-    (λ c κs. ?)  -- put-bilin-rows8-requires
+    put-bilin-rows8-requires
     (λ c. search needs)  -- enum-known-k-3
-    (λ c. ?)  -- mul-warp-put8
-    (λ c. ?)  -- add-warp-put8
-    (λ c κs. let g = c .struct-told11 .given in ?)  -- warp-put8-requires
+    (λ c. omega (arith, c .before .before .before .before .before .before .pre .0 .src .most))  -- mul-warp-put8
+    (λ c. omega (arith, c .before .before .before .before .before .before .pre .0 .src .most))  -- add-warp-put8
+    warp-put8-requires
     (λ c. search needs)  -- same-length
-    (λ c. ?)
+    returns
     (λ c. search needs)  -- same-length
-    (λ c. ?)
+    returns-2
     (λ c. search needs)  -- same-length
-    (λ c. ?)
+    returns-3
     (λ c. search needs)  -- same-length
-    (λ c. ?))
+    returns-4)
