@@ -39,15 +39,17 @@ pub fn put_kind8(
     dst_stride: usize,
 )
     requires { ⌜ Windowed k (length (now src)) s w h (length (now subpel)) (length (now ext)) (length (now warp)) × Rows (length (now dst)) «dst_stride» w h ⌝ }
-    ensures { λ _. ⌜ now (dst .exit) ≡ fill (now (dst .entry)) «dst_stride» w h (λ i j. putRule 255 4 (now (subpel .entry)) (now (ext .entry)) (now (warp .entry)) k w h i j (aroundPart (kindNumber k) (now (src .entry)) s i j)) ⌝ }
+    ensures { λ _. ⌜ now (dst .exit) ≡ fill (now (dst .entry)) «dst_stride» w h
+        (λ i j. putRule 255 4 (now (subpel .entry)) (now (ext .entry)) (now (warp .entry)) k w h i j (aroundPart (kindNumber k) (now (src .entry)) s i j)) ⌝ }
 {
+    let first = 3 * s + 3; // the block's, behind a margin of 3
     match k {
         Kind::Copy => put_rows8(dst, dst_stride, src, s, w, h),
         Kind::Subpel(m) => put_8tap_rows8(
             dst,
             dst_stride,
             src,
-            3 * s + 3,
+            first,
             s,
             w,
             h,
@@ -72,7 +74,7 @@ pub fn put_kind8(
             dst_stride,
             src,
             s,
-            3 * s + 3,
+            first,
             m.a,
             m.b,
             m.c,
@@ -80,6 +82,198 @@ pub fn put_kind8(
             m.mx,
             m.my,
             warp,
+        ),
+    }
+}
+
+pub fn put_kind16(
+    d: DepthNumbers,
+    k: Kind,
+    src: &[u16],
+    s: usize,
+    w: usize,
+    h: usize,
+    subpel: &[i8],
+    ext: &[i8],
+    warp: &[i8],
+    dst: &mut [u16],
+    dst_stride: usize,
+)
+    requires { ⌜ Windowed k (length (now src)) s w h (length (now subpel)) (length (now ext)) (length (now warp)) × Rows (length (now dst)) «dst_stride» w h × (1 ≤ d .bits) × Bits (d .bits) (d .bias) ⌝ }
+    ensures { λ _. ⌜ now (dst .exit) ≡ fill (now (dst .entry)) «dst_stride» w h
+        (λ i j. putRule (d .max) (d .bits) (now (subpel .entry)) (now (ext .entry)) (now (warp .entry)) k w h i j (aroundPart (kindNumber k) (now (src .entry)) s i j)) ⌝ }
+{
+    let first = 3 * s + 3; // the block's, behind a margin of 3
+    match k {
+        Kind::Copy => put_rows16(dst, dst_stride, src, s, w, h),
+        Kind::Subpel(m) => put_8tap_rows16(
+            d,
+            dst,
+            dst_stride,
+            src,
+            first,
+            s,
+            w,
+            h,
+            m.mx,
+            m.my,
+            m.filter_type,
+            subpel,
+            ext,
+        ),
+        Kind::Bilinear(m) => put_bilin_rows16(
+            dst,
+            dst_stride,
+            src,
+            s,
+            w,
+            h,
+            above(m.mx),
+            above(m.my),
+            d.bits,
+            d.max,
+        ),
+        Kind::Warp(m) => warp_put16(
+            dst,
+            dst_stride,
+            src,
+            s,
+            first,
+            m.a,
+            m.b,
+            m.c,
+            m.d,
+            m.mx,
+            m.my,
+            warp,
+            d.bits,
+            d.max,
+        ),
+    }
+}
+
+pub fn prep_kind8(
+    k: Kind,
+    src: &[u8],
+    s: usize,
+    w: usize,
+    h: usize,
+    subpel: &[i8],
+    ext: &[i8],
+    warp: &[i8],
+    tmp: &mut [i16],
+    tmp_stride: usize,
+)
+    requires { ⌜ Windowed k (length (now src)) s w h (length (now subpel)) (length (now ext)) (length (now warp)) × Rows (length (now tmp)) «tmp_stride» w h ⌝ }
+    ensures { λ _. ⌜ now (tmp .exit) ≡ fill (now (tmp .entry)) «tmp_stride» w h
+        (λ i j. prepRule 4 0 (now (subpel .entry)) (now (ext .entry)) (now (warp .entry)) k w h i j (aroundPart (kindNumber k) (now (src .entry)) s i j)) ⌝ }
+{
+    let first = 3 * s + 3; // the block's, behind a margin of 3
+    match k {
+        Kind::Copy => prep_rows8(tmp, tmp_stride, src, s, w, h),
+        Kind::Subpel(m) => prep_8tap_rows8(
+            tmp,
+            tmp_stride,
+            src,
+            first,
+            s,
+            w,
+            h,
+            m.mx,
+            m.my,
+            m.filter_type,
+            subpel,
+            ext,
+        ),
+        Kind::Bilinear(m) => prep_bilin_rows8(
+            tmp,
+            tmp_stride,
+            src,
+            s,
+            w,
+            h,
+            above(m.mx),
+            above(m.my),
+        ),
+        Kind::Warp(m) => warp_prep8(
+            tmp,
+            tmp_stride,
+            src,
+            s,
+            first,
+            m.a,
+            m.b,
+            m.c,
+            m.d,
+            m.mx,
+            m.my,
+            warp,
+        ),
+    }
+}
+
+pub fn prep_kind16(
+    d: DepthNumbers,
+    k: Kind,
+    src: &[u16],
+    s: usize,
+    w: usize,
+    h: usize,
+    subpel: &[i8],
+    ext: &[i8],
+    warp: &[i8],
+    tmp: &mut [i16],
+    tmp_stride: usize,
+)
+    requires { ⌜ Windowed k (length (now src)) s w h (length (now subpel)) (length (now ext)) (length (now warp)) × Rows (length (now tmp)) «tmp_stride» w h × (1 ≤ d .bits) × Bits (d .bits) (d .bias) ⌝ }
+    ensures { λ _. ⌜ now (tmp .exit) ≡ fill (now (tmp .entry)) «tmp_stride» w h
+        (λ i j. prepRule (d .bits) (d .bias) (now (subpel .entry)) (now (ext .entry)) (now (warp .entry)) k w h i j (aroundPart (kindNumber k) (now (src .entry)) s i j)) ⌝ }
+{
+    let first = 3 * s + 3; // the block's, behind a margin of 3
+    match k {
+        Kind::Copy => prep_rows16(tmp, tmp_stride, src, s, w, h, d.bits, d.bias),
+        Kind::Subpel(m) => prep_8tap_rows16(
+            d,
+            tmp,
+            tmp_stride,
+            src,
+            first,
+            s,
+            w,
+            h,
+            m.mx,
+            m.my,
+            m.filter_type,
+            subpel,
+            ext,
+        ),
+        Kind::Bilinear(m) => prep_bilin_rows16(
+            tmp,
+            tmp_stride,
+            src,
+            s,
+            w,
+            h,
+            above(m.mx),
+            above(m.my),
+            d.bits,
+            d.bias,
+        ),
+        Kind::Warp(m) => warp_prep16(
+            tmp,
+            tmp_stride,
+            src,
+            s,
+            first,
+            m.a,
+            m.b,
+            m.c,
+            m.d,
+            m.mx,
+            m.my,
+            warp,
+            d.bits,
+            d.bias,
         ),
     }
 }

@@ -63,10 +63,10 @@ taps-last : (sl s w h x y : ℕ) → Block w h → x ≤ 1 → y ≤ 1 → (3 + 
 taps-last sl s w h x y b m n e =
     let z : 3 + h + 4 - 1 ≡ h - 1 + 7 = omega (arith, b) in
     go y n (rw z at e) where
-  go : (y : ℕ) → y ≤ 1 → (h - 1 + 7) * s + (3 + w + 4) ≤ sl → 3 * s + 3 + (h - 1 + 4 * y) * s + (w - 1 + 4 * x) < sl
-  go zero n e = omega (arith, b)
-  go (suc zero) n e = omega (arith, b)
-  go (suc (suc y)) n e = absurd (omega arith)
+      go : (y : ℕ) → y ≤ 1 → (h - 1 + 7) * s + (3 + w + 4) ≤ sl → 3 * s + 3 + (h - 1 + 4 * y) * s + (w - 1 + 4 * x) < sl
+      go zero n e = omega (arith, b)
+      go (suc zero) n e = omega (arith, b)
+      go (suc (suc y)) n e = absurd (omega arith)
 
 -- and those of the pairs of a bilinear block
 pairs-in : (sl s w h x y : ℕ) → Block w h → x ≤ 1 → y ≤ 1 → (0 + h + 1 - 1) * s + (0 + w + 1) ≤ sl → (h + y - 1) * s + (w + x) ≤ sl
@@ -113,8 +113,14 @@ pub warp-passed : {k : Kind} {m : Shears} {A B C D E F G : Type 0} → k ≡ War
     → k ≡ Warp (record { a = passed w16 (m .a); b = passed w16 (m .b); c = passed w16 (m .c); d = passed w16 (m .d); mx = passed w32 (m .mx); my = passed w32 (m .my) })
 warp-passed e g =
     let n = g .1 .1 .1 .1 in
-    rw (back (fit w16 (g .0 .1)), back (fit w16 (g .1 .0 .1)), back (fit w16 (g .1 .1 .0 .1)), back (fit w16 (g .1 .1 .1 .0 .1)),
-    back (fit w32 (n .0 .1)), back (fit w32 (n .1 .0 .1))) e
+    rw (
+      back (fit w16 (g .0 .1)),
+      back (fit w16 (g .1 .0 .1)),
+      back (fit w16 (g .1 .1 .0 .1)),
+      back (fit w16 (g .1 .1 .1 .0 .1)),
+      back (fit w32 (n .0 .1)),
+      back (fit w32 (n .1 .0 .1)),
+    ) e
 
 -- ---- what each kind's rows rely on
 module _ {k : Kind} {sl s w h tl el wl dl ds : ℕ} (p : Windowed k sl s w h tl el wl) (dst : Rows dl ds w h) where

@@ -9,52 +9,52 @@ use Rattle.blocks.proofs.Laws.KindsReady.{copy-ready, subpel-ready, bil
 use Rattle.blocks.proofs.kinds.put_kind8.Statement.{statement}
 use Rattle.blocks.proofs.kinds.put_kind8.Tie as tie
 
-put-rows8-requires : tie.Need-put-rows8-requires
-put-rows8-requires c κs = let p = c .before .before .before .before .before .pre in copy-ready (p .0) (p .1) (c .before .enum-told .given .1)
+copy-requires : tie.Need-put-rows8-requires
+copy-requires c κs = let p = c .before .before .before .before .before .pre in copy-ready (p .0) (p .1) (c .before .enum-told .given .1)
 
-put-8tap-rows8-requires : tie.Need-put-8tap-rows8-requires
-put-8tap-rows8-requires c κs =
+subpel-requires : tie.Need-put-8tap-rows8-requires
+subpel-requires c κs =
     let k = c .before .before .before .before .before in
     let p = k .before .before .before .before .pre in
     subpel-ready (p .0) (p .1) (subpel-passed (k .k .given .1) (c .struct-told3 .given))
 
-put-bilin-rows8-requires : tie.Need-put-bilin-rows8-requires
-put-bilin-rows8-requires c κs =
+bilin-requires : tie.Need-put-bilin-rows8-requires
+bilin-requires c κs =
     let b = c .before in
     let a = b .before in
     let k = a .before .before .before .before in
     let p = k .before .before .before .before .pre in
     rw (a .above .ensures, c .above2 .ensures) (bilin-ready (p .0) (p .1) (bilin-passed (k .k2 .given .1) (b .struct-told5 .given)))
 
-warp-put8-requires : tie.Need-warp-put8-requires
-warp-put8-requires c κs =
+warp-requires : tie.Need-warp-put8-requires
+warp-requires c κs =
     let k = c .before .before .before .before .before .before .before .before in
     let p = k .before .before .before .before .pre in
     warp-ready (p .0) (p .1) (warp-passed (k .k3 .given .1) (c .struct-told11 .given))
 
-returns-2 : tie.Need-returns-2
+copy-returns : tie.Need-returns
+unfolding putRule
+copy-returns c = rw (c .before .before .before .before .enum-told .given .1) (c .before .before .put-rows8 .ensures ∙ ap (fill _ _ _ _) (from-window put _ _))
+
+subpel-returns : tie.Need-returns-2
 unfolding putRule before
-returns-2 c =
+subpel-returns c =
     let t = c .before .before .before in
     let k = t .before .before .before .before .before in
     rw (subpel-passed (k .k .given .1) (t .struct-told3 .given)) (c .before .before .put-8tap-rows8 .ensures)
 
-returns : tie.Need-returns
-unfolding putRule
-returns c = rw (c .before .before .before .before .enum-told .given .1) (c .before .before .put-rows8 .ensures ∙ ap (fill _ _ _ _) (from-window put _ _))
-
-returns-3 : tie.Need-returns-3
+bilin-returns : tie.Need-returns-3
 unfolding putRule before
-returns-3 c =
+bilin-returns c =
     let b = c .before .before .before in
     let a = b .before .before in
     let k = a .before .before .before .before in
     let e = rw (a .above .ensures, b .above2 .ensures) at (c .before .before .put-bilin-rows8 .ensures) in
     rw (bilin-passed (k .k2 .given .1) (b .before .struct-told5 .given), no-margin (k .before .before .before .before .args .s)) e
 
-returns-4 : tie.Need-returns-4
+warp-returns : tie.Need-returns-4
 unfolding putRule before
-returns-4 c =
+warp-returns c =
     let t = c .before .before .before in
     let k = t .before .before .before .before .before .before .before .before in
     let e = warp-passed (k .k3 .given .1) (t .struct-told11 .given) in
@@ -65,25 +65,23 @@ pub put-kind8-spec : {M : Type 1} → statement M
 put-kind8-spec =
     tie.close
     (tie.spec
+    (λ c. omega (arith, c .before .before .pre .0 .src .most))  -- mul-first
+    (λ c. omega (arith, c .before .before .pre .0 .src .most))  -- add-first
     (λ c. search needs)  -- enum-told
-    put-rows8-requires
+    copy-requires
     (λ c. search needs)  -- enum-known-k
-    (λ c. omega (arith, c .before .before .before .before .before .before .pre .0 .src .most))  -- mul-put-8tap-rows8
-    (λ c. omega (arith, c .before .before .before .before .before .before .pre .0 .src .most))  -- add-put-8tap-rows8
-    put-8tap-rows8-requires
+    subpel-requires
     (λ c. search needs)  -- enum-known-k-2
     (λ c κs. search needs)  -- above-requires
     (λ c κs. search needs)  -- above-requires-2
-    put-bilin-rows8-requires
+    bilin-requires
     (λ c. search needs)  -- enum-known-k-3
-    (λ c. omega (arith, c .before .before .before .before .before .before .pre .0 .src .most))  -- mul-warp-put8
-    (λ c. omega (arith, c .before .before .before .before .before .before .pre .0 .src .most))  -- add-warp-put8
-    warp-put8-requires
+    warp-requires
     (λ c. search needs)  -- same-length
-    returns
-    (λ c. search needs)  -- same-length
-    returns-2
-    (λ c. search needs)  -- same-length
-    returns-3
-    (λ c. search needs)  -- same-length
-    returns-4)
+    copy-returns
+    (λ c. search needs)  -- same-length-2
+    subpel-returns
+    (λ c. search needs)  -- same-length-3
+    bilin-returns
+    (λ c. search needs)  -- same-length-4
+    warp-returns)
