@@ -26,6 +26,7 @@ use crate::warp::warp_prep16;
 use crate::warp::warp_put8;
 use crate::warp::warp_put16;
 
+// The block as put.
 pub fn put_kind8(
     k: Kind,
     src: &[u8],
@@ -38,9 +39,10 @@ pub fn put_kind8(
     dst: &mut [u8],
     dst_stride: usize,
 )
-    requires { ⌜ Windowed k (length (now src)) s w h (length (now subpel)) (length (now ext)) (length (now warp)) × Rows (length (now dst)) «dst_stride» w h ⌝ }
-    ensures { λ _. ⌜ now (dst .exit) ≡ fill (now (dst .entry)) «dst_stride» w h
-        (λ i j. putRule 255 4 (now (subpel .entry)) (now (ext .entry)) (now (warp .entry)) k w h i j (aroundPart (kindNumber k) (now (src .entry)) s i j)) ⌝ }
+    requires { ⌜ Windowed k (length (now src)) s w h (length (now subpel)) (length (now ext)) (length (now warp))
+        × Rows (length (now dst)) «dst_stride» w h ⌝ }
+    ensures { λ _. ⌜ now (dst .exit) ≡ fill (now (dst .entry)) «dst_stride» w h (λ i j. putRule 255 4
+        (now (subpel .entry)) (now (ext .entry)) (now (warp .entry)) k w h i j (aroundPart (kindNumber k) (now (src .entry)) s i j)) ⌝ }
 {
     let first = 3 * s + 3; // the block's, behind a margin of 3
     match k {
@@ -99,9 +101,10 @@ pub fn put_kind16(
     dst: &mut [u16],
     dst_stride: usize,
 )
-    requires { ⌜ Windowed k (length (now src)) s w h (length (now subpel)) (length (now ext)) (length (now warp)) × Rows (length (now dst)) «dst_stride» w h × (1 ≤ d .bits) × Bits (d .bits) (d .bias) ⌝ }
-    ensures { λ _. ⌜ now (dst .exit) ≡ fill (now (dst .entry)) «dst_stride» w h
-        (λ i j. putRule (d .max) (d .bits) (now (subpel .entry)) (now (ext .entry)) (now (warp .entry)) k w h i j (aroundPart (kindNumber k) (now (src .entry)) s i j)) ⌝ }
+    requires { ⌜ Windowed k (length (now src)) s w h (length (now subpel)) (length (now ext)) (length (now warp))
+        × Rows (length (now dst)) «dst_stride» w h × (1 ≤ d .bits) × Bits (d .bits) (d .bias) ⌝ }
+    ensures { λ _. ⌜ now (dst .exit) ≡ fill (now (dst .entry)) «dst_stride» w h (λ i j. putRule (d .max) (d .bits)
+        (now (subpel .entry)) (now (ext .entry)) (now (warp .entry)) k w h i j (aroundPart (kindNumber k) (now (src .entry)) s i j)) ⌝ }
 {
     let first = 3 * s + 3; // the block's, behind a margin of 3
     match k {
@@ -152,6 +155,7 @@ pub fn put_kind16(
     }
 }
 
+// The block as intermediates: prep, and 8x8t of warp.
 pub fn prep_kind8(
     k: Kind,
     src: &[u8],
@@ -164,9 +168,10 @@ pub fn prep_kind8(
     tmp: &mut [i16],
     tmp_stride: usize,
 )
-    requires { ⌜ Windowed k (length (now src)) s w h (length (now subpel)) (length (now ext)) (length (now warp)) × Rows (length (now tmp)) «tmp_stride» w h ⌝ }
-    ensures { λ _. ⌜ now (tmp .exit) ≡ fill (now (tmp .entry)) «tmp_stride» w h
-        (λ i j. prepRule 4 0 (now (subpel .entry)) (now (ext .entry)) (now (warp .entry)) k w h i j (aroundPart (kindNumber k) (now (src .entry)) s i j)) ⌝ }
+    requires { ⌜ Windowed k (length (now src)) s w h (length (now subpel)) (length (now ext)) (length (now warp))
+        × Rows (length (now tmp)) «tmp_stride» w h ⌝ }
+    ensures { λ _. ⌜ now (tmp .exit) ≡ fill (now (tmp .entry)) «tmp_stride» w h (λ i j. prepRule 4 0
+        (now (subpel .entry)) (now (ext .entry)) (now (warp .entry)) k w h i j (aroundPart (kindNumber k) (now (src .entry)) s i j)) ⌝ }
 {
     let first = 3 * s + 3; // the block's, behind a margin of 3
     match k {
@@ -225,9 +230,10 @@ pub fn prep_kind16(
     tmp: &mut [i16],
     tmp_stride: usize,
 )
-    requires { ⌜ Windowed k (length (now src)) s w h (length (now subpel)) (length (now ext)) (length (now warp)) × Rows (length (now tmp)) «tmp_stride» w h × (1 ≤ d .bits) × Bits (d .bits) (d .bias) ⌝ }
-    ensures { λ _. ⌜ now (tmp .exit) ≡ fill (now (tmp .entry)) «tmp_stride» w h
-        (λ i j. prepRule (d .bits) (d .bias) (now (subpel .entry)) (now (ext .entry)) (now (warp .entry)) k w h i j (aroundPart (kindNumber k) (now (src .entry)) s i j)) ⌝ }
+    requires { ⌜ Windowed k (length (now src)) s w h (length (now subpel)) (length (now ext)) (length (now warp))
+        × Rows (length (now tmp)) «tmp_stride» w h × (1 ≤ d .bits) × Bits (d .bits) (d .bias) ⌝ }
+    ensures { λ _. ⌜ now (tmp .exit) ≡ fill (now (tmp .entry)) «tmp_stride» w h (λ i j. prepRule (d .bits) (d .bias)
+        (now (subpel .entry)) (now (ext .entry)) (now (warp .entry)) k w h i j (aroundPart (kindNumber k) (now (src .entry)) s i j)) ⌝ }
 {
     let first = 3 * s + 3; // the block's, behind a margin of 3
     match k {

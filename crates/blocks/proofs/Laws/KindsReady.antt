@@ -1,12 +1,13 @@
--- A block of a kind and its window give what the kind's rows rely on. Assumes nothing.
+-- A block of a kind from its window: what the kind's rows rely on, its numbers as a call passes them, its first place and its pixels where no margin stands
+-- before it. Assumes nothing.
 use mathlib.Core.Path.{_≡_, refl, sym, ap, _∙_, fun-ext}
 use mathlib.Core.Bool.{Bool, true, false, _&&_, _||_}
 use mathlib.Core.List.{List}
-use Prim.Native.Nat.{ℕ, zero, suc, _+_, _-_, _*_, _/_, _^_, _≤_, _<_, min}
+use Prim.Native.Nat.{ℕ, zero, suc, _+_, _-_, _*_, _/_, _^_, _≤_, _<_}
 use native.Mathlib.Omega.{arith}
 use borrow.Author.Tests.{leb-true, eqb-true, le-ltb}
 use lib.Dec.{leb, ltb, eqb}
-use lib.IntN.{ℤ, pos, negsuc, natAbs}
+use lib.IntN.{ℤ, pos, negsuc}
 use lib.ListN.{getD}
 use lib.Signed.{leZ, mag}
 use mir.Syntax.{Width, w16, w32}
@@ -40,7 +41,8 @@ first-of : (a b : Bool) → a || b ≡ true → b ≡ false → a ≡ true
 first-of true b e f = refl
 first-of false b e f = sym f ∙ e
 
-held : (t f : ℤ) (side tl el : ℕ) → typeOk t ≡ true → fractionOk t f ≡ true → subpelOk tl ≡ true → filterIn t f el ≡ true → Held tl el (filterOf t (up f) side)
+held : (t f : ℤ) (side tl el : ℕ) → typeOk t ≡ true → fractionOk t f ≡ true → subpelOk tl ≡ true → filterIn t f el ≡ true
+    → Held tl el (filterOf t (up f) side)
 unfolding filterOf typeOk sixteenthOk fractionOk filterIn subpelOk
 held t (negsuc f) side tl el a b c d = tt
 held t (pos zero) side tl el a b c d = tt
@@ -58,15 +60,10 @@ taps-before s x zero a b = omega arith
 taps-before s x (suc zero) a b = omega arith
 taps-before s x (suc (suc y)) a b = absurd (omega arith)
 
-taps-last : (sl s w h x y : ℕ) → Block w h → x ≤ 1 → y ≤ 1 → (3 + h + 4 - 1) * s + (3 + w + 4) ≤ sl
-    → 3 * s + 3 + (h - 1 + 4 * y) * s + (w - 1 + 4 * x) < sl
-taps-last sl s w h x y b m n e =
-    let z : 3 + h + 4 - 1 ≡ h - 1 + 7 = omega (arith, b) in
-    go y n (rw z at e) where
-      go : (y : ℕ) → y ≤ 1 → (h - 1 + 7) * s + (3 + w + 4) ≤ sl → 3 * s + 3 + (h - 1 + 4 * y) * s + (w - 1 + 4 * x) < sl
-      go zero n e = omega (arith, b)
-      go (suc zero) n e = omega (arith, b)
-      go (suc (suc y)) n e = absurd (omega arith)
+taps-last : (sl s w h x y : ℕ) → 1 ≤ w → x ≤ 1 → y ≤ 1 → (h + 7) * s + (3 + w + 4) ≤ sl → 3 * s + 3 + (h + 4 * y) * s + (w - 1 + 4 * x) < sl
+taps-last sl s w h x zero m a b e = omega arith
+taps-last sl s w h x (suc zero) m a b e = omega arith
+taps-last sl s w h x (suc (suc y)) m a b e = absurd (omega arith)
 
 -- and those of the pairs of a bilinear block
 pairs-in : (sl s w h x y : ℕ) → Block w h → x ≤ 1 → y ≤ 1 → (0 + h + 1 - 1) * s + (0 + w + 1) ≤ sl → (h + y - 1) * s + (w + x) ≤ sl
@@ -84,7 +81,8 @@ pub warp-size : {k : Kind} {m : Shears} {sl s w h tl el wl : ℕ} → Windowed k
 unfolding kindSizeOk
 warp-size {k} {m} {sl} {s} {w} {h} p e = let q = and-true (eqb w 8) (eqb h 8) (rw e at (p .size)) in (eqb-true w 8 (q .0), eqb-true h 8 (q .1))
 
-passes : (n : ℕ) (mx my a b c d : ℤ) → warpPlaceOk mx && warpPlaceOk my ≡ true → allThere n mx my a b c d ≡ true → Pass n mx a b 15 × Pass n my c d 8
+passes : (n : ℕ) (mx my a b c d : ℤ) → warpPlaceOk mx && warpPlaceOk my ≡ true → allThere n mx my a b c d ≡ true
+    → Pass n mx a b 15 × Pass n my c d 8
 unfolding allThere warpPlaceOk
 passes n mx my a b c d p e =
     let m = and-true (warpPlaceOk mx) (warpPlaceOk my) p in
@@ -100,7 +98,8 @@ Told w z A B = (A × (mag z < 2 ^ hbits w)) × B
 abbrev passed : Width → ℤ → ℤ
 passed w z = toZ w (ofZ w z)
 
-pub subpel-passed : {k : Kind} {m : SubpelMotion} {A B C D : Type 0} → k ≡ Subpel m → Told w32 (m .mx) A (Told w32 (m .my) B (Told w32 (m .«filter_type») C D))
+pub subpel-passed : {k : Kind} {m : SubpelMotion} {A B C D : Type 0} → k ≡ Subpel m
+    → Told w32 (m .mx) A (Told w32 (m .my) B (Told w32 (m .«filter_type») C D))
     → k ≡ Subpel (record { mx = passed w32 (m .mx); my = passed w32 (m .my); «filter_type» = passed w32 (m .«filter_type») })
 subpel-passed e g = rw (back (fit w32 (g .0 .1)), back (fit w32 (g .1 .0 .1)), back (fit w32 (g .1 .1 .0 .1))) e
 
@@ -110,7 +109,14 @@ bilin-passed e g = rw (back (fit w32 (g .0 .1)), back (fit w32 (g .1 .0 .1))) e
 
 pub warp-passed : {k : Kind} {m : Shears} {A B C D E F G : Type 0} → k ≡ Warp m
     → Told w16 (m .a) A (Told w16 (m .b) B (Told w16 (m .c) C (Told w16 (m .d) D (Told w32 (m .mx) E (Told w32 (m .my) F G)))))
-    → k ≡ Warp (record { a = passed w16 (m .a); b = passed w16 (m .b); c = passed w16 (m .c); d = passed w16 (m .d); mx = passed w32 (m .mx); my = passed w32 (m .my) })
+    → k ≡ Warp (record {
+      a = passed w16 (m .a);
+      b = passed w16 (m .b);
+      c = passed w16 (m .c);
+      d = passed w16 (m .d);
+      mx = passed w32 (m .mx);
+      my = passed w32 (m .my);
+    })
 warp-passed e g =
     let n = g .1 .1 .1 .1 in
     rw (
@@ -132,21 +138,23 @@ module _ {k : Kind} {sl s w h tl el wl dl ds : ℕ} (p : Windowed k sl s w h tl 
       let f = rw z at (r .fits) in
       (p .block, dst, record { wide = omega (arith, r .wide); most = r .most; fits = omega arith })
 
-  pub subpel-ready : {m : SubpelMotion} → k ≡ Subpel m → Block w h × Rows dl ds w h × Taps sl (3 * s + 3) s w h (m .mx) (m .my) (m .«filter_type») tl el
+  pub subpel-ready : {m : SubpelMotion} → k ≡ Subpel m
+      → Block w h × Rows dl ds w h × Taps sl (3 * s + 3) s w h (m .mx) (m .my) (m .«filter_type») tl el
   unfolding before after motionOk filtersOk
   subpel-ready {m} e =
       let t = m .«filter_type» in
       let q : Windowed (Subpel m) sl s w h tl el wl = rw e at p in
       let n = and-true (typeOk t) (fractionOk t (m .mx) && fractionOk t (m .my)) (q .motion) in
       let f = and-true (fractionOk t (m .mx)) (fractionOk t (m .my)) (n .1) in
-      let i = and-true (filterIn t (m .mx) el) (filterIn t (m .my) el) (q .filters) in (
+      let i = and-true (filterIn t (m .mx) el) (filterIn t (m .my) el) (q .filters) in
+      let z : 3 + h + 4 - 1 ≡ h - 1 + 7 = omega (arith, p .block) in (
         p .block,
         dst,
         record {
           wide = omega (arith, q .src .wide);
           most = q .src .most;
           before = taps-before s (on (m .mx)) (on (m .my)) (omega arith) (omega arith);
-          last = taps-last sl s w h (on (m .mx)) (on (m .my)) (p .block) (omega arith) (omega arith) (q .src .fits);
+          last = taps-last sl s w (h - 1) (on (m .mx)) (on (m .my)) (p .block .w1) (omega arith) (omega arith) (rw z at (q .src .fits));
           across = held t (m .mx) w tl el (n .0) (f .0) (p .subpel) (i .0);
           down = held t (m .my) h tl el (n .0) (f .1) (p .subpel) (i .1);
         },

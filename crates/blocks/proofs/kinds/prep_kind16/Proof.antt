@@ -5,18 +5,23 @@ use Rattle.rows.specs.Places.{fill}
 use Rattle.rows.specs.Copy.{prep}
 use Rattle.blocks.specs.Window.{before}
 use Rattle.blocks.specs.Order.{prepRule}
-use Rattle.blocks.proofs.Laws.KindsReady.{copy-ready, subpel-ready, bilin-ready, warp-ready, subpel-passed, bilin-passed, warp-passed, warp-size, from-window, no-margin}
+use Rattle.blocks.proofs.Laws.KindsReady.{copy-ready, subpel-ready, bilin-ready, warp-ready}
+use Rattle.blocks.proofs.Laws.KindsReady.{subpel-passed, bilin-passed, warp-passed, warp-size, from-window, no-margin}
 use Rattle.blocks.proofs.kinds.prep_kind16.Statement.{statement}
 use Rattle.blocks.proofs.kinds.prep_kind16.Tie as tie
 
 copy-requires : tie.Need-prep-rows16-requires
-copy-requires c κs = let p = c .before .before .before .before .pre in let r = copy-ready (p .0) (p .1) (c .before .enum-told .given .1) in (r .0, r .1, r .2, p .3)
+copy-requires c κs =
+    let p = c .before .before .before .before .pre in
+    let r = copy-ready (p .0) (p .1) (c .before .enum-told .given .1) in
+    (r .0, r .1, r .2, p .3)
 
 subpel-requires : tie.Need-prep-8tap-rows16-requires
 subpel-requires c κs =
     let k = c .before .before .before .before .before in
     let p = k .before .before .before .pre in
-    let r = subpel-ready (p .0) (p .1) (subpel-passed (k .k .given .1) (c .struct-told3 .given)) in (p .3, r .0, r .1, r .2)
+    let r = subpel-ready (p .0) (p .1) (subpel-passed (k .k .given .1) (c .struct-told3 .given)) in
+    (p .3, r .0, r .1, r .2)
 
 bilin-requires : tie.Need-prep-bilin-rows16-requires
 bilin-requires c κs =
@@ -24,7 +29,7 @@ bilin-requires c κs =
     let a = b .before in
     let k = a .before .before .before .before in
     let p = k .before .before .before .pre in
-    rw (a .above .ensures, c .above2 .ensures) ((bilin-ready (p .0) (p .1) (bilin-passed (k .k2 .given .1) (b .struct-told5 .given)), p .3))
+    rw (a .above .ensures, c .above2 .ensures) (bilin-ready (p .0) (p .1) (bilin-passed (k .k2 .given .1) (b .struct-told5 .given)), p .3)
 
 warp-requires : tie.Need-warp-prep16-requires
 warp-requires c κs =

@@ -5,7 +5,8 @@ use Rattle.rows.specs.Places.{fill}
 use Rattle.rows.specs.Copy.{put}
 use Rattle.blocks.specs.Window.{before}
 use Rattle.blocks.specs.Order.{putRule}
-use Rattle.blocks.proofs.Laws.KindsReady.{copy-ready, subpel-ready, bilin-ready, warp-ready, subpel-passed, bilin-passed, warp-passed, warp-size, from-window, no-margin}
+use Rattle.blocks.proofs.Laws.KindsReady.{copy-ready, subpel-ready, bilin-ready, warp-ready}
+use Rattle.blocks.proofs.Laws.KindsReady.{subpel-passed, bilin-passed, warp-passed, warp-size, from-window, no-margin}
 use Rattle.blocks.proofs.kinds.put_kind16.Statement.{statement}
 use Rattle.blocks.proofs.kinds.put_kind16.Tie as tie
 
@@ -16,7 +17,8 @@ subpel-requires : tie.Need-put-8tap-rows16-requires
 subpel-requires c κs =
     let k = c .before .before .before .before .before in
     let p = k .before .before .before .before .pre in
-    let r = subpel-ready (p .0) (p .1) (subpel-passed (k .k .given .1) (c .struct-told3 .given)) in (p .3, r .0, r .1, r .2)
+    let r = subpel-ready (p .0) (p .1) (subpel-passed (k .k .given .1) (c .struct-told3 .given)) in
+    (p .3, r .0, r .1, r .2)
 
 bilin-requires : tie.Need-put-bilin-rows16-requires
 bilin-requires c κs =
@@ -24,7 +26,7 @@ bilin-requires c κs =
     let a = b .before in
     let k = a .before .before .before .before in
     let p = k .before .before .before .before .pre in
-    rw (a .above .ensures, c .above2 .ensures) ((bilin-ready (p .0) (p .1) (bilin-passed (k .k2 .given .1) (b .struct-told5 .given)), p .2, p .3 .bits4))
+    rw (a .above .ensures, c .above2 .ensures) (bilin-ready (p .0) (p .1) (bilin-passed (k .k2 .given .1) (b .struct-told5 .given)), p .2, p .3 .bits4)
 
 warp-requires : tie.Need-warp-put16-requires
 warp-requires c κs =

@@ -5,7 +5,8 @@ use Rattle.rows.specs.Places.{fill}
 use Rattle.rows.specs.Copy.{put}
 use Rattle.blocks.specs.Window.{before}
 use Rattle.blocks.specs.Order.{putRule}
-use Rattle.blocks.proofs.Laws.KindsReady.{copy-ready, subpel-ready, bilin-ready, warp-ready, subpel-passed, bilin-passed, warp-passed, warp-size, from-window, no-margin}
+use Rattle.blocks.proofs.Laws.KindsReady.{copy-ready, subpel-ready, bilin-ready, warp-ready}
+use Rattle.blocks.proofs.Laws.KindsReady.{subpel-passed, bilin-passed, warp-passed, warp-size, from-window, no-margin}
 use Rattle.blocks.proofs.kinds.put_kind8.Statement.{statement}
 use Rattle.blocks.proofs.kinds.put_kind8.Tie as tie
 
