@@ -10,7 +10,7 @@ const VARIABLE: &str = "HEMAVOLUPS_ARCHIVE";
 const PLACES: [&str; 2] = ["../dist/libblocks.a", "../target/staticlib/libblocks.a"];
 
 /// The functions that have a byte set and a 16-bit set.
-const WITH_SETS: [&str; 17] = [
+const WITH_SETS: [&str; 21] = [
     "hv_put",
     "hv_prep",
     "hv_avg",
@@ -28,6 +28,10 @@ const WITH_SETS: [&str; 17] = [
     "hv_sad_refine_mv",
     "hv_warp_affine_8x8",
     "hv_warp_affine_8x8t",
+    "hv_window",
+    "hv_row",
+    "hv_order_put",
+    "hv_order_prep",
 ];
 /// The functions without a set.
 const WITHOUT_SET: [&str; 3] = ["hv_resolve_divisor_32", "hv_get_shear_params", "hv_set_affine_mv2d"];

@@ -122,6 +122,9 @@ pub trait Px: Pixel + Number {
     /// A buffer of such pixels.
     fn buffer(room: Room<Self>) -> Buffer;
 
+    /// The pixels of such a buffer.
+    fn pixels(buffer: &Buffer) -> Option<&Room<Self>>;
+
     /// The original's depth, for depths it knows.
     fn depth(depth: i32) -> Self::Depth {
         Self::Depth::new(depth as u8)
@@ -139,6 +142,10 @@ impl Px for u8 {
     fn buffer(room: Room<u8>) -> Buffer {
         Buffer::Bytes(room)
     }
+
+    fn pixels(buffer: &Buffer) -> Option<&Room<u8>> {
+        if let Buffer::Bytes(room) = buffer { Some(room) } else { None }
+    }
 }
 
 impl Px for u16 {
@@ -151,5 +158,9 @@ impl Px for u16 {
 
     fn buffer(room: Room<u16>) -> Buffer {
         Buffer::Words(room)
+    }
+
+    fn pixels(buffer: &Buffer) -> Option<&Room<u16>> {
+        if let Buffer::Words(room) = buffer { Some(room) } else { None }
     }
 }

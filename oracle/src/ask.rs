@@ -1,6 +1,8 @@
 //! The original Rust, asked for its answer to an accepted call. Anything else that answers calls is asked in the same
 //! way: a type of its own with `Answers` for each call.
 
+pub mod order;
+
 use original::headers::WarpedMotionParams;
 use original::levels::MvXY;
 use original::tables::with_tables;

@@ -9,6 +9,7 @@ use archive::Linked;
 use crate::answer::Answer;
 use crate::ask::{Answers, Original};
 use crate::calls::Call;
+use crate::cut;
 use crate::lend::Places;
 use crate::library::Library;
 use crate::refuse::Refuse;
@@ -116,7 +117,8 @@ macro_rules! every_entry {
         $crate::every_entry! { @sets $run, $subject, $amount, $each;
             copy::Put, copy::Prep, combine::Avg, combine::WAvg, combine::Mask, combine::Blend, combine::Morph,
             combine::WMask, edge::EmuEdge, subpel::Put8tap, subpel::Prep8tap, bilinear::PutBilin, bilinear::PrepBilin,
-            search::SadNxn, search::SadRefineMv, warp::WarpAffine, warp::WarpAffineT }
+            search::SadNxn, search::SadRefineMv, warp::WarpAffine, warp::WarpAffineT, window::Window, window::Row,
+            order::OrderPut, order::OrderPrep }
         $crate::every_entry! { @plain $run, $subject, $amount, $each;
             shear::ResolveDivisor32, shear::GetShearParams, shear::SetAffineMv2d }
     }};
@@ -149,11 +151,12 @@ fn report(run: impl FnOnce(&mut dyn FnMut(Tally))) -> bool {
     differences == 0 && astray == 0
 }
 
-/// Compares the linked archive's functions with the original, and the original with the rules.
+/// Compares the linked archive's functions with the original, and the original with the rules; then blocks that are cut.
 pub fn library(amount: Amount) -> bool {
     match archive::PLACE {
         Some(place) => println!("C functions of {place}"),
         None => println!("no archive was found, so the Rust is compared with the rules alone"),
     }
-    report(|each| every_entry!(one_entry of Library<Linked, Places>, amount, each))
+    let well = report(|each| every_entry!(one_entry of Library<Linked, Places>, amount, each));
+    cut::run(amount) && well
 }

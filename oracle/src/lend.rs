@@ -28,7 +28,7 @@ macro_rules! numbers {
     };
 }
 
-numbers! { u8 i8 u16 i16 i32 usize }
+numbers! { u8 i8 u16 i16 u32 i32 usize }
 
 /// What the guard place with this index holds: neighbours differ, so that a shifted row is seen too.
 fn guard<T: Number>(index: usize) -> T {

@@ -14,6 +14,9 @@ const PERIOD: usize = 8191;
 pub struct Faults(u32);
 
 impl Faults {
+    /// No number is meant.
+    pub const NONE: Faults = Faults(0);
+
     /// Draws faults out of the numbers that the entry can give.
     pub fn draw(rng: &mut Rng, numbers: &[u32]) -> Self {
         let lot = rng.range(0, 99);

@@ -1,13 +1,15 @@
 //! `oracle`: the worked numbers. `oracle compare [N] [SEED]`: the library's C functions against the original, and the
 //! original against document 01's rules. `oracle guard [N] [SEED]`: the C functions on buffers at unreadable pages.
-//! `oracle differences`: where the original and document 01 part.
+//! `oracle cut [N] [SEED]`: blocks cut into rectangles, which `compare` does too. `oracle differences`: where the original
+//! and document 01 part.
 
 use std::process::ExitCode;
 
 use oracle::compare::{self, Amount};
-use oracle::{differences, guard, worked};
+use oracle::{cut, differences, guard, worked};
 
-const USAGE: &str = "usage: oracle | oracle compare [N] [SEED] | oracle guard [N] [SEED] | oracle differences";
+const USAGE: &str = "usage: oracle | oracle compare [N] [SEED] | oracle guard [N] [SEED] | oracle cut [N] [SEED] | \
+                     oracle differences";
 
 fn main() -> ExitCode {
     let arguments: Vec<String> = std::env::args().skip(1).collect();
@@ -16,6 +18,7 @@ fn main() -> ExitCode {
         [] => worked::print(),
         ["compare", numbers @ ..] => amount(numbers).map_or_else(usage, compare::library),
         ["guard", numbers @ ..] => amount(numbers).map_or_else(usage, guard::run),
+        ["cut", numbers @ ..] => amount(numbers).map_or_else(usage, cut::run),
         ["differences"] => {
             differences::print();
             true

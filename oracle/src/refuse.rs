@@ -24,6 +24,8 @@ macro_rules! lowest {
     }};
 }
 
+mod order;
+
 /// Is a number outside its range?
 fn outside(value: i128, low: i128, high: i128) -> bool {
     value < low || value > high
@@ -183,23 +185,34 @@ fn subpel_number<P: Px>(from: &subpel::Source<P>, stride: usize, room: impl Fn()
     lowest! {
         1 if bad_block(from.w, from.h),
         2 if bad_stride(stride, from.w) || bad_stride(from.src_stride, from.w),
-        3 if bad_depth::<P>(from.depth) || bad_motion(from),
-        4 if from.subpel.len() != 600 || !from.ext.len().is_multiple_of(8) || filter_missing(from),
+        3 if bad_depth::<P>(from.depth) || bad_motion(from.filter_type, from.mx, from.my),
+        4 if bad_subpel(&from.subpel) || part_filter(&from.ext),
+        4 if filter_missing(&from.ext, from.filter_type, from.mx, from.my),
         5 if taps_missing(from),
         6 if room(),
     }
 }
 
 /// Is the filter type outside -1 to 2, or a fraction outside 0 to 15 (type -1: below 0)?
-fn bad_motion<P: Px>(from: &subpel::Source<P>) -> bool {
-    let last = if from.filter_type == -1 { i128::MAX } else { 15 };
-    outside(from.filter_type as i128, -1, 2) || outside(from.mx as i128, 0, last) || outside(from.my as i128, 0, last)
+fn bad_motion(filter_type: i32, mx: i32, my: i32) -> bool {
+    let last = if filter_type == -1 { i128::MAX } else { 15 };
+    outside(filter_type as i128, -1, 2) || outside(mx as i128, 0, last) || outside(my as i128, 0, last)
+}
+
+/// Hasn't a subpel table 600 numbers?
+fn bad_subpel(table: &[i8]) -> bool {
+    table.len() != 600
+}
+
+/// Isn't a table a whole number of filters?
+fn part_filter(table: &[i8]) -> bool {
+    !table.len().is_multiple_of(8)
 }
 
 /// Does type -1 need a filter that isn't in ext? Fraction f needs filter f - 1.
-fn filter_missing<P: Px>(from: &subpel::Source<P>) -> bool {
-    let filters = (from.ext.len() / 8) as i128;
-    from.filter_type == -1 && (from.mx as i128 > filters || from.my as i128 > filters)
+fn filter_missing(ext: &[i8], filter_type: i32, mx: i32, my: i32) -> bool {
+    let filters = (ext.len() / 8) as i128;
+    filter_type == -1 && (mx as i128 > filters || my as i128 > filters)
 }
 
 /// Doesn't the source hold the place of each tap? Taps stand at -3 to +4 on an axis that has a fraction.
@@ -277,17 +290,22 @@ fn warp_number<P: Px>(from: &warp::Source<P>, stride: usize, room: impl Fn() -> 
     let (off, src_stride) = (from.src_off as i128, from.src_stride as i128);
     lowest! {
         2 if bad_stride(stride, 8) || bad_stride(from.src_stride, 8),
-        3 if bad_depth::<P>(from.depth) || past(from.mx, 1 << 20) || past(from.my, 1 << 20),
-        4 if !from.warp.len().is_multiple_of(8) || warp_filter_missing(from),
+        3 if bad_depth::<P>(from.depth) || bad_starts(from.mx, from.my),
+        4 if part_filter(&from.warp) || warp_filter_missing(&from.warp, from.abcd, from.mx, from.my),
         5 if misses(&from.src, off - 3 * src_stride - 3, off + 11 * src_stride + 11),
         6 if room(),
     }
 }
 
+/// Is a warp's mx or my outside ±2^20?
+fn bad_starts(mx: i32, my: i32) -> bool {
+    past(mx, 1 << 20) || past(my, 1 << 20)
+}
+
 /// Isn't one of the 184 filter numbers, of 15 rows across and 8 rows down, in the table?
-fn warp_filter_missing<P: Px>(from: &warp::Source<P>) -> bool {
-    let filters = (from.warp.len() / 8) as i128;
-    let [a, b, c, d] = from.abcd.map(i128::from);
+fn warp_filter_missing(table: &[i8], abcd: [i16; 4], mx: i32, my: i32) -> bool {
+    let filters = (table.len() / 8) as i128;
+    let [a, b, c, d] = abcd.map(i128::from);
     let missing = |start: i32, across: i128, down: i128, rows: i128| {
         (0..rows).any(|r| {
             (0..8).any(|col| {
@@ -296,7 +314,7 @@ fn warp_filter_missing<P: Px>(from: &warp::Source<P>) -> bool {
             })
         })
     };
-    missing(from.mx, a, b, 15) || missing(from.my, c, d, 8)
+    missing(mx, a, b, 15) || missing(my, c, d, 8)
 }
 
 impl<P: Px> Refuse for WarpAffine<P> {

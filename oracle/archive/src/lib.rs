@@ -145,6 +145,27 @@ sets! { WarpAffineT: hv_warp_affine_8x8t_8bpc, depth hv_warp_affine_8x8t_16bpc;
 tmp: *mut i16, tmp_len: usize, tmp_stride: usize, src: *const P, src_len: usize, src_stride: usize,
 src_off: usize, a: i16, b: i16, c: i16, d: i16, mx: i32, my: i32, warp: *const i8, warp_len: usize }
 
+sets! { Window: hv_window_8bpc, hv_window_16bpc;
+luma_w: usize, luma_h: usize, ss_hor: bool, ss_ver: bool, plane_no: u32, plane: *const P, plane_len: usize,
+plane_stride: usize, kind: u32, w: usize, h: usize, x: i64, y: i64, mode: u32, scratch: *mut P, scratch_len: usize,
+buffer: *mut u32, place: *mut usize, stride: *mut usize, len: *mut usize }
+
+sets! { Row: hv_row_8bpc, hv_row_16bpc;
+luma_w: usize, luma_h: usize, ss_hor: bool, ss_ver: bool, plane_no: u32, plane: *const P, plane_len: usize,
+plane_stride: usize, row: i64, buffer: *mut u32, place: *mut usize, stride: *mut usize, len: *mut usize }
+
+sets! { OrderPut: hv_order_put_8bpc, depth hv_order_put_16bpc;
+luma_w: usize, luma_h: usize, ss_hor: bool, ss_ver: bool, plane_no: u32, plane: *const P, plane_len: usize,
+plane_stride: usize, kind: u32, x: i64, y: i64, w: usize, h: usize, mx: i32, my: i32, filter_type: i32, a: i16, b: i16,
+c: i16, d: i16, subpel: *const i8, subpel_len: usize, ext: *const i8, ext_len: usize, warp: *const i8,
+warp_len: usize, scratch: *mut P, scratch_len: usize, dst: *mut P, dst_len: usize, dst_stride: usize }
+
+sets! { OrderPrep: hv_order_prep_8bpc, depth hv_order_prep_16bpc;
+luma_w: usize, luma_h: usize, ss_hor: bool, ss_ver: bool, plane_no: u32, plane: *const P, plane_len: usize,
+plane_stride: usize, kind: u32, x: i64, y: i64, w: usize, h: usize, mx: i32, my: i32, filter_type: i32, a: i16, b: i16,
+c: i16, d: i16, subpel: *const i8, subpel_len: usize, ext: *const i8, ext_len: usize, warp: *const i8,
+warp_len: usize, scratch: *mut P, scratch_len: usize, tmp: *mut i16, tmp_len: usize, tmp_stride: usize }
+
 plain! { ResolveDivisor32: hv_resolve_divisor_32;
 d: u32, recip: *const u16, recip_len: usize, y: *mut i32, shift: *mut i32 }
 

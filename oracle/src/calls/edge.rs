@@ -20,7 +20,7 @@ pub struct EmuEdge<P> {
 }
 
 /// A plane's side for a block's side: mostly small, for great planes cost time, or with room for the block.
-fn plane_side(rng: &mut Rng, block: usize, great: bool, wrong: bool) -> usize {
+pub fn plane_side(rng: &mut Rng, block: usize, great: bool, wrong: bool) -> usize {
     if wrong || great {
         return limits::side_up_to(rng, 16_384, wrong);
     }
@@ -30,7 +30,7 @@ fn plane_side(rng: &mut Rng, block: usize, great: bool, wrong: bool) -> usize {
 }
 
 /// A position: about the plane's borders as a block of this side sees them, at ±2^30, or outside.
-fn position(rng: &mut Rng, block: usize, plane: usize, wrong: bool) -> i64 {
+pub fn position(rng: &mut Rng, block: usize, plane: usize, wrong: bool) -> i64 {
     let limit = 1i64 << 30;
     if wrong {
         return rng.pick(&[limit + 1, -limit - 1, limit + 1, -limit - 1, 1 << 32, -(1 << 32), i64::MAX, i64::MIN]);

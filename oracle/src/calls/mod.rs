@@ -4,10 +4,12 @@ pub mod bilinear;
 pub mod combine;
 pub mod copy;
 pub mod edge;
+pub mod order;
 pub mod search;
 pub mod shear;
 pub mod subpel;
 pub mod warp;
+pub mod window;
 
 use std::fmt::Debug;
 

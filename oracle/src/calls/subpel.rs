@@ -37,16 +37,16 @@ pub struct Prep8tap<P> {
 }
 
 /// Filter type, fractions and tables of a call.
-struct Motion {
-    filter_type: i32,
-    mx: i32,
-    my: i32,
-    subpel: Room<i8>,
-    ext: Room<i8>,
+pub struct Motion {
+    pub filter_type: i32,
+    pub mx: i32,
+    pub my: i32,
+    pub subpel: Room<i8>,
+    pub ext: Room<i8>,
 }
 
 /// An ext table: the original's, or one of a few filters, none at times.
-fn ext_table(rng: &mut Rng, wrong: bool) -> Room<i8> {
+pub fn ext_table(rng: &mut Rng, wrong: bool) -> Room<i8> {
     if !wrong && rng.chance(30) {
         return tables::real_ext();
     }
@@ -56,7 +56,7 @@ fn ext_table(rng: &mut Rng, wrong: bool) -> Room<i8> {
 }
 
 /// Draws the motion. Number 4 comes from a table's length or from a fraction above the ext table.
-fn motion(rng: &mut Rng, faults: &Faults, numbers_wrong: [bool; 3]) -> Motion {
+pub fn motion(rng: &mut Rng, faults: &Faults, numbers_wrong: [bool; 3]) -> Motion {
     let [bad_type, bad_mx, bad_my] = numbers_wrong;
     let [bad_subpel, bad_ext, absent] = faults.among(rng, 4);
     let filter_type = if absent { -1 } else { limits::filter_type(rng, bad_type) };

@@ -99,13 +99,17 @@ fn place(rng: &mut Rng, faults: &Faults, stride: usize) -> (usize, usize) {
     }
 }
 
-/// Draws the source, then the destination's stride and length.
-fn draw<P: Px>(rng: &mut Rng, depth: i32, numbers: &[u32]) -> (Source<P>, usize, usize) {
-    let faults = Faults::draw(rng, numbers);
-    let [bad_to, bad_from] = faults.among(rng, 2);
-    let [bad_mx, bad_my, bad_depth] = faults.among(rng, 3);
-    // The byte set has no depth to be wrong, so a start is.
-    let bad_mx = bad_mx || (bad_depth && !P::TAKES_DEPTH);
+/// Shears, starts and table of a call.
+pub struct Shears {
+    pub abcd: [i16; 4],
+    pub mx: i32,
+    pub my: i32,
+    pub warp: Room<i8>,
+}
+
+/// Draws the shears. Number 4 comes from the table's length, from a filter below it or from one past its end.
+pub fn shears(rng: &mut Rng, faults: &Faults, starts_wrong: [bool; 2]) -> Shears {
+    let [bad_mx, bad_my] = starts_wrong;
     let [below_mx, below_my, absent, bad_length] = faults.among(rng, 4);
     let style = rng.range(0, 5);
     let abcd = [0; 4].map(|_: i16| shear(rng, style));
@@ -113,7 +117,17 @@ fn draw<P: Px>(rng: &mut Rng, depth: i32, numbers: &[u32]) -> (Source<P>, usize,
     let mx = start(rng, across.0, below_mx, bad_mx);
     let my = start(rng, down.0, below_my, bad_my);
     let needed = filters_needed(mx, across.1).max(filters_needed(my, down.1));
-    let warp = table(rng, needed, absent, bad_length);
+    Shears { abcd, mx, my, warp: table(rng, needed, absent, bad_length) }
+}
+
+/// Draws the source, then the destination's stride and length.
+fn draw<P: Px>(rng: &mut Rng, depth: i32, numbers: &[u32]) -> (Source<P>, usize, usize) {
+    let faults = Faults::draw(rng, numbers);
+    let [bad_to, bad_from] = faults.among(rng, 2);
+    let [bad_mx, bad_my, bad_depth] = faults.among(rng, 3);
+    // The byte set has no depth to be wrong, so a start is.
+    let bad_mx = bad_mx || (bad_depth && !P::TAKES_DEPTH);
+    let Shears { abcd, mx, my, warp } = shears(rng, &faults, [bad_mx, bad_my]);
     let src_stride = limits::stride(rng, 8, 15, bad_from);
     let (src_off, length) = place(rng, &faults, src_stride);
     let src = limits::pixels(rng, depth, length);

@@ -4,10 +4,12 @@ mod bilinear;
 mod combine;
 mod copy;
 mod edge;
+mod order;
 mod search;
 mod shear;
 mod subpel;
 mod warp;
+mod window;
 
 use std::marker::PhantomData;
 

@@ -5,10 +5,12 @@ mod bilinear;
 mod combine;
 mod copy;
 mod edge;
+mod order;
 mod search;
 pub mod shear;
 mod subpel;
 mod warp;
+pub mod window;
 
 use crate::answer::{Answer, Px};
 
