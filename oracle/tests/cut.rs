@@ -10,7 +10,7 @@ use oracle::rng::Rng;
 
 const AMOUNT: Amount = Amount { calls: 200, seed: 11 };
 
-/// Runs orders as document 01 says, each after it was changed, and changes the answer.
+/// What somebody does wrong who runs orders as document 01 says otherwise.
 trait Fault {
     /// Changes the order.
     fn before<P: Px>(_order: &mut Order<P>) {}
