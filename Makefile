@@ -1,6 +1,6 @@
 # make           prove every crate, and build into dist/ what there is
 # make test      the gate: compare with the Rust where its source is there, then rt ci, whose last line is the verdict
-# make compare   compare at length: N calls of each function at each depth, made from SEED
+# make compare   compare at length: N calls of each function at each depth, and N cut blocks of each kind, made from SEED
 # make wrong     try the wrong programs of wrong/, which the prover must refuse
 # make bench     measure speed against the Rust
 # make clean     remove what the others made

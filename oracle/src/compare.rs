@@ -138,17 +138,19 @@ macro_rules! every_entry {
 fn report(run: impl FnOnce(&mut dyn FnMut(Tally))) -> bool {
     // A panic is told as a difference of its call, so the usual message would only be in the way.
     panic::set_hook(Box::new(|_| {}));
-    let (mut calls, mut differences, mut astray) = (0, 0, 0);
+    let (mut calls, mut differences, mut astray, mut missing) = (0, 0, 0, 0);
     print_heads();
     run(&mut |tally: Tally| {
         tally.print();
         calls += tally.calls;
         differences += tally.differences;
         astray += tally.astray().len();
+        missing += !tally.there as u32;
     });
     let _ = panic::take_hook();
     println!("compared: {calls} calls, {differences} differences");
-    differences == 0 && astray == 0
+    // An archive has to have every function.
+    differences == 0 && astray == 0 && (missing == 0 || archive::PLACE.is_none())
 }
 
 /// Compares the linked archive's functions with the original, and the original with the rules; then blocks that are cut.
