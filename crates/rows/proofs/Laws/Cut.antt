@@ -135,13 +135,17 @@ unfolding Each
 each-both P Q S [] f a b = tt
 each-both P Q S (r ∷ rs) f a b = (f r (a .0) (b .0), each-both P Q S rs f (a .1) (b .1))
 
-covered-inside : (w h : ℕ) (rs : List Rect) → Each (Inside w h) rs → (i j : ℕ) → covered rs i j ≡ true → (i < w) × (j < h)
+-- a place that is covered is in a rectangle, which has what each has
+pub in-one : {P : Rect → Type 0} {C : Type 0} (rs : List Rect) (i j : ℕ) → covered rs i j ≡ true → Each P rs → ((r : Rect) → P r → In r i j → C) → C
 unfolding covered Each
-covered-inside w h [] e i j c = absurd (true≢false (sym c))
-covered-inside w h (r ∷ rs) e i j c = go (has r i j) refl c (covered-inside w h rs (e .1) i j) where
-  go : (t : Bool) → has r i j ≡ t → t || covered rs i j ≡ true → (covered rs i j ≡ true → (i < w) × (j < h)) → (i < w) × (j < h)
-  go true q d rest = let p = box-true r i j q in (omega (arith, p, e .0), omega (arith, p, e .0))
+in-one [] i j c e k = absurd (true≢false (sym c))
+in-one {P} {C} (r ∷ rs) i j c e k = go (has r i j) refl c (λ d. in-one rs i j d (e .1) k) where
+  go : (t : Bool) → has r i j ≡ t → t || covered rs i j ≡ true → (covered rs i j ≡ true → C) → C
+  go true q d rest = k r (e .0) (box-true r i j q)
   go false q d rest = rest d
+
+covered-inside : (w h : ℕ) (rs : List Rect) → Each (Inside w h) rs → (i j : ℕ) → covered rs i j ≡ true → (i < w) × (j < h)
+covered-inside w h rs e i j c = in-one rs i j c e λ r a p. (omega (arith, p, a), omega (arith, p, a))
 
 -- the places of a cut are those of the block
 pub cut-places : (w h : ℕ) (rs : List Rect) → Cut w h rs → (i j : ℕ) → covered rs i j ≡ within w h i j
@@ -189,15 +193,19 @@ module _ {A : Type 0} where
 
 -- ---- rectangles that each have a picture of their own
 
-module _ {A : Type 0} (z : A) (s : ℕ) (pos : 0 < s) (f : ℕ → ℕ → A) (pic : Rect → ℕ → ℕ → A)
-    (moved : (r : Rect) (i j : ℕ) → i < r .w → j < r .h → pic r i j ≡ f (r .x + i) (r .y + j)) where
-  put-each : (rs : List Rect) (d : List A) → putEach s pic rs d ≡ putAll s f rs d
-  unfolding putEach putAll
-  put-each [] d = refl
-  put-each (r ∷ rs) d =
-      put-each rs (lentFrom (begins s r) (λ l. fill l s (r .w) (r .h) (pic r)) d)
-      ∙ ap (putAll s f rs) (ap (λ (m : List A). take (begins s r) d ++ m) (fill-same z s pos (drop (begins s r) d) (r .w) (r .h) (pic r) (λ i j. f (r .x + i) (r .y + j)) (moved r)))
+module _ {A : Type 0} (z : A) (s : ℕ) (pos : 0 < s) (f : ℕ → ℕ → A) (pic : Rect → ℕ → ℕ → A) where
+  -- a rectangle's picture is the block's, moved along
+  abbrev pub Moved : Rect → Type 0
+  Moved r = (i j : ℕ) → i < r .w → j < r .h → pic r i j ≡ f (r .x + i) (r .y + j)
 
-  -- a block that is cut, each rectangle predicted by itself, where a rectangle's picture is the block's, moved along
-  pub cut-each : (w h : ℕ) (rs : List Rect) (d : List A) → Cut w h rs → w ≤ s → Each (λ r. begins s r ≤ length d) rs → putEach s pic rs d ≡ fill d s w h f
-  cut-each w h rs d c ws fits = put-each rs d ∙ cut z s pos f w h rs d c ws fits
+  put-each : (rs : List Rect) (d : List A) → Each Moved rs → putEach s pic rs d ≡ putAll s f rs d
+  unfolding putEach putAll Each
+  put-each [] d e = refl
+  put-each (r ∷ rs) d e =
+      put-each rs (lentFrom (begins s r) (λ l. fill l s (r .w) (r .h) (pic r)) d) (e .1)
+      ∙ ap (λ (m : List A). putAll s f rs (take (begins s r) d ++ m)) (fill-same z s pos (drop (begins s r) d) (r .w) (r .h) (pic r) (λ i j. f (r .x + i) (r .y + j)) (e .0))
+
+  -- a block that is cut, each rectangle predicted by itself
+  pub cut-each : (w h : ℕ) (rs : List Rect) (d : List A) → Cut w h rs → w ≤ s → Each (λ r. begins s r ≤ length d) rs → Each Moved rs
+      → putEach s pic rs d ≡ fill d s w h f
+  cut-each w h rs d c ws fits moved = put-each rs d moved ∙ cut z s pos f w h rs d c ws fits
