@@ -1,18 +1,19 @@
 -- The cut law, for any picture: rectangles inside a block that together cover it leave the block, in whatever order they are written. Assumes nothing.
 use mathlib.Core.Path.{_≡_, refl, sym, ap, _∙_, subst}
+use mathlib.Core.Logic.{_⊎_, inl, ⊎-elim}
 use mathlib.Core.Bool.{Bool, true, false, _&&_, _||_, true≢false}
 use mathlib.Core.List.{List, [], _∷_, _++_, append-nil}
 use Prim.Native.Nat.{ℕ, zero, suc, _+_, _-_, _*_, _/_, _%_, _≤_, _<_}
 use native.Mathlib.Nat.{add-mul, add-zero, zero-add, mod-lt, div-add-mod'}
 use native.Mathlib.Omega.{arith}
 use lib.ListN.{length, getD, take, drop, length-append, length-take, length-drop, List·getD-append, drop-of-length-le}
-use lib.Seq.{getD-append-add, getD-take, getD-drop, length-take-le, take-all}
+use lib.Seq.{ext-getD, getD-append-add, getD-take, getD-drop, length-take-le, take-all}
 use lib.Dec.{ltb, leb}
 use borrow.Author.Tests.{le-leb, lt-leb, leb-true, leb-false}
 use Rattle.rows.specs.Places.{pick, within, fill, fillIn, span, splice, lentFrom}
 use Rattle.rows.specs.Cut.{Rect, has, begins, Inside, covered, Each, Cut, putEach}
 use Rattle.rows.proofs.Laws.Places.{by-lt, row-le, col-of, row-of}
-use Rattle.rows.proofs.Laws.Fill.{within-in, within-true, within-col, within-row, and-true, and-false, length-fill, length-fillIn, fillIn-at, fillIn-is, fillIn-ext, fillIn-join, fill-same}
+use Rattle.rows.proofs.Laws.Fill.{getD-paint, within-in, within-true, within-col, within-row, and-true, and-false, length-fill, length-fillIn, fillIn-at, fillIn-is, fillIn-ext, fillIn-join, fill-same}
 
 -- ---- a box, by its places
 
@@ -190,6 +191,23 @@ module _ {A : Type 0} where
   lent-back d r k g e =
       ap (λ (l : List A). take k d ++ (r ++ l)) (drop-of-length-le (drop k d) {i = length d - k} (omega (arith, length-drop k d)))
       ∙ ap (λ (l : List A). take k d ++ l) (append-nil r ∙ e ∙ ap g (rest-is d k))
+
+-- ---- a block by its places, whatever the stride
+
+module _ {A : Type 0} (z : A) (d : List A) (s w h : ℕ) (f : ℕ → ℕ → A) where
+  place-of-fill : (p : ℕ) → p < length d → getD (fill d s w h f) p z ≡ pick (within w h (p % s) (p / s)) (f (p % s) (p / s)) (getD d p z)
+  unfolding fill fillIn
+  place-of-fill p b = getD-paint z 0 _ d p b ∙ rw (zero-add p) refl
+
+  -- right of its columns or below its rows nothing changes
+  pub beside-fill : (p : ℕ) → p < length d → (w ≤ p % s) ⊎ (h ≤ p / s) → getD (fill d s w h f) p z ≡ getD d p z
+  beside-fill p b o =
+      place-of-fill p b
+      ∙ ap (λ (t : Bool). pick t (f (p % s) (p / s)) (getD d p z)) (⊎-elim (λ q. within-col w h (p % s) (p / s) q) (λ q. within-row w h (p % s) (p / s) q) o)
+
+  -- a block without columns
+  pub fill-narrow : w ≤ 0 → fill d s w h f ≡ d
+  fill-narrow e = ext-getD z (fill d s w h f) d (length-fill d s w h f) λ p b. beside-fill p (rw (length-fill d s w h f) at b) (inl (omega arith))
 
 -- ---- rectangles that each have a picture of their own
 

@@ -36,14 +36,13 @@ same-axis subpel ext type zero a b e = refl
 same-axis subpel ext (negsuc t) (suc f) a b e = refl
 same-axis subpel ext (pos t) (suc f) a b e = ap (λ (n : ℕ). by (filter subpel (15 * n + f))) (same-family t a b e)
 
-module _ (subpel ext : List ℤ) (type : ℤ) (mx my w h : ℕ) (r : Rect) (side : SameSide w h r) where
-  -- a rectangle on the block's side of four has the block's horizontal filter
-  pub same-across : axis subpel ext type mx (r .w) ≡ axis subpel ext type mx w
-  same-across = same-axis subpel ext type mx (r .w) w (side .width)
+-- so a rectangle on the block's side of four has the block's filters, by width across and by height down
+module _ (subpel ext : List ℤ) (type : ℤ) (fraction w h : ℕ) (r : Rect) (side : SameSide w h r) where
+  pub same-across : axis subpel ext type fraction (r .w) ≡ axis subpel ext type fraction w
+  same-across = same-axis subpel ext type fraction (r .w) w (side .width)
 
-  -- and the block's vertical filter
-  pub same-down : axis subpel ext type my (r .h) ≡ axis subpel ext type my h
-  same-down = same-axis subpel ext type my (r .h) h (side .height)
+  pub same-down : axis subpel ext type fraction (r .h) ≡ axis subpel ext type fraction h
+  same-down = same-axis subpel ext type fraction (r .h) h (side .height)
 
 -- ---- the cut
 
