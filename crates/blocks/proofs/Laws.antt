@@ -33,3 +33,4 @@ pub mod WarpAnswers
 pub mod Shears
 pub mod Local
 pub mod KindsReady
+pub mod DemandCalls
