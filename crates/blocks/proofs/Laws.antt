@@ -34,3 +34,4 @@ pub mod Shears
 pub mod Local
 pub mod KindsReady
 pub mod DemandCalls
+pub mod Demand

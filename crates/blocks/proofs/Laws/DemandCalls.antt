@@ -4,15 +4,17 @@ use mathlib.Core.Path.{_≡_, refl, sym, ap, ap₂, _∙_, fun-ext}
 use mathlib.Core.Bool.{Bool, true, false, true≢false}
 use mathlib.Core.List.{List, [], _∷_, _++_}
 use Prim.Native.Nat.{ℕ, zero, suc, _+_, _-_, _*_, _≤_, _<_}
+use native.Mathlib.Nat.{le-refl}
 use native.Mathlib.Omega.{arith}
 use lib.IntN.{ℤ, pos, negsuc, _+ℤ_}
 use lib.ListN.{length, getD, take, drop, length-drop}
-use Rattle.rows.specs.Numbers.{up}
+use Rattle.rows.specs.Numbers.{up, at}
 use Rattle.rows.specs.Depth.{bitsOf, biasOf, maxOf}
 use Rattle.rows.specs.Places.{fill, lentFrom}
 use Rattle.rows.specs.Subpel.{filterBits, put8, prep8}
 use Rattle.rows.specs.Cut.{Rect, Each, SameSide, begins, putEach}
-use Rattle.rows.proofs.Laws.Fill.{length-fill}
+use Rattle.rows.proofs.Laws.Places.{row-fits}
+use Rattle.rows.proofs.Laws.Fill.{length-fill, fill-in}
 use Rattle.rows.proofs.Laws.Cut.{length-lent}
 use Rattle.rows.proofs.Laws.Kernel.{around-moved, same-across, same-down}
 use Rattle.blocks.specs.Ready.{Block, Rows}
@@ -93,6 +95,14 @@ module _ (c : Same) (o : Order) (stride : ℕ) where
   pub call-tmp : (tmp : List ℤ) → callNumber c o (length tmp) stride ≡ 0 → callTmp c o stride tmp ≡ fill tmp stride (o .w) (o .h) (endlessPrep c o)
   unfolding orderTmp
   call-tmp tmp e = done (callNumber c o (length tmp) stride) _ tmp e
+
+-- in an intermediate without gaps, place by place
+pub call-tmp-at : (c : Same) (o : Order) (tmp : List ℤ) → callNumber c o (length tmp) (o .w) ≡ 0 → (i j : ℕ) → i < o .w → j < o .h
+    → at (callTmp c o (o .w) tmp) (j * o .w + i) ≡ endlessPrep c o i j
+call-tmp-at c o tmp e i j a b =
+    let m = call-met c o (o .w) (length tmp) e in
+    ap (λ (d : List ℤ). at d (j * o .w + i)) (call-tmp c o (o .w) tmp e)
+    ∙ fill-in (pos 0) (o .w) tmp (o .w) (o .h) (endlessPrep c o) i j (le-refl (o .w)) a b (omega (arith, row-fits (length tmp) (o .w) (o .w) (o .h) j (m .1 .fits) b))
 
 -- ---- the calls of a cut, run as put
 
