@@ -17,10 +17,10 @@ use Rattle.rows.specs.Cut.{Rect, Inside, Each, Cut, SameSide, begins}
 use Rattle.rows.proofs.Laws.Places.{by-lt, row-fits}
 use Rattle.rows.proofs.Laws.Fill.{length-fill, fill-in}
 use Rattle.rows.proofs.Laws.Cut.{each-map, each-both, in-one, beside-fill, fill-narrow, cut-each}
-use Rattle.blocks.specs.Order.{OrderPutAnswer, OrderPrepAnswer}
+use Rattle.blocks.specs.Order.{orderScratch, OrderPutAnswer, OrderPrepAnswer}
 use Rattle.blocks.specs.Cut.{Same, unwarped, cutOrder, callNumber, callDst, callTmp, putRects, putNumber, endlessPut, endlessPrep}
 use Rattle.blocks.specs.declared.order.Order.{Order}
-use Rattle.blocks.proofs.Laws.DemandCalls.{put-moved, prep-moved, call-met, call-dst, call-tmp-at, begins-in, puts, no-rows}
+use Rattle.blocks.proofs.Laws.DemandCalls.{put-moved, prep-moved, call-met, call-dst, call-tmp-at, length-scratch, begins-in, puts, no-rows}
 
 -- what is asked of the block and of the rectangles
 pub record CutBlock (o : Order) (rs : List Rect) : Type 0 where
@@ -105,3 +105,23 @@ module _ (c : Same) (o : Order) (rs : List Rect) (p : CutBlock o rs) where
   prep-at-once whole e =
       each-both _ (Inside (o .w) (o .h)) _ rs (λ r moved inside tmp n i j a b.
       moved tmp n i j a b ∙ sym (call-tmp-at c o whole e (r .x + i) (r .y + j) (omega (arith, inside)) (omega (arith, inside)))) cut-prep (p .cut .inside)
+
+-- ---- these calls are what the orders' contracts tell of, whatever scratch holds before each: a call keeps the length of scratch
+
+module _ (c : Same) (o : Order) (stride : ℕ) (scratch : List ℕ) (long : length scratch ≡ c .sl) (r : ℕ) (scratch′ : List ℕ) where
+  kept : scratch′ ≡ orderScratch r (c .frame) (c .planeNo) (c .plane) (c .planeStride) o scratch → length scratch′ ≡ c .sl
+  kept e = ap length e ∙ length-scratch r (c .frame) (c .planeNo) (c .plane) (c .planeStride) o scratch ∙ long
+
+  pub put-answer : (dst : List ℕ) {dst′ : List ℕ}
+      → OrderPutAnswer (c .deep) true (c .depth) (c .frame) (c .planeNo) (c .plane) (c .planeStride) o (c .subpel) (c .ext) (c .warp) scratch dst stride r scratch′ dst′
+      → (r ≡ callNumber c o (length dst) stride) × (length scratch′ ≡ c .sl) × (dst′ ≡ callDst c o stride dst)
+  put-answer dst {dst′} a =
+      let number : r ≡ callNumber c o (length dst) stride = rw long at (a .0) in
+      (number, kept (a .1), rw number at (a .2))
+
+  pub prep-answer : (tmp : List ℤ) {tmp′ : List ℤ}
+      → OrderPrepAnswer (c .deep) true (c .depth) (c .frame) (c .planeNo) (c .plane) (c .planeStride) o (c .subpel) (c .ext) (c .warp) scratch tmp stride r scratch′ tmp′
+      → (r ≡ callNumber c o (length tmp) stride) × (length scratch′ ≡ c .sl) × (tmp′ ≡ callTmp c o stride tmp)
+  prep-answer tmp {tmp′} a =
+      let number : r ≡ callNumber c o (length tmp) stride = rw long at (a .0) in
+      (number, kept (a .1), rw number at (a .2))

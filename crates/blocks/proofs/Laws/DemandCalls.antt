@@ -17,11 +17,13 @@ use Rattle.rows.proofs.Laws.Places.{row-fits}
 use Rattle.rows.proofs.Laws.Fill.{length-fill, fill-in}
 use Rattle.rows.proofs.Laws.Cut.{length-lent}
 use Rattle.rows.proofs.Laws.Kernel.{around-moved, same-across, same-down}
+use Rattle.blocks.specs.Refuse.{orSame}
 use Rattle.blocks.specs.Ready.{Block, Rows}
 use Rattle.blocks.specs.Subpel.{put8Rule, prep8Rule}
 use Rattle.blocks.specs.Window.{before, fetched, scratchOf}
 use Rattle.blocks.specs.Order.{kindNumber, orderTests, orderNumber, orderScratch, planeOf, putRule, prepRule, aroundIn, putPicture, prepPicture, orderDst, orderTmp}
 use Rattle.blocks.specs.Cut.{Same, unwarped, cutOrder, callNumber, callDst, callTmp, putRects, putNumber, endlessPut, endlessPrep}
+use Rattle.blocks.specs.declared.window.Frame.{Frame}
 use Rattle.blocks.specs.declared.order.Order.{Order}
 use Rattle.blocks.specs.declared.order.Kind.{Kind}
 use Rattle.blocks.specs.declared.order.Kind.the-variants.{Copy, Subpel, Bilinear, Warp}
@@ -103,6 +105,18 @@ call-tmp-at c o tmp e i j a b =
     let m = call-met c o (o .w) (length tmp) e in
     ap (λ (d : List ℤ). at d (j * o .w + i)) (call-tmp c o (o .w) tmp e)
     ∙ fill-in (pos 0) (o .w) tmp (o .w) (o .h) (endlessPrep c o) i j (le-refl (o .w)) a b (omega (arith, row-fits (length tmp) (o .w) (o .w) (o .h) j (m .1 .fits) b))
+
+-- ---- a call keeps the length of scratch
+
+length-fetched : (planes : Bool) (plane : List ℕ) (ps ww wh iw ih : ℕ) (x y : ℤ) (scratch : List ℕ) → length (fetched planes plane ps ww wh iw ih x y scratch) ≡ length scratch
+unfolding fetched
+length-fetched true plane ps ww wh iw ih x y scratch = refl
+length-fetched false plane ps ww wh iw ih x y scratch = length-fill scratch ww ww wh _
+
+pub length-scratch : (r : ℕ) (f : Frame) (planeNo : ℕ) (plane : List ℕ) (ps : ℕ) (o : Order) (scratch : List ℕ) → length (orderScratch r f planeNo plane ps o scratch) ≡ length scratch
+unfolding orderScratch scratchOf orSame
+length-scratch zero f planeNo plane ps o scratch = length-fetched _ plane ps _ _ _ _ _ _ scratch
+length-scratch (suc n) f planeNo plane ps o scratch = refl
 
 -- ---- the calls of a cut, run as put
 
