@@ -35,3 +35,4 @@ pub mod Local
 pub mod KindsReady
 pub mod DemandCalls
 pub mod Demand
+pub mod DemandHolds
