@@ -83,28 +83,28 @@ module _ (c : Same) (o : Order) (stride : ℕ) (rs : List Rect) (dst : List ℕ)
 
 -- ---- "run as prep, each has its own intermediate without gaps, and the law holds place by place"
 
--- column i of row j of what the call of the rectangle r leaves in its intermediate, whose stride is its width
-abbrev pub prepAt : Same → Order → Rect → List ℤ → (i j : ℕ) → ℤ
-prepAt c o r tmp i j = at (callTmp c (cutOrder o r) (r .w) tmp) (j * r .w + i)
-
--- "If no call is refused"
+-- "If no call is refused": the number of the rectangle r's call, whose intermediate has the rectangle's width as stride
 abbrev pub prepNumber : Same → Order → Rect → List ℤ → ℕ
 prepNumber c o r tmp = callNumber c (cutOrder o r) (length tmp) (r .w)
 
+-- what the call leaves at column i of row j is what the picture f of the block has there
+abbrev pub PlaceByPlace : Same → Order → (ℕ → ℕ → ℤ) → Rect → Type 0
+PlaceByPlace c o f r =
+    (tmp : List ℤ) → prepNumber c o r tmp ≡ 0 → (i j : ℕ) → i < r .w → j < r .h
+    → at (callTmp c (cutOrder o r) (r .w) tmp) (j * r .w + i) ≡ f (r .x + i) (r .y + j)
+
 module _ (c : Same) (o : Order) (rs : List Rect) (p : CutBlock o rs) where
-  -- each place is that of the block predicted on the endless plane
-  pub cut-prep : Each (λ r. (tmp : List ℤ) → prepNumber c o r tmp ≡ 0 → (i j : ℕ) → i < r .w → j < r .h → prepAt c o r tmp i j ≡ endlessPrep c o (r .x + i) (r .y + j)) rs
+  -- "the result is the block predicted on that endless plane"
+  pub cut-prep : Each (PlaceByPlace c o (endlessPrep c o)) rs
   cut-prep =
       each-map _ _ rs (λ r side tmp e i j a b.
       call-tmp-at c (cutOrder o r) tmp e i j a b ∙ prep-moved (c .depth) (c .subpel) (c .ext) (c .warp) o (p .kind) _ r side i j) (p .sides)
 
-  -- where the block's own call isn't refused, its intermediate has it
-  pub prep-at-once : (whole : List ℤ) → callNumber c o (length whole) (o .w) ≡ 0
-      → Each (λ r. (tmp : List ℤ) → prepNumber c o r tmp ≡ 0 → (i j : ℕ) → i < r .w → j < r .h
-          → prepAt c o r tmp i j ≡ at (callTmp c o (o .w) whole) ((r .y + j) * o .w + (r .x + i))) rs
+  -- where the block's own call isn't refused, its intermediate has the same
+  pub prep-at-once : (whole : List ℤ) → callNumber c o (length whole) (o .w) ≡ 0 → Each (PlaceByPlace c o (λ i j. at (callTmp c o (o .w) whole) (j * o .w + i))) rs
   prep-at-once whole e =
-      each-both _ (Inside (o .w) (o .h)) _ rs (λ r moved inside tmp n i j a b.
-      moved tmp n i j a b ∙ sym (call-tmp-at c o whole e (r .x + i) (r .y + j) (omega (arith, inside)) (omega (arith, inside)))) cut-prep (p .cut .inside)
+      each-both _ (Inside (o .w) (o .h)) _ rs (λ r law inside tmp n i j a b.
+      law tmp n i j a b ∙ sym (call-tmp-at c o whole e (r .x + i) (r .y + j) (omega (arith, inside)) (omega (arith, inside)))) cut-prep (p .cut .inside)
 
 -- ---- these calls are what the orders' contracts tell of, whatever scratch holds before each: a call keeps the length of scratch
 

@@ -6,8 +6,8 @@ use mathlib.Core.List.{List, [], _∷_, _++_}
 use Prim.Native.Nat.{ℕ, zero, suc, _+_, _-_, _*_, _≤_, _<_}
 use native.Mathlib.Nat.{le-refl}
 use native.Mathlib.Omega.{arith}
-use lib.IntN.{ℤ, pos, negsuc, _+ℤ_}
-use lib.ListN.{length, getD, take, drop, length-drop}
+use lib.IntN.{ℤ, pos}
+use lib.ListN.{length, take, drop, length-drop}
 use Rattle.rows.specs.Numbers.{up, at}
 use Rattle.rows.specs.Depth.{bitsOf, biasOf, maxOf}
 use Rattle.rows.specs.Places.{fill, lentFrom}
@@ -17,11 +17,11 @@ use Rattle.rows.proofs.Laws.Places.{row-fits}
 use Rattle.rows.proofs.Laws.Fill.{length-fill, fill-in}
 use Rattle.rows.proofs.Laws.Cut.{length-lent}
 use Rattle.rows.proofs.Laws.Kernel.{around-moved, same-across, same-down}
-use Rattle.blocks.specs.Refuse.{orSame}
+use Rattle.blocks.specs.Refuse.{Test, orSame}
 use Rattle.blocks.specs.Ready.{Block, Rows}
 use Rattle.blocks.specs.Subpel.{put8Rule, prep8Rule}
 use Rattle.blocks.specs.Window.{before, fetched, scratchOf}
-use Rattle.blocks.specs.Order.{kindNumber, orderTests, orderNumber, orderScratch, planeOf, putRule, prepRule, aroundIn, putPicture, prepPicture, orderDst, orderTmp}
+use Rattle.blocks.specs.Order.{kindNumber, orderTests, orderScratch, putRule, prepRule, aroundIn, putPicture, prepPicture, orderDst, orderTmp}
 use Rattle.blocks.specs.Cut.{Same, unwarped, cutOrder, callNumber, callDst, callTmp, putRects, putNumber, endlessPut, endlessPrep}
 use Rattle.blocks.specs.declared.window.Frame.{Frame}
 use Rattle.blocks.specs.declared.order.Order.{Order}
@@ -60,29 +60,35 @@ module _ (subpel ext warp : List ℤ) (w h : ℕ) (r : Rect) (side : SameSide w 
 
 -- ---- so its picture on a plane g is the block's, moved along
 
-module _ (depth : ℕ) (subpel ext warp : List ℤ) (o : Order) (kind : unwarped (o .kind) ≡ true) (g : ℤ → ℤ → ℕ) (r : Rect) (side : SameSide (o .w) (o .h) r) (i j : ℕ) where
+module _ (depth : ℕ) (subpel ext warp : List ℤ) (o : Order) (kind : unwarped (o .kind) ≡ true) (g : ℤ → ℤ → ℕ)
+    (r : Rect) (side : SameSide (o .w) (o .h) r) (i j : ℕ) where
   same-around : aroundIn (cutOrder o r) g i j ≡ aroundIn o g (r .x + i) (r .y + j)
   same-around = fun-ext λ a. fun-ext λ b. around-moved (before (kindNumber (o .kind))) g (o .x) (o .y) (r .x) (r .y) i j a b
 
   pub put-moved : putPicture depth subpel ext warp (cutOrder o r) g i j ≡ putPicture depth subpel ext warp o g (r .x + i) (r .y + j)
   unfolding putPicture
   put-moved =
-      put-same subpel ext warp (o .w) (o .h) r side (maxOf depth) (bitsOf depth) (o .kind) kind i j (r .x + i) (r .y + j) (aroundIn (cutOrder o r) g i j)
+      put-same subpel ext warp (o .w) (o .h) r side (maxOf depth) (bitsOf depth) (o .kind) kind i j (r .x + i) (r .y + j) _
       ∙ ap (putRule (maxOf depth) (bitsOf depth) subpel ext warp (o .kind) (o .w) (o .h) (r .x + i) (r .y + j)) same-around
 
   pub prep-moved : prepPicture depth subpel ext warp (cutOrder o r) g i j ≡ prepPicture depth subpel ext warp o g (r .x + i) (r .y + j)
   unfolding prepPicture
   prep-moved =
-      prep-same subpel ext warp (o .w) (o .h) r side (bitsOf depth) (biasOf depth) (o .kind) kind i j (r .x + i) (r .y + j) (aroundIn (cutOrder o r) g i j)
+      prep-same subpel ext warp (o .w) (o .h) r side (bitsOf depth) (biasOf depth) (o .kind) kind i j (r .x + i) (r .y + j) _
       ∙ ap (prepRule (bitsOf depth) (biasOf depth) subpel ext warp (o .kind) (o .w) (o .h) (r .x + i) (r .y + j)) same-around
 
 -- ---- a call that isn't refused
 
 module _ (c : Same) (o : Order) (stride : ℕ) where
+  abbrev callTests : (dl : ℕ) → List Test
+  callTests dl =
+      orderTests (c .deep) true (c .frame) (c .planeNo) (length (c .plane)) (c .planeStride) o (length (c .subpel)) (length (c .ext)) (length (c .warp))
+      (c .sl) dl stride
+
   -- has a block, and a buffer of dl places that holds its rows
   pub call-met : (dl : ℕ) → callNumber c o dl stride ≡ 0 → Block (o .w) (o .h) × Rows dl stride (o .w) (o .h)
   call-met dl e =
-      let m = all-met (orderTests (c .deep) true (c .frame) (c .planeNo) (length (c .plane)) (c .planeStride) o (length (c .subpel)) (length (c .ext)) (length (c .warp)) (c .sl) dl stride) e in
+      let m = all-met (callTests dl) e in
       let strides = m .1 .1 .1 .1 in
       let numbers = strides .1 .1 in
       let tables = numbers .1 .1 .1 .1 .1 .1 in
@@ -104,16 +110,19 @@ pub call-tmp-at : (c : Same) (o : Order) (tmp : List ℤ) → callNumber c o (le
 call-tmp-at c o tmp e i j a b =
     let m = call-met c o (o .w) (length tmp) e in
     ap (λ (d : List ℤ). at d (j * o .w + i)) (call-tmp c o (o .w) tmp e)
-    ∙ fill-in (pos 0) (o .w) tmp (o .w) (o .h) (endlessPrep c o) i j (le-refl (o .w)) a b (omega (arith, row-fits (length tmp) (o .w) (o .w) (o .h) j (m .1 .fits) b))
+    ∙ fill-in (pos 0) (o .w) tmp (o .w) (o .h) (endlessPrep c o) i j (le-refl (o .w)) a b
+    (omega (arith, row-fits (length tmp) (o .w) (o .w) (o .h) j (m .1 .fits) b))
 
 -- ---- a call keeps the length of scratch
 
-length-fetched : (planes : Bool) (plane : List ℕ) (ps ww wh iw ih : ℕ) (x y : ℤ) (scratch : List ℕ) → length (fetched planes plane ps ww wh iw ih x y scratch) ≡ length scratch
+length-fetched : (planes : Bool) (plane : List ℕ) (ps ww wh iw ih : ℕ) (x y : ℤ) (scratch : List ℕ)
+    → length (fetched planes plane ps ww wh iw ih x y scratch) ≡ length scratch
 unfolding fetched
 length-fetched true plane ps ww wh iw ih x y scratch = refl
 length-fetched false plane ps ww wh iw ih x y scratch = length-fill scratch ww ww wh _
 
-pub length-scratch : (r : ℕ) (f : Frame) (planeNo : ℕ) (plane : List ℕ) (ps : ℕ) (o : Order) (scratch : List ℕ) → length (orderScratch r f planeNo plane ps o scratch) ≡ length scratch
+pub length-scratch : (r : ℕ) (f : Frame) (planeNo : ℕ) (plane : List ℕ) (ps : ℕ) (o : Order) (scratch : List ℕ)
+    → length (orderScratch r f planeNo plane ps o scratch) ≡ length scratch
 unfolding orderScratch scratchOf orSame
 length-scratch zero f planeNo plane ps o scratch = length-fetched _ plane ps _ _ _ _ _ _ scratch
 length-scratch (suc n) f planeNo plane ps o scratch = refl
@@ -125,24 +134,27 @@ module _ (c : Same) (o : Order) (stride dl : ℕ) where
   pub begins-in : (r : Rect) → putNumber c o stride dl r ≡ 0 → begins stride r ≤ dl
   begins-in r e = let m = call-met c (cutOrder o r) stride (dl - begins stride r) e in omega (arith, m .0, m .1)
 
-  -- the calls write each rectangle's own picture
+  -- a rectangle's own picture, written into d
+  abbrev drawn : Rect → List ℕ → List ℕ
+  drawn r d = fill d stride (r .w) (r .h) (endlessPut c (cutOrder o r))
+
+  -- is what its call leaves
+  put-one : (r : Rect) (dst : List ℕ) → length dst ≡ dl → putNumber c o stride dl r ≡ 0
+      → lentFrom (begins stride r) (callDst c (cutOrder o r) stride) dst ≡ lentFrom (begins stride r) (drawn r) dst
+  put-one r dst l e =
+      let k = begins stride r in
+      let lent : length (drop k dst) ≡ dl - k = length-drop k dst ∙ ap (λ (n : ℕ). n - k) l in
+      ap (λ (d : List ℕ). take k dst ++ d) (call-dst c (cutOrder o r) stride (drop k dst) (ap (λ (n : ℕ). callNumber c (cutOrder o r) n stride) lent ∙ e))
+
+  -- so the calls write each rectangle's own picture
   pub puts : (rs : List Rect) (dst : List ℕ) → length dst ≡ dl → Each (λ r. putNumber c o stride dl r ≡ 0) rs
       → putRects c o stride rs dst ≡ putEach stride (λ r. endlessPut c (cutOrder o r)) rs dst
   unfolding putRects putEach Each
   puts [] dst l e = refl
   puts (r ∷ rs) dst l e =
-      puts rs (lentFrom k (callDst c (cutOrder o r) stride) dst) (ap length one ∙ long) (e .1) ∙ ap (putEach stride (λ r. endlessPut c (cutOrder o r)) rs) one where
-    k : ℕ
-    k = begins stride r
-
-    picture : List ℕ → List ℕ
-    picture = λ d. fill d stride (r .w) (r .h) (endlessPut c (cutOrder o r))
-
-    one : lentFrom k (callDst c (cutOrder o r) stride) dst ≡ lentFrom k picture dst
-    one = ap (λ (d : List ℕ). take k dst ++ d) (call-dst c (cutOrder o r) stride (drop k dst) (ap (λ (n : ℕ). callNumber c (cutOrder o r) n stride) (length-drop k dst ∙ ap (λ (n : ℕ). n - k) l) ∙ e .0))
-
-    long : length (lentFrom k picture dst) ≡ dl
-    long = length-lent 0 k picture dst (omega (arith, begins-in r (e .0))) (length-fill (drop k dst) stride (r .w) (r .h) (endlessPut c (cutOrder o r))) ∙ l
+      let one = put-one r dst l (e .0) in
+      let long = length-lent 0 (begins stride r) (drawn r) dst (omega (arith, begins-in r (e .0))) (length-fill (drop (begins stride r) dst) stride (r .w) (r .h) _) in
+      puts rs _ (ap length one ∙ long ∙ l) (e .1) ∙ ap (putEach stride (λ r. endlessPut c (cutOrder o r)) rs) one
 
   -- a stride of 0 carries no row
   pub no-rows : (rs : List Rect) (dst : List ℕ) → stride ≤ 0 → Each (λ r. putNumber c o stride dl r ≡ 0) rs → putRects c o stride rs dst ≡ dst

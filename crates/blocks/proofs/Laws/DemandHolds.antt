@@ -6,7 +6,7 @@ use mathlib.Core.List.{List, [], _∷_}
 use Prim.Native.Nat.{ℕ, _+_, _≤_}
 use native.Mathlib.Omega.{arith}
 use lib.Dec.{ltb}
-use lib.IntN.{ℤ, pos}
+use lib.IntN.{pos}
 use lib.ListN.{length, getD}
 use Rattle.rows.specs.Numbers.{sumZ}
 use Rattle.rows.specs.Places.{rowFrom, rowOf, paint, fillIn, fill, within}
@@ -21,11 +21,10 @@ use Rattle.blocks.specs.Mask.{flagsOk}
 use Rattle.blocks.specs.Subpel.{typeOk, sixteenthOk, fractionOk, subpelOk, filterIn, put8Rule}
 use Rattle.blocks.specs.Window.{planeSide, frameSizesOk, frameNamesOk, before, after}
 use Rattle.blocks.specs.Order.{kindSizeOk, motionOk, filtersOk, orderDst, putRule, putPicture}
-use Rattle.blocks.specs.Cut.{Same, unwarped, cutOrder, callNumber, putRects, putNumber, endlessPut}
-use Rattle.blocks.specs.declared.window.Frame.{Frame}
+use Rattle.blocks.specs.Cut.{Same, unwarped, callNumber, putRects, putNumber, endlessPut}
 use Rattle.blocks.specs.declared.order.Order.{Order}
 use Rattle.blocks.specs.declared.order.Kind.the-variants.{Subpel}
-use Rattle.blocks.proofs.Laws.Demand.{CutBlock, PutCut, prepNumber}
+use Rattle.blocks.proofs.Laws.Demand.{PutCut, prepNumber}
 
 -- a plane of one pixel, 7, and a table whose families 0 to 2 make every pixel 0 and whose families 3 and 4 keep it
 abbrev onePixel : ℕ → Same
@@ -67,10 +66,10 @@ parts-cut a b =
     record {
       inside = (record { right = omega arith; low = omega arith }, (record { right = omega arith; low = omega arith }, tt));
       covers =
-        λ i j p q.
-        by-lt i a
-        (λ l. rw (box-in (left a) i j (omega arith) (omega arith) (omega arith) (omega arith)) refl)
-        λ l. rw (box-in (right a b) i j (omega arith) (omega arith) (omega arith) (omega arith)) (or-true (has (left a) i j));
+          λ i j p q.
+          by-lt i a
+          (λ l. rw (box-in (left a) i j (omega arith) (omega arith) (omega arith) (omega arith)) refl)
+          λ l. rw (box-in (right a b) i j (omega arith) (omega arith) (omega arith) (omega arith)) (or-true (has (left a) i j));
     }
 
 -- no call is refused: of ten columns in five and five, run as put and as prep, and at once; of five columns in four and one

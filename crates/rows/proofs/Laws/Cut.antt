@@ -3,17 +3,17 @@ use mathlib.Core.Path.{_≡_, refl, sym, ap, _∙_, subst}
 use mathlib.Core.Logic.{_⊎_, inl, ⊎-elim}
 use mathlib.Core.Bool.{Bool, true, false, _&&_, _||_, true≢false}
 use mathlib.Core.List.{List, [], _∷_, _++_, append-nil}
-use Prim.Native.Nat.{ℕ, zero, suc, _+_, _-_, _*_, _/_, _%_, _≤_, _<_}
-use native.Mathlib.Nat.{add-mul, add-zero, zero-add, mod-lt, div-add-mod'}
+use Prim.Native.Nat.{ℕ, _+_, _-_, _*_, _/_, _%_, _≤_, _<_}
+use native.Mathlib.Nat.{add-mul, zero-add, mod-lt, div-add-mod'}
 use native.Mathlib.Omega.{arith}
-use lib.ListN.{length, getD, take, drop, length-append, length-take, length-drop, List·getD-append, drop-of-length-le}
+use lib.ListN.{length, getD, take, drop, length-append, length-drop, List·getD-append, drop-of-length-le}
 use lib.Seq.{ext-getD, getD-append-add, getD-take, getD-drop, length-take-le, take-all}
-use lib.Dec.{ltb, leb}
-use borrow.Author.Tests.{le-leb, lt-leb, leb-true, leb-false}
+use lib.Dec.{leb}
+use borrow.Author.Tests.{le-leb, leb-true}
 use Rattle.rows.specs.Places.{pick, within, fill, fillIn, span, splice, lentFrom}
 use Rattle.rows.specs.Cut.{Rect, has, begins, Inside, covered, Each, Cut, putEach}
-use Rattle.rows.proofs.Laws.Places.{by-lt, row-le, col-of, row-of}
-use Rattle.rows.proofs.Laws.Fill.{getD-paint, within-in, within-true, within-col, within-row, and-true, and-false, length-fill, length-fillIn, fillIn-at, fillIn-is, fillIn-ext, fillIn-join, fill-same}
+use Rattle.rows.proofs.Laws.Places.{by-lt, col-of, row-of}
+use Rattle.rows.proofs.Laws.Fill.{getD-paint, within-in, within-true, within-col, within-row, and-true, length-fill, length-fillIn, fillIn-at, fillIn-is, fillIn-ext, fillIn-join, fill-same}
 
 -- ---- a box, by its places
 

@@ -2,14 +2,14 @@
 -- so a block cut into rectangles, each predicted by itself, is the block, whenever each rectangle has the block's rule. Assumes nothing.
 use mathlib.Core.Path.{_≡_, refl, sym, ap, _∙_}
 use mathlib.Core.List.{List}
-use Prim.Native.Nat.{ℕ, zero, suc, _+_, _*_, _≤_, _<_}
+use Prim.Native.Nat.{ℕ, zero, suc, _+_, _≤_, _<_}
 use native.Mathlib.Nat.{add-assoc}
 use lib.Dec.{ltb}
 use lib.ListN.{length}
 use lib.IntN.{ℤ, pos, negsuc, negℤ, _+ℤ_, +ℤ-assoc, +ℤ-comm, pos-+ℤ-pos}
 use Rattle.rows.specs.Places.{fill}
 use Rattle.rows.specs.Edge.{aroundAt}
-use Rattle.rows.specs.Subpel.{Axis, whole, by, filter, family, axis}
+use Rattle.rows.specs.Subpel.{family, axis}
 use Rattle.rows.specs.Cut.{Rect, Cut, Each, SameSide, begins, putEach}
 use Rattle.rows.proofs.Laws.Cut.{cut-each, each-map}
 
@@ -26,15 +26,11 @@ around-moved m g x y rx ry i j a b = rw (place-margin x (negℤ (pos m)) rx (i +
 
 -- ---- the side of four: "a side above 4 uses family `type`, a side of 4 or less uses family 3 + (type & 1)"
 
-same-family : (type a b : ℕ) → ltb 4 a ≡ ltb 4 b → family type a ≡ family type b
-unfolding family
-same-family type a b e = rw e refl
-
 same-axis : (subpel ext : List ℤ) (type : ℤ) (fraction a b : ℕ) → ltb 4 a ≡ ltb 4 b → axis subpel ext type fraction a ≡ axis subpel ext type fraction b
-unfolding axis
+unfolding axis family
 same-axis subpel ext type zero a b e = refl
 same-axis subpel ext (negsuc t) (suc f) a b e = refl
-same-axis subpel ext (pos t) (suc f) a b e = ap (λ (n : ℕ). by (filter subpel (15 * n + f))) (same-family t a b e)
+same-axis subpel ext (pos t) (suc f) a b e = rw e refl
 
 -- so a rectangle on the block's side of four has the block's filters, by width across and by height down
 module _ (subpel ext : List ℤ) (type : ℤ) (fraction w h : ℕ) (r : Rect) (side : SameSide w h r) where
