@@ -139,12 +139,18 @@ module _ (c : Same) (o : Order) (stride dl : ℕ) where
   drawn r d = fill d stride (r .w) (r .h) (endlessPut c (cutOrder o r))
 
   -- is what its call leaves
-  put-one : (r : Rect) (dst : List ℕ) → length dst ≡ dl → putNumber c o stride dl r ≡ 0
+  pub put-one : (r : Rect) (dst : List ℕ) → length dst ≡ dl → putNumber c o stride dl r ≡ 0
       → lentFrom (begins stride r) (callDst c (cutOrder o r) stride) dst ≡ lentFrom (begins stride r) (drawn r) dst
   put-one r dst l e =
       let k = begins stride r in
       let lent : length (drop k dst) ≡ dl - k = length-drop k dst ∙ ap (λ (n : ℕ). n - k) l in
       ap (λ (d : List ℕ). take k dst ++ d) (call-dst c (cutOrder o r) stride (drop k dst) (ap (λ (n : ℕ). callNumber c (cutOrder o r) n stride) lent ∙ e))
+
+  pub length-one : (r : Rect) (dst : List ℕ) → length dst ≡ dl → putNumber c o stride dl r ≡ 0
+      → length (lentFrom (begins stride r) (callDst c (cutOrder o r) stride) dst) ≡ dl
+  length-one r dst l e =
+      let k = begins stride r in
+      ap length (put-one r dst l e) ∙ length-lent 0 k (drawn r) dst (omega (arith, begins-in r e)) (length-fill (drop k dst) stride (r .w) (r .h) _) ∙ l
 
   -- so the calls write each rectangle's own picture
   pub puts : (rs : List Rect) (dst : List ℕ) → length dst ≡ dl → Each (λ r. putNumber c o stride dl r ≡ 0) rs
@@ -152,9 +158,7 @@ module _ (c : Same) (o : Order) (stride dl : ℕ) where
   unfolding putRects putEach Each
   puts [] dst l e = refl
   puts (r ∷ rs) dst l e =
-      let one = put-one r dst l (e .0) in
-      let long = length-lent 0 (begins stride r) (drawn r) dst (omega (arith, begins-in r (e .0))) (length-fill (drop (begins stride r) dst) stride (r .w) (r .h) _) in
-      puts rs _ (ap length one ∙ long ∙ l) (e .1) ∙ ap (putEach stride (λ r. endlessPut c (cutOrder o r)) rs) one
+      puts rs _ (length-one r dst l (e .0)) (e .1) ∙ ap (putEach stride (λ r. endlessPut c (cutOrder o r)) rs) (put-one r dst l (e .0))
 
   -- a stride of 0 carries no row
   pub no-rows : (rs : List Rect) (dst : List ℕ) → stride ≤ 0 → Each (λ r. putNumber c o stride dl r ≡ 0) rs → putRects c o stride rs dst ≡ dst
