@@ -35,4 +35,5 @@ pub mod Local
 pub mod KindsReady
 pub mod DemandCalls
 pub mod Demand
+pub mod DemandRuns
 pub mod DemandHolds

@@ -5,22 +5,21 @@
 use mathlib.Core.Path.{_≡_, refl, sym, ap, _∙_}
 use mathlib.Core.Logic.{_⊎_}
 use mathlib.Core.Bool.{true}
-use mathlib.Core.List.{List, [], _∷_, _++_}
+use mathlib.Core.List.{List}
 use Prim.Native.Nat.{ℕ, _+_, _-_, _*_, _/_, _%_, _≤_, _<_}
 use native.Mathlib.Nat.{add-mul}
 use native.Mathlib.Omega.{arith}
 use lib.IntN.{ℤ}
-use lib.ListN.{length, getD, take, drop, length-drop}
+use lib.ListN.{length, getD}
 use Rattle.rows.specs.Numbers.{at}
 use Rattle.rows.specs.Places.{pixel, fill}
 use Rattle.rows.specs.Cut.{Rect, Inside, Each, Cut, SameSide, begins}
 use Rattle.rows.proofs.Laws.Places.{by-lt, row-fits}
 use Rattle.rows.proofs.Laws.Fill.{length-fill, fill-in}
 use Rattle.rows.proofs.Laws.Cut.{each-map, each-both, in-one, beside-fill, fill-narrow, cut-each}
-use Rattle.blocks.specs.Order.{orderScratch, OrderPutAnswer, OrderPrepAnswer}
 use Rattle.blocks.specs.Cut.{Same, unwarped, cutOrder, callNumber, callDst, callTmp, putRects, putNumber, endlessPut, endlessPrep}
 use Rattle.blocks.specs.declared.order.Order.{Order}
-use Rattle.blocks.proofs.Laws.DemandCalls.{put-moved, prep-moved, call-met, call-dst, call-tmp-at, length-scratch, begins-in, length-one, puts, no-rows}
+use Rattle.blocks.proofs.Laws.DemandCalls.{put-moved, prep-moved, call-met, call-dst, call-tmp-at, begins-in, puts, no-rows}
 
 -- what is asked of the block and of the rectangles
 pub record CutBlock (o : Order) (rs : List Rect) : Type 0 where
@@ -101,63 +100,8 @@ module _ (c : Same) (o : Order) (rs : List Rect) (p : CutBlock o rs) where
       call-tmp-at c (cutOrder o r) tmp e i j a b ∙ prep-moved (c .depth) (c .subpel) (c .ext) (c .warp) o (p .kind) _ r side i j) (p .sides)
 
   -- where the block's own call isn't refused, its intermediate has the same
-  pub prep-at-once : (whole : List ℤ) → callNumber c o (length whole) (o .w) ≡ 0 → Each (PlaceByPlace c o (λ i j. at (callTmp c o (o .w) whole) (j * o .w + i))) rs
+  pub prep-at-once : (whole : List ℤ) → callNumber c o (length whole) (o .w) ≡ 0
+      → Each (PlaceByPlace c o (λ i j. at (callTmp c o (o .w) whole) (j * o .w + i))) rs
   prep-at-once whole e =
       each-both _ (Inside (o .w) (o .h)) _ rs (λ r law inside tmp n i j a b.
       law tmp n i j a b ∙ sym (call-tmp-at c o whole e (r .x + i) (r .y + j) (omega (arith, inside)) (omega (arith, inside)))) cut-prep (p .cut .inside)
-
--- ---- the same of calls as the orders' contracts tell of them, whatever scratch holds before each
-
-abbrev PutAnswer : Same → Order → (stride : ℕ) → (scratch dst : List ℕ) → (r : ℕ) (scratch′ dst′ : List ℕ) → Type 0
-PutAnswer c o stride = λ scratch dst. OrderPutAnswer (c .deep) true (c .depth) (c .frame) (c .planeNo) (c .plane) (c .planeStride) o (c .subpel) (c .ext) (c .warp) scratch dst stride
-
-abbrev PrepAnswer : Same → Order → (stride : ℕ) → (scratch : List ℕ) (tmp : List ℤ) → (r : ℕ) (scratch′ : List ℕ) (tmp′ : List ℤ) → Type 0
-PrepAnswer c o stride = λ scratch tmp. OrderPrepAnswer (c .deep) true (c .depth) (c .frame) (c .planeNo) (c .plane) (c .planeStride) o (c .subpel) (c .ext) (c .warp) scratch tmp stride
-
-module _ (c : Same) (o : Order) (stride : ℕ) (scratch : List ℕ) (long : length scratch ≡ c .sl) (r : ℕ) (scratch′ : List ℕ) where
-  -- a call keeps the length of scratch
-  kept : scratch′ ≡ orderScratch r (c .frame) (c .planeNo) (c .plane) (c .planeStride) o scratch → length scratch′ ≡ c .sl
-  kept e = ap length e ∙ length-scratch r (c .frame) (c .planeNo) (c .plane) (c .planeStride) o scratch ∙ long
-
-  -- the call's number and buffer are those of `callNumber`, `callDst` and `callTmp`
-  pub put-answer : (dst dst′ : List ℕ) → PutAnswer c o stride scratch dst r scratch′ dst′
-      → (r ≡ callNumber c o (length dst) stride) × (length scratch′ ≡ c .sl) × (dst′ ≡ callDst c o stride dst)
-  put-answer dst dst′ a =
-      let number : r ≡ callNumber c o (length dst) stride = rw long at (a .0) in
-      (number, kept (a .1), rw number at (a .2))
-
-  pub prep-answer : (tmp tmp′ : List ℤ) → PrepAnswer c o stride scratch tmp r scratch′ tmp′
-      → (r ≡ callNumber c o (length tmp) stride) × (length scratch′ ≡ c .sl) × (tmp′ ≡ callTmp c o stride tmp)
-  prep-answer tmp tmp′ a =
-      let number : r ≡ callNumber c o (length tmp) stride = rw long at (a .0) in
-      (number, kept (a .1), rw number at (a .2))
-
--- the calls one after the other, as each contract leaves scratch and the part of dst that it was lent, all answering 0
-unfoldable pub Ran : Same → Order → (stride : ℕ) → List Rect → (scratch dst dst′ : List ℕ) → Type 0
-Ran c o stride [] scratch dst dst′ = dst′ ≡ dst
-Ran c o stride (r ∷ rs) scratch dst dst′ =
-    (scratch₁ : List ℕ) × (part : List ℕ)
-    × PutAnswer c (cutOrder o r) stride scratch (drop (begins stride r) dst) 0 scratch₁ part
-    × Ran c o stride rs scratch₁ (take (begins stride r) dst ++ part) dst′
-
-module _ (c : Same) (o : Order) (stride dl : ℕ) where
-  -- they are the calls of `putRects`, and none is refused
-  ran : (rs : List Rect) (scratch dst dst′ : List ℕ) → length scratch ≡ c .sl → length dst ≡ dl → Ran c o stride rs scratch dst dst′
-      → Each (λ r. putNumber c o stride dl r ≡ 0) rs × (dst′ ≡ putRects c o stride rs dst)
-  unfolding Ran Each putRects
-  ran [] scratch dst dst′ ls ld a = (tt, a)
-  ran (r ∷ rs) scratch dst dst′ ls ld a =
-      let k = begins stride r in
-      let call = put-answer c (cutOrder o r) stride scratch ls 0 (a .0) (drop k dst) (a .1) (a .2) in
-      let lent : length (drop k dst) ≡ dl - k = length-drop k dst ∙ ap (λ (n : ℕ). n - k) ld in
-      let number : putNumber c o stride dl r ≡ 0 = ap (λ (n : ℕ). callNumber c (cutOrder o r) n stride) (sym lent) ∙ sym (call .0) in
-      let one = ap (λ (d : List ℕ). take k dst ++ d) (call .2) in
-      let rest = ran rs (a .0) (take k dst ++ a .1) dst′ (call .1) (ap length one ∙ length-one c o stride dl r dst ld number) (a .3) in
-      ((number, rest .0), rest .1 ∙ ap (putRects c o stride rs) one)
-
--- demand 3, run as put: whatever calls were made so, the block predicted on the endless plane stands in dst, and nothing else changed
-pub run-put : (c : Same) (o : Order) (stride : ℕ) (rs : List Rect) (scratch dst dst′ : List ℕ) → CutBlock o rs → o .w ≤ stride → length scratch ≡ c .sl
-    → Ran c o stride rs scratch dst dst′ → dst′ ≡ fill dst stride (o .w) (o .h) (endlessPut c o)
-run-put c o stride rs scratch dst dst′ block carries ls a =
-    let calls = ran c o stride (length dst) rs scratch dst dst′ ls refl a in
-    calls .1 ∙ cut-put c o stride rs dst (record { block = block; carries = carries; accepted = calls .0 })

@@ -78,7 +78,8 @@ accepted : (depth : ℕ)
     × Each (λ r. prepNumber (onePixel depth) (row 10) r (rowOf 5 (λ t. pos 0)) ≡ 0) (parts 5 5)
     × (callNumber (onePixel depth) (row 10) 10 10 ≡ 0)
     × Each (λ r. putNumber (onePixel depth) (row 5) 5 5 r ≡ 0) (parts 4 1)
-unfolding Each rowOf rowFrom need sizeOk strideOk holds wholeFilters placeOk flagsOk typeOk sixteenthOk fractionOk subpelOk filterIn planeSide frameSizesOk frameNamesOk before after kindSizeOk motionOk filtersOk
+unfolding Each rowOf rowFrom need sizeOk strideOk holds wholeFilters placeOk flagsOk typeOk sixteenthOk fractionOk subpelOk filterIn
+    planeSide frameSizesOk frameNamesOk before after kindSizeOk motionOk filtersOk
 accepted depth = ((refl, (refl, tt)), (refl, (refl, tt)), refl, (refl, (refl, tt)))
 
 -- ---- ten columns in five and five meet all premises, at any depth that passed its test
@@ -99,7 +100,9 @@ zeros = 0 ∷ 0 ∷ 0 ∷ 0 ∷ 0 ∷ []
 
 -- the calls leave 7 everywhere
 five-cut : putRects (onePixel 8) (row 5) 5 (parts 4 1) zeros ≡ 7 ∷ 7 ∷ 7 ∷ 7 ∷ 7 ∷ []
-unfolding putRects orderDst orSame fill fillIn paint within rowOf rowFrom need sizeOk strideOk holds wholeFilters placeOk flagsOk typeOk sixteenthOk fractionOk subpelOk filterIn planeSide frameSizesOk frameNamesOk before after kindSizeOk motionOk filtersOk putPicture putRule put8Rule put8 axis family filter tapped S sumZ endless aroundAt
+unfolding putRects orderDst orSame fill fillIn paint within rowOf rowFrom need sizeOk strideOk holds wholeFilters placeOk flagsOk typeOk sixteenthOk
+    fractionOk subpelOk filterIn planeSide frameSizesOk frameNamesOk before after kindSizeOk motionOk filtersOk putPicture putRule put8Rule put8 axis
+    family filter tapped S sumZ endless aroundAt
 five-cut = refl
 
 -- the block is 0 everywhere
