@@ -14,12 +14,12 @@ use lib.ListN.{length, getD}
 use Rattle.rows.specs.Numbers.{at}
 use Rattle.rows.specs.Places.{pixel, fill}
 use Rattle.rows.specs.Cut.{Rect, Inside, Each, Cut, SameSide, begins}
-use Rattle.rows.proofs.Laws.Places.{by-lt, row-fits}
+use Rattle.rows.proofs.Laws.Places.{row-fits}
 use Rattle.rows.proofs.Laws.Fill.{length-fill, fill-in}
-use Rattle.rows.proofs.Laws.Cut.{each-map, each-both, in-one, beside-fill, fill-narrow, cut-each}
+use Rattle.rows.proofs.Laws.Cut.{each-map, each-both, in-one, beside-fill}
 use Rattle.blocks.specs.Cut.{Same, unwarped, cutOrder, callNumber, callDst, callTmp, putRects, putNumber, endlessPut, endlessPrep}
 use Rattle.blocks.specs.declared.order.Order.{Order}
-use Rattle.blocks.proofs.Laws.DemandCalls.{put-moved, prep-moved, call-met, call-dst, call-tmp-at, begins-in, puts, no-rows}
+use Rattle.blocks.proofs.Laws.DemandCalls.{prep-moved, call-met, call-dst, call-tmp-at, begun, puts, drawn-block}
 
 -- what is asked of the block and of the rectangles
 pub record CutBlock (o : Order) (rs : List Rect) : Type 0 where
@@ -42,13 +42,8 @@ module _ (c : Same) (o : Order) (stride : ℕ) (rs : List Rect) (dst : List ℕ)
   -- "the result is the block predicted on that endless plane, and no destination pixel outside it changes"
   pub cut-put : putRects c o stride rs dst ≡ fill dst stride (o .w) (o .h) (endlessPut c o)
   cut-put =
-      by-lt 0 stride
-      (λ some.
       puts c o stride (length dst) rs dst refl (p .accepted)
-      ∙ cut-each 0 stride some (endlessPut c o) (λ r. endlessPut c (cutOrder o r)) (o .w) (o .h) rs dst (p .block .cut) (p .carries)
-      (each-map _ _ rs (begins-in c o stride (length dst)) (p .accepted))
-      (each-map _ _ rs (λ r side i j _ _. put-moved (c .depth) (c .subpel) (c .ext) (c .warp) o (p .block .kind) _ r side i j) (p .block .sides)))
-      λ none. no-rows c o stride (length dst) rs dst none (p .accepted) ∙ sym (fill-narrow 0 dst stride (o .w) (o .h) (endlessPut c o) (omega (arith, p .carries)))
+      ∙ drawn-block c o stride rs dst (p .block .kind) (p .block .cut) (p .block .sides) (p .carries) (each-map _ _ rs (begun c o stride (length dst)) (p .accepted))
 
   -- the destination has each pixel of the block
   pub pixel-in : (i j : ℕ) → i < o .w → j < o .h → j * stride + i < length dst

@@ -1,9 +1,9 @@
 -- Demand 3's calls: a rectangle's picture is the block's, moved along; what a call that isn't refused tells, and what it leaves. The depth is a number
 -- of `Same`, so the laws hold of bytes and of 16-bit pixels. Assumes nothing.
 use mathlib.Core.Path.{_≡_, refl, sym, ap, ap₂, _∙_, fun-ext}
-use mathlib.Core.Bool.{Bool, true, false, true≢false}
+use mathlib.Core.Bool.{true, true≢false}
 use mathlib.Core.List.{List, [], _∷_, _++_}
-use Prim.Native.Nat.{ℕ, zero, suc, _+_, _-_, _*_, _≤_, _<_}
+use Prim.Native.Nat.{ℕ, _+_, _-_, _*_, _≤_, _<_}
 use native.Mathlib.Nat.{le-refl}
 use native.Mathlib.Omega.{arith}
 use lib.IntN.{ℤ, pos}
@@ -12,18 +12,17 @@ use Rattle.rows.specs.Numbers.{up, at}
 use Rattle.rows.specs.Depth.{bitsOf, biasOf, maxOf}
 use Rattle.rows.specs.Places.{fill, lentFrom}
 use Rattle.rows.specs.Subpel.{filterBits, put8, prep8}
-use Rattle.rows.specs.Cut.{Rect, Each, SameSide, begins, putEach}
-use Rattle.rows.proofs.Laws.Places.{row-fits}
+use Rattle.rows.specs.Cut.{Rect, Each, Cut, SameSide, begins, putEach}
+use Rattle.rows.proofs.Laws.Places.{by-lt, row-fits}
 use Rattle.rows.proofs.Laws.Fill.{length-fill, fill-in}
-use Rattle.rows.proofs.Laws.Cut.{length-lent}
+use Rattle.rows.proofs.Laws.Cut.{length-lent, each-map, cut-each, fill-narrow}
 use Rattle.rows.proofs.Laws.Kernel.{around-moved, same-across, same-down}
-use Rattle.blocks.specs.Refuse.{Test, orSame}
+use Rattle.blocks.specs.Refuse.{Test}
 use Rattle.blocks.specs.Ready.{Block, Rows}
 use Rattle.blocks.specs.Subpel.{put8Rule, prep8Rule}
-use Rattle.blocks.specs.Window.{before, fetched, scratchOf}
-use Rattle.blocks.specs.Order.{kindNumber, orderTests, orderScratch, putRule, prepRule, aroundIn, putPicture, prepPicture, orderDst, orderTmp}
+use Rattle.blocks.specs.Window.{before}
+use Rattle.blocks.specs.Order.{kindNumber, orderTests, putRule, prepRule, aroundIn, putPicture, prepPicture, orderDst, orderTmp}
 use Rattle.blocks.specs.Cut.{Same, unwarped, cutOrder, callNumber, callDst, callTmp, putRects, putNumber, endlessPut, endlessPrep}
-use Rattle.blocks.specs.declared.window.Frame.{Frame}
 use Rattle.blocks.specs.declared.order.Order.{Order}
 use Rattle.blocks.specs.declared.order.Kind.{Kind}
 use Rattle.blocks.specs.declared.order.Kind.the-variants.{Copy, Subpel, Bilinear, Warp}
@@ -113,44 +112,31 @@ call-tmp-at c o tmp e i j a b =
     ∙ fill-in (pos 0) (o .w) tmp (o .w) (o .h) (endlessPrep c o) i j (le-refl (o .w)) a b
     (omega (arith, row-fits (length tmp) (o .w) (o .w) (o .h) j (m .1 .fits) b))
 
--- ---- a call keeps the length of scratch
-
-length-fetched : (planes : Bool) (plane : List ℕ) (ps ww wh iw ih : ℕ) (x y : ℤ) (scratch : List ℕ)
-    → length (fetched planes plane ps ww wh iw ih x y scratch) ≡ length scratch
-unfolding fetched
-length-fetched true plane ps ww wh iw ih x y scratch = refl
-length-fetched false plane ps ww wh iw ih x y scratch = length-fill scratch ww ww wh _
-
-pub length-scratch : (r : ℕ) (f : Frame) (planeNo : ℕ) (plane : List ℕ) (ps : ℕ) (o : Order) (scratch : List ℕ)
-    → length (orderScratch r f planeNo plane ps o scratch) ≡ length scratch
-unfolding orderScratch scratchOf orSame
-length-scratch zero f planeNo plane ps o scratch = length-fetched _ plane ps _ _ _ _ _ _ scratch
-length-scratch (suc n) f planeNo plane ps o scratch = refl
-
 -- ---- the calls of a cut, run as put
 
-module _ (c : Same) (o : Order) (stride dl : ℕ) where
-  -- a rectangle whose call isn't refused begins inside the destination
-  pub begins-in : (r : Rect) → putNumber c o stride dl r ≡ 0 → begins stride r ≤ dl
-  begins-in r e = let m = call-met c (cutOrder o r) stride (dl - begins stride r) e in omega (arith, m .0, m .1)
+-- a rectangle that begins inside a destination of dl places, whose stride isn't 0
+abbrev pub Begun : (stride dl : ℕ) → Rect → Type 0
+Begun stride dl r = (1 ≤ stride) × (begins stride r ≤ dl)
 
+pub begun : (c : Same) (o : Order) (stride dl : ℕ) (r : Rect) → putNumber c o stride dl r ≡ 0 → Begun stride dl r
+begun c o stride dl r e = let m = call-met c (cutOrder o r) stride (dl - begins stride r) e in (omega (arith, m .0, m .1), omega (arith, m .0, m .1))
+
+module _ (c : Same) (o : Order) (stride dl : ℕ) where
   -- a rectangle's own picture, written into d
-  abbrev drawn : Rect → List ℕ → List ℕ
+  abbrev pub drawn : Rect → List ℕ → List ℕ
   drawn r d = fill d stride (r .w) (r .h) (endlessPut c (cutOrder o r))
 
+  pub length-drawn : (r : Rect) (dst : List ℕ) → length dst ≡ dl → Begun stride dl r → length (lentFrom (begins stride r) (drawn r) dst) ≡ dl
+  length-drawn r dst l b =
+      length-lent 0 (begins stride r) (drawn r) dst (omega (arith, b .1)) (length-fill (drop (begins stride r) dst) stride (r .w) (r .h) _) ∙ l
+
   -- is what its call leaves
-  pub put-one : (r : Rect) (dst : List ℕ) → length dst ≡ dl → putNumber c o stride dl r ≡ 0
+  put-one : (r : Rect) (dst : List ℕ) → length dst ≡ dl → putNumber c o stride dl r ≡ 0
       → lentFrom (begins stride r) (callDst c (cutOrder o r) stride) dst ≡ lentFrom (begins stride r) (drawn r) dst
   put-one r dst l e =
       let k = begins stride r in
       let lent : length (drop k dst) ≡ dl - k = length-drop k dst ∙ ap (λ (n : ℕ). n - k) l in
       ap (λ (d : List ℕ). take k dst ++ d) (call-dst c (cutOrder o r) stride (drop k dst) (ap (λ (n : ℕ). callNumber c (cutOrder o r) n stride) lent ∙ e))
-
-  pub length-one : (r : Rect) (dst : List ℕ) → length dst ≡ dl → putNumber c o stride dl r ≡ 0
-      → length (lentFrom (begins stride r) (callDst c (cutOrder o r) stride) dst) ≡ dl
-  length-one r dst l e =
-      let k = begins stride r in
-      ap length (put-one r dst l e) ∙ length-lent 0 k (drawn r) dst (omega (arith, begins-in r e)) (length-fill (drop k dst) stride (r .w) (r .h) _) ∙ l
 
   -- so the calls write each rectangle's own picture
   pub puts : (rs : List Rect) (dst : List ℕ) → length dst ≡ dl → Each (λ r. putNumber c o stride dl r ≡ 0) rs
@@ -158,10 +144,23 @@ module _ (c : Same) (o : Order) (stride dl : ℕ) where
   unfolding putRects putEach Each
   puts [] dst l e = refl
   puts (r ∷ rs) dst l e =
-      puts rs _ (length-one r dst l (e .0)) (e .1) ∙ ap (putEach stride (λ r. endlessPut c (cutOrder o r)) rs) (put-one r dst l (e .0))
+      let one = put-one r dst l (e .0) in
+      puts rs _ (ap length one ∙ length-drawn r dst l (begun c o stride dl r (e .0))) (e .1) ∙ ap (putEach stride (λ r. endlessPut c (cutOrder o r)) rs) one
 
-  -- a stride of 0 carries no row
-  pub no-rows : (rs : List Rect) (dst : List ℕ) → stride ≤ 0 → Each (λ r. putNumber c o stride dl r ≡ 0) rs → putRects c o stride rs dst ≡ dst
-  unfolding putRects Each
-  no-rows [] dst z e = refl
-  no-rows (r ∷ rs) dst z e = let m = call-met c (cutOrder o r) stride (dl - begins stride r) (e .0) in absurd (omega (arith, m .0, m .1))
+-- a stride of 0 carries no rectangle
+none-drawn : {A : Type 0} (s dl : ℕ) (picture : Rect → ℕ → ℕ → A) (rs : List Rect) (d : List A) → s ≤ 0 → Each (Begun s dl) rs → putEach s picture rs d ≡ d
+unfolding putEach Each
+none-drawn s dl picture [] d z e = refl
+none-drawn s dl picture (r ∷ rs) d z e = absurd (omega (arith, e .0 .0))
+
+-- the rectangles' own pictures are together the block's
+pub drawn-block : (c : Same) (o : Order) (stride : ℕ) (rs : List Rect) (dst : List ℕ) → unwarped (o .kind) ≡ true → Cut (o .w) (o .h) rs
+    → Each (SameSide (o .w) (o .h)) rs → o .w ≤ stride → Each (Begun stride (length dst)) rs
+    → putEach stride (λ r. endlessPut c (cutOrder o r)) rs dst ≡ fill dst stride (o .w) (o .h) (endlessPut c o)
+drawn-block c o stride rs dst kind cut sides carries begun =
+    by-lt 0 stride
+    (λ some.
+    cut-each 0 stride some (endlessPut c o) (λ r. endlessPut c (cutOrder o r)) (o .w) (o .h) rs dst cut carries
+    (each-map _ _ rs (λ r b. b .1) begun)
+    (each-map _ _ rs (λ r side i j _ _. put-moved (c .depth) (c .subpel) (c .ext) (c .warp) o kind _ r side i j) sides))
+    λ none. none-drawn stride (length dst) _ rs dst none begun ∙ sym (fill-narrow 0 dst stride (o .w) (o .h) (endlessPut c o) (omega arith))
