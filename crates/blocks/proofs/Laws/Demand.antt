@@ -1,7 +1,7 @@
 -- Demand 3 of a block that is cut into rectangles, over the definitions that the orders' contracts name.
 -- "Fetch and predict each by itself, in any order": `putRects` makes a call for each rectangle, one after the other as they stand in any list.
 -- "if depth, tables, fraction and filter type stay the same": they are fields of the one `Same`, and of the block's kind, which is each rectangle's.
--- Depth is any number there, so bytes and 16-bit pixels have the same laws. Assumes nothing.
+-- Depth and the outcome of its test are any there, so bytes and 16-bit pixels have the same laws. Assumes nothing.
 use mathlib.Core.Path.{_≡_, refl, sym, ap, _∙_}
 use mathlib.Core.Logic.{_⊎_}
 use mathlib.Core.Bool.{true}

@@ -126,10 +126,6 @@ module _ (c : Same) (o : Order) (stride dl : ℕ) where
   abbrev pub drawn : Rect → List ℕ → List ℕ
   drawn r d = fill d stride (r .w) (r .h) (endlessPut c (cutOrder o r))
 
-  pub length-drawn : (r : Rect) (dst : List ℕ) → length dst ≡ dl → Begun stride dl r → length (lentFrom (begins stride r) (drawn r) dst) ≡ dl
-  length-drawn r dst l b =
-      length-lent 0 (begins stride r) (drawn r) dst (omega (arith, b .1)) (length-fill (drop (begins stride r) dst) stride (r .w) (r .h) _) ∙ l
-
   -- is what its call leaves
   put-one : (r : Rect) (dst : List ℕ) → length dst ≡ dl → putNumber c o stride dl r ≡ 0
       → lentFrom (begins stride r) (callDst c (cutOrder o r) stride) dst ≡ lentFrom (begins stride r) (drawn r) dst
@@ -137,6 +133,10 @@ module _ (c : Same) (o : Order) (stride dl : ℕ) where
       let k = begins stride r in
       let lent : length (drop k dst) ≡ dl - k = length-drop k dst ∙ ap (λ (n : ℕ). n - k) l in
       ap (λ (d : List ℕ). take k dst ++ d) (call-dst c (cutOrder o r) stride (drop k dst) (ap (λ (n : ℕ). callNumber c (cutOrder o r) n stride) lent ∙ e))
+
+  pub length-drawn : (r : Rect) (dst : List ℕ) → length dst ≡ dl → Begun stride dl r → length (lentFrom (begins stride r) (drawn r) dst) ≡ dl
+  length-drawn r dst l b =
+      length-lent 0 (begins stride r) (drawn r) dst (omega (arith, b .1)) (length-fill (drop (begins stride r) dst) stride (r .w) (r .h) _) ∙ l
 
   -- so the calls write each rectangle's own picture
   pub puts : (rs : List Rect) (dst : List ℕ) → length dst ≡ dl → Each (λ r. putNumber c o stride dl r ≡ 0) rs
