@@ -1,24 +1,46 @@
-//! Speed of the library against the original Rust, built for release, in one process: a line for each kernel, set, case and size,
-//! with the median time of a call of each and their ratio. A ratio below 1 is faster than the Rust. Nothing here is a test.
+//! Speed of the library against the original Rust, built for release, in one process: markdown tables of the ratios and
+//! of the times. A ratio below 1 is faster than the Rust. Words name the kernels to measure, all without them; after the
+//! word `count` each is called once, for bench/count. Nothing here is a test, but both sides must write the same.
 
 mod clock;
-mod ours;
+mod kernels;
+mod pair;
 mod room;
-mod subpel;
+mod table;
 
-use clock::Pair;
+use std::env;
+
+use original::pixel::{BitDepth8, BitDepth16};
+use pair::Pair;
+
+/// Times that the whole list is gone through; of each side's medians the least counts.
+const PASSES: usize = 5;
 
 fn main() {
-    println!("{:<12} {:>6} {:>5} {:>7} {:>10} {:>10} {:>6}", "kernel", "depth", "case", "size", "rust ns", "ours ns", "ratio");
-    for mut pair in subpel::pairs() {
-        report(&mut pair);
-    }
+    let words: Vec<String> = env::args().skip(1).collect();
+    let counts = words.iter().any(|word| word == "count");
+    let named: Vec<&str> = words.iter().map(String::as_str).filter(|word| *word != "count").collect();
+    let mut pairs = pair::pairs::<BitDepth8>(8);
+    pairs.extend(pair::pairs::<BitDepth16>(10));
+    pairs.retain(|pair| named.is_empty() || named.iter().any(|word| pair.name.contains(word)));
+    pairs.sort_by_key(|pair| (pair.place, pair.depth, pair.size));
+    if counts { count(&mut pairs) } else { measure(&mut pairs) }
 }
 
-/// Times one pair and prints its line.
-fn report(pair: &mut Pair) {
-    let (rust, ours) = clock::medians(pair);
-    let (name, depth, case, size) = (pair.name, pair.depth, pair.case, pair.size);
-    let size = format!("{size}x{size}");
-    println!("{name:<12} {depth:>6} {case:>5} {size:>7} {rust:>10.1} {ours:>10.1} {:>6.2}", ours / rust);
+/// Times all pairs and prints the tables.
+fn measure(pairs: &mut [Pair]) {
+    for _ in 0..PASSES {
+        pairs.iter_mut().for_each(clock::time);
+    }
+    table::print("Ratios", pairs, table::ratio);
+    table::print("Nanoseconds of a call, the Rust and ours", pairs, table::times);
+}
+
+/// Calls each side of each pair once in `counted`, and names the pairs.
+fn count(pairs: &mut [Pair]) {
+    for pair in pairs {
+        clock::counted(&mut pair.rust);
+        clock::counted(&mut pair.ours);
+        println!("{}|{}|{}", pair.name, pair.depth, pair.size);
+    }
 }
