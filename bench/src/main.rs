@@ -1,5 +1,5 @@
 //! Speed of the library against the original Rust, built for release, in one process: markdown tables of the ratios and
-//! of the times. A ratio below 1 is faster than the Rust. Words name the kernels to measure, all without them; after the
+//! of the times. A ratio below 1 is faster than the Rust. Words name the kernels to measure, all without them; by the
 //! word `count` each is called once, for bench/count. Nothing here is a test, but both sides must write the same.
 
 mod clock;

@@ -22,5 +22,5 @@ pub fn ratio(pair: &Pair) -> String {
 }
 
 pub fn times(pair: &Pair) -> String {
-    format!("{:.0} {:.0}", pair.rust_ns, pair.ours_ns)
+    format!("{:.1} {:.1}", pair.rust_ns, pair.ours_ns)
 }

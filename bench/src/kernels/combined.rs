@@ -30,20 +30,20 @@ where
         kernel("avg", 0.3,
             |r| mc::avg(r.bd, &mut r.dst, r.stride, &r.tmp1, &r.tmp2, r.size, r.size),
             |r| unsafe {
-                <Linked as Avg<_>>::call(r.depth, r.dst.as_mut_ptr(), r.dst.len(), r.stride, r.tmp1.as_ptr(), r.tmp1.len(),
-                    r.tmp2.as_ptr(), r.tmp2.len(), r.size, r.size)
+                <Linked as Avg<_>>::call(r.depth, r.dst.as_mut_ptr(), r.dst.len(), r.stride, r.tmp1.as_ptr(),
+                    r.tmp1.len(), r.tmp2.as_ptr(), r.tmp2.len(), r.size, r.size)
             }),
         kernel("w_avg", 0.3,
             |r| mc::w_avg(r.bd, &mut r.dst, r.stride, &r.tmp1, &r.tmp2, r.size, r.size, WEIGHT),
             |r| unsafe {
-                <Linked as WAvg<_>>::call(r.depth, r.dst.as_mut_ptr(), r.dst.len(), r.stride, r.tmp1.as_ptr(), r.tmp1.len(),
-                    r.tmp2.as_ptr(), r.tmp2.len(), r.size, r.size, WEIGHT)
+                <Linked as WAvg<_>>::call(r.depth, r.dst.as_mut_ptr(), r.dst.len(), r.stride, r.tmp1.as_ptr(),
+                    r.tmp1.len(), r.tmp2.as_ptr(), r.tmp2.len(), r.size, r.size, WEIGHT)
             }),
         kernel("mask", 0.3,
             |r| mc::mask_fn(r.bd, &mut r.dst, r.stride, &r.tmp1, &r.tmp2, r.size, r.size, &r.mask),
             |r| unsafe {
-                <Linked as Mask<_>>::call(r.depth, r.dst.as_mut_ptr(), r.dst.len(), r.stride, r.tmp1.as_ptr(), r.tmp1.len(),
-                    r.tmp2.as_ptr(), r.tmp2.len(), r.size, r.size, r.mask.as_ptr(), r.mask.len())
+                <Linked as Mask<_>>::call(r.depth, r.dst.as_mut_ptr(), r.dst.len(), r.stride, r.tmp1.as_ptr(),
+                    r.tmp1.len(), r.tmp2.as_ptr(), r.tmp2.len(), r.size, r.size, r.mask.as_ptr(), r.mask.len())
             }),
     ]
 }
@@ -58,13 +58,14 @@ where
             |r| mc::blend(&mut r.dst, r.stride, &r.src, r.size, r.size, &r.mask),
             |r| unsafe {
                 let (mut row, mut col) = (0, 0);
-                <Linked as Blend<_>>::call(r.dst.as_mut_ptr(), r.dst.len(), r.stride, r.src.as_ptr(), r.src.len(), r.size, r.size,
-                    r.mask.as_ptr(), r.mask.len(), &mut row, &mut col)
+                <Linked as Blend<_>>::call(r.dst.as_mut_ptr(), r.dst.len(), r.stride, r.src.as_ptr(), r.src.len(),
+                    r.size, r.size, r.mask.as_ptr(), r.mask.len(), &mut row, &mut col)
             }),
         kernel("morph", 1.0,
             |r| mc::morph(r.bd, &mut r.dst, r.stride, ALPHA, BETA, r.size, r.size),
             |r| unsafe {
-                <Linked as Morph<_>>::call(r.depth, r.dst.as_mut_ptr(), r.dst.len(), r.stride, ALPHA, BETA, r.size, r.size)
+                <Linked as Morph<_>>::call(r.depth, r.dst.as_mut_ptr(), r.dst.len(), r.stride, ALPHA, BETA, r.size,
+                    r.size)
             }),
     ]
 }
@@ -76,9 +77,13 @@ where
     Linked: Library<BD::Pixel>,
 {
     kernel(format!("w_mask {case}"), 0.5,
-        move |r| mc::w_mask(r.bd, &mut r.dst, r.stride, &r.tmp1, &r.tmp2, r.size, r.size, &mut r.weights, r.stride, 0, hor, ver),
+        move |r| {
+            let weights = &mut r.weights;
+            mc::w_mask(r.bd, &mut r.dst, r.stride, &r.tmp1, &r.tmp2, r.size, r.size, weights, r.stride, 0, hor, ver);
+        },
         move |r| unsafe {
-            <Linked as WMask<_>>::call(r.depth, r.dst.as_mut_ptr(), r.dst.len(), r.stride, r.tmp1.as_ptr(), r.tmp1.len(),
-                r.tmp2.as_ptr(), r.tmp2.len(), r.size, r.size, r.weights.as_mut_ptr(), r.weights.len(), r.stride, 0, hor, ver)
+            <Linked as WMask<_>>::call(r.depth, r.dst.as_mut_ptr(), r.dst.len(), r.stride, r.tmp1.as_ptr(),
+                r.tmp1.len(), r.tmp2.as_ptr(), r.tmp2.len(), r.size, r.size, r.weights.as_mut_ptr(), r.weights.len(),
+                r.stride, 0, hor, ver)
         })
 }

@@ -19,20 +19,21 @@ where
         kernel("put", 1.0,
             |r| mc::put(&mut r.dst, r.stride, &r.src, r.stride, r.size, r.size),
             |r| unsafe {
-                <Linked as Put<_>>::call(r.dst.as_mut_ptr(), r.dst.len(), r.stride, r.src.as_ptr(), r.src.len(), r.stride, r.size, r.size)
+                <Linked as Put<_>>::call(r.dst.as_mut_ptr(), r.dst.len(), r.stride, r.src.as_ptr(), r.src.len(),
+                    r.stride, r.size, r.size)
             }),
         kernel("prep", 1.0,
             |r| mc::prep(r.bd, &mut r.tmp, r.stride, &r.src, r.stride, r.size, r.size),
             |r| unsafe {
-                <Linked as Prep<_>>::call(r.depth, r.tmp.as_mut_ptr(), r.tmp.len(), r.stride, r.src.as_ptr(), r.src.len(), r.stride,
-                    r.size, r.size)
+                <Linked as Prep<_>>::call(r.depth, r.tmp.as_mut_ptr(), r.tmp.len(), r.stride, r.src.as_ptr(),
+                    r.src.len(), r.stride, r.size, r.size)
             }),
         edge("emu_edge first corner", |size| -(size as i64) / 4),
         edge("emu_edge last corner", |size| SIDE as i64 - size as i64 * 3 / 4),
     ]
 }
 
-/// A block of which a quarter of the rows and of the columns is beyond the plane: its first place is the same both ways.
+/// A block with a quarter of its rows and of its columns beyond the plane; its first place is the same both ways.
 #[rustfmt::skip]
 fn edge<BD: BitDepth>(name: &str, place: fn(usize) -> i64) -> Kernel<BD>
 where

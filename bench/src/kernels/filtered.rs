@@ -28,10 +28,14 @@ where
     Linked: Library<BD::Pixel>,
 {
     kernel(format!("put_8tap {case}"), 0.25,
-        move |r| mc::put_8tap(r.bd, &mut r.dst, r.stride, &r.src, r.start, r.stride, r.size, r.size, mx, my, r.filter_type),
+        move |r| {
+            let (from, ss, by) = (r.start, r.stride, r.filter_type);
+            mc::put_8tap(r.bd, &mut r.dst, r.stride, &r.src, from, ss, r.size, r.size, mx, my, by);
+        },
         move |r| unsafe {
-            <Linked as Put8tap<_>>::call(r.depth, r.dst.as_mut_ptr(), r.dst.len(), r.stride, r.src.as_ptr(), r.src.len(), r.start,
-                r.stride, r.size, r.size, mx, my, r.filter_type, r.subpel.as_ptr(), r.subpel.len(), r.ext.as_ptr(), r.ext.len())
+            <Linked as Put8tap<_>>::call(r.depth, r.dst.as_mut_ptr(), r.dst.len(), r.stride, r.src.as_ptr(),
+                r.src.len(), r.start, r.stride, r.size, r.size, mx, my, r.filter_type, r.subpel.as_ptr(),
+                r.subpel.len(), r.ext.as_ptr(), r.ext.len())
         })
 }
 
@@ -41,10 +45,14 @@ where
     Linked: Library<BD::Pixel>,
 {
     kernel(format!("prep_8tap {case}"), 0.25,
-        move |r| mc::prep_8tap(r.bd, &mut r.tmp, r.stride, &r.src, r.start, r.stride, r.size, r.size, mx, my, r.filter_type),
+        move |r| {
+            let (from, ss, by) = (r.start, r.stride, r.filter_type);
+            mc::prep_8tap(r.bd, &mut r.tmp, r.stride, &r.src, from, ss, r.size, r.size, mx, my, by);
+        },
         move |r| unsafe {
-            <Linked as Prep8tap<_>>::call(r.depth, r.tmp.as_mut_ptr(), r.tmp.len(), r.stride, r.src.as_ptr(), r.src.len(), r.start,
-                r.stride, r.size, r.size, mx, my, r.filter_type, r.subpel.as_ptr(), r.subpel.len(), r.ext.as_ptr(), r.ext.len())
+            <Linked as Prep8tap<_>>::call(r.depth, r.tmp.as_mut_ptr(), r.tmp.len(), r.stride, r.src.as_ptr(),
+                r.src.len(), r.start, r.stride, r.size, r.size, mx, my, r.filter_type, r.subpel.as_ptr(),
+                r.subpel.len(), r.ext.as_ptr(), r.ext.len())
         })
 }
 
@@ -56,8 +64,8 @@ where
     kernel(format!("put_bilin {case}"), 0.6,
         move |r| mc::put_bilin(r.bd, &mut r.dst, r.stride, &r.src, r.stride, r.size, r.size, mx, my),
         move |r| unsafe {
-            <Linked as PutBilin<_>>::call(r.depth, r.dst.as_mut_ptr(), r.dst.len(), r.stride, r.src.as_ptr(), r.src.len(), r.stride,
-                r.size, r.size, mx, my)
+            <Linked as PutBilin<_>>::call(r.depth, r.dst.as_mut_ptr(), r.dst.len(), r.stride, r.src.as_ptr(),
+                r.src.len(), r.stride, r.size, r.size, mx, my)
         })
 }
 
@@ -69,7 +77,7 @@ where
     kernel(format!("prep_bilin {case}"), 0.6,
         move |r| mc::prep_bilin(r.bd, &mut r.tmp, r.stride, &r.src, r.stride, r.size, r.size, mx, my),
         move |r| unsafe {
-            <Linked as PrepBilin<_>>::call(r.depth, r.tmp.as_mut_ptr(), r.tmp.len(), r.stride, r.src.as_ptr(), r.src.len(), r.stride,
-                r.size, r.size, mx, my)
+            <Linked as PrepBilin<_>>::call(r.depth, r.tmp.as_mut_ptr(), r.tmp.len(), r.stride, r.src.as_ptr(),
+                r.src.len(), r.stride, r.size, r.size, mx, my)
         })
 }
