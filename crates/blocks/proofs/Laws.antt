@@ -37,3 +37,4 @@ pub mod DemandCalls
 pub mod Demand
 pub mod DemandRuns
 pub mod DemandHolds
+pub mod WindowReady

@@ -1,4 +1,19 @@
-// Frames, and what a window's or a row's call answers.
+// Frames, windows and rows of planes: where a block's pixels with its margins lie, in the plane or in scratch.
+ghost use mathlib.Core.Path.{_≡_};
+ghost use Prim.Native.Nat.{_+_, _-_, _*_, _^_, _≤_};
+ghost use lib.Dec.{leb};
+ghost use lib.IntN.{natAbs};
+ghost use Rattle.rows.specs.Numbers.{up};
+ghost use Rattle.blocks.specs.Refuse.{need, lowest, sizeOk, blockSide, strideOk, partLen, holds, holdsAll};
+ghost use Rattle.blocks.specs.Edge.{placeOk};
+ghost use Rattle.blocks.specs.Window.{planeSide, planeW, planeH, frameSizesOk, frameNamesOk, eightTaps, before, after, windowSide, windowStart, windowTests, inside, isPlanes, windowAt, noPart, windowOf};
+use crate::edge::places;
+use crate::mask::flags_ok;
+use crate::refuse::held;
+use crate::refuse::needed;
+use crate::refuse::size_ok;
+use crate::refuse::sizes;
+use crate::refuse::stride;
 
 // Luma's sides and the subsampling flags.
 pub struct Frame {
@@ -15,4 +30,240 @@ pub struct Part {
     pub place: usize,
     pub stride: usize,
     pub len: usize,
+}
+
+// A side of the named plane: chroma has half of luma's where the flag is set.
+fn plane_side(plane_no: u32, flag: bool, luma: usize) -> usize
+    ensures { λ r. ⌜ r ≡ planeSide «plane_no» flag luma ⌝ }
+{
+    if (plane_no == 1) & flag {
+        luma / 2
+    } else {
+        luma
+    }
+}
+
+pub fn plane_w(f: Frame, plane_no: u32) -> usize
+    ensures { λ r. ⌜ r ≡ planeW f «plane_no» ⌝ }
+{
+    plane_side(plane_no, f.ss_hor, f.luma_w)
+}
+
+pub fn plane_h(f: Frame, plane_no: u32) -> usize
+    ensures { λ r. ⌜ r ≡ planeH f «plane_no» ⌝ }
+{
+    plane_side(plane_no, f.ss_ver, f.luma_h)
+}
+
+pub fn frame_sizes_ok(f: Frame, plane_no: u32) -> bool
+    ensures { λ r. ⌜ r ≡ frameSizesOk f «plane_no» ⌝ }
+{
+    (size_ok(16384, f.luma_w) & size_ok(16384, f.luma_h))
+        & ((1 <= plane_w(f, plane_no)) & (1 <= plane_h(f, plane_no)))
+}
+
+pub fn frame_names_ok(f: Frame, plane_no: u32) -> bool
+    ensures { λ r. ⌜ r ≡ frameNamesOk f «plane_no» ⌝ }
+{
+    flags_ok(f.ss_hor, f.ss_ver) & (plane_no <= 1)
+}
+
+// The margins of a kind's window.
+pub fn before(kind: u32) -> usize
+    ensures { λ r. ⌜ r ≡ before kind ⌝ }
+{
+    if (kind == 1) | (kind == 3) { 3 } else { 0 }
+}
+
+pub fn after(kind: u32) -> usize
+    ensures { λ r. ⌜ r ≡ after kind ⌝ }
+{
+    if (kind == 1) | (kind == 3) {
+        4
+    } else if kind == 2 {
+        1
+    } else {
+        0
+    }
+}
+
+// A window's side, and its first column or row.
+pub fn window_side(kind: u32, side: usize) -> usize
+    requires { ⌜ side ≤ 64 ⌝ }
+    ensures { λ r. ⌜ r ≡ windowSide kind side ⌝ }
+{
+    before(kind) + side + after(kind)
+}
+
+pub fn window_start(kind: u32, x: i64) -> i64
+    requires { ⌜ natAbs x ≤ 2 ^ 30 ⌝ }
+    ensures { λ r. ⌜ r ≡ windowStart kind x ⌝ }
+{
+    x - before(kind) as i64
+}
+
+// The links of a window's tests: the sizes and the stride, on which the later ones rely; the other numbers; the buffers.
+fn window_sizes(f: Frame, plane_no: u32, plane_stride: usize, w: usize, h: usize) -> u32
+    ensures { λ r. ⌜ r ≡ need (frameSizesOk f «plane_no») 1 (need (sizeOk blockSide w) 1 (need (sizeOk blockSide h) 1 (need (strideOk (planeW f «plane_no») «plane_stride») 2 0))) ⌝ }
+{
+    needed(
+        frame_sizes_ok(f, plane_no),
+        1,
+        sizes(w, h, stride(plane_w(f, plane_no), plane_stride, 0)),
+    )
+}
+
+fn window_numbers(f: Frame, plane_no: u32, kind: u32, x: i64, y: i64, mode: u32, rest: u32) -> u32
+    ensures { λ r. ⌜ r ≡ need (frameNamesOk f «plane_no») 3 (need (leb kind 3) 3 (need (placeOk x) 3 (need (placeOk y) 3 (need (leb mode 1) 3 rest)))) ⌝ }
+{
+    needed(
+        frame_names_ok(f, plane_no),
+        3,
+        needed(kind <= 3, 3, places(x, y, needed(mode <= 1, 3, rest))),
+    )
+}
+
+pub fn window_held(
+    f: Frame,
+    plane_no: u32,
+    pl: usize,
+    plane_stride: usize,
+    kind: u32,
+    w: usize,
+    h: usize,
+    sl: usize,
+    rest: u32,
+) -> u32
+    requires { ⌜ (w ≤ 64) × (h ≤ 64) ⌝ }
+    ensures { λ r. ⌜ r ≡ need (holds pl «plane_stride» (planeW f «plane_no») (planeH f «plane_no»)) 5 (need (holdsAll sl (windowSide kind w) (windowSide kind h)) 6 rest) ⌝ }
+{
+    let ww = window_side(kind, w);
+    let wh = window_side(kind, h);
+    let scratch = held(sl, ww, ww, wh, 6, rest);
+    let iw = plane_w(f, plane_no);
+    let ih = plane_h(f, plane_no);
+    held(pl, plane_stride, iw, ih, 5, scratch)
+}
+
+fn check_window(
+    f: Frame,
+    plane_no: u32,
+    pl: usize,
+    plane_stride: usize,
+    kind: u32,
+    w: usize,
+    h: usize,
+    x: i64,
+    y: i64,
+    mode: u32,
+    sl: usize,
+) -> u32
+    ensures { λ r. ⌜ r ≡ lowest (windowTests f «plane_no» pl «plane_stride» kind w h x y mode sl) ⌝ }
+{
+    let number = window_sizes(f, plane_no, plane_stride, w, h);
+    if number != 0 {
+        return number;
+    }
+    let buffers = window_held(f, plane_no, pl, plane_stride, kind, w, h, sl, 0);
+    window_numbers(f, plane_no, kind, x, y, mode, buffers)
+}
+
+// n columns from x on lie inside a side.
+fn inside(x: i64, n: usize, side: usize) -> bool
+    requires { ⌜ (natAbs x ≤ 2 ^ 30 + 3) × (n ≤ 128) × (side ≤ 16384) ⌝ }
+    ensures { λ r. ⌜ r ≡ inside x n side ⌝ }
+{
+    (0 <= x) & (x + n as i64 <= side as i64)
+}
+
+// A window of ww columns and wh rows from x and y on is the plane's own.
+fn is_planes(mode: u32, ww: usize, wh: usize, iw: usize, ih: usize, x: i64, y: i64) -> bool
+    requires { ⌜ (ww ≤ 128) × (wh ≤ 128) × (iw ≤ 16384) × (ih ≤ 16384) × (natAbs x ≤ 2 ^ 30 + 3) × (natAbs y ≤ 2 ^ 30 + 3) ⌝ }
+    ensures { λ r. ⌜ r ≡ isPlanes mode ww wh iw ih x y ⌝ }
+{
+    (mode == 0) & (inside(x, ww, iw) & inside(y, wh, ih))
+}
+
+// The number, or 0 where it is below 0.
+fn above64(v: i64) -> usize
+    ensures { λ r. ⌜ r ≡ up v ⌝ }
+{
+    if v < 0 { 0 } else { v as usize }
+}
+
+// The places that h rows of w take at the stride s.
+fn part_len(s: usize, w: usize, h: usize) -> usize
+    requires { ⌜ (s ≤ 32768) × (w ≤ 128) × (1 ≤ h) × (h ≤ 128) ⌝ }
+    ensures { λ r. ⌜ r ≡ partLen s w h ⌝ }
+{
+    (h - 1) * s + w
+}
+
+// Where such a window lies, in the plane or in scratch.
+fn window_at(planes: bool, plane_stride: usize, ww: usize, wh: usize, x: i64, y: i64) -> Part
+    requires { ⌜ («plane_stride» ≤ 32768) × (ww ≤ 128) × (1 ≤ wh) × (wh ≤ 128) × (natAbs x ≤ 2 ^ 30 + 3) × (natAbs y ≤ 2 ^ 30 + 3) ⌝ }
+    ensures { λ r. ⌜ r ≡ windowAt planes «plane_stride» ww wh x y ⌝ }
+{
+    if planes {
+        let place = above64(y) * plane_stride + above64(x);
+        let len = part_len(plane_stride, ww, wh);
+        return Part {
+            number: 0,
+            buffer: 1,
+            place,
+            stride: plane_stride,
+            len,
+        };
+    }
+    let len = part_len(ww, ww, wh);
+    Part {
+        number: 0,
+        buffer: 2,
+        place: 0,
+        stride: ww,
+        len,
+    }
+}
+
+// Refused: the number and zeros.
+fn no_part(number: u32) -> Part
+    ensures { λ r. ⌜ r ≡ noPart number ⌝ }
+{
+    Part {
+        number,
+        buffer: 0,
+        place: 0,
+        stride: 0,
+        len: 0,
+    }
+}
+
+// A window's call, but for the pixels.
+pub fn find_window(
+    f: Frame,
+    plane_no: u32,
+    pl: usize,
+    plane_stride: usize,
+    kind: u32,
+    w: usize,
+    h: usize,
+    x: i64,
+    y: i64,
+    mode: u32,
+    sl: usize,
+) -> Part
+    ensures { λ r. ⌜ r ≡ windowOf f «plane_no» pl «plane_stride» kind w h x y mode sl ⌝ }
+{
+    let number = check_window(f, plane_no, pl, plane_stride, kind, w, h, x, y, mode, sl);
+    if number != 0 {
+        return no_part(number);
+    }
+    let ww = window_side(kind, w);
+    let wh = window_side(kind, h);
+    let left = window_start(kind, x);
+    let top = window_start(kind, y);
+    let iw = plane_w(f, plane_no);
+    let ih = plane_h(f, plane_no);
+    let planes = is_planes(mode, ww, wh, iw, ih, left, top);
+    window_at(planes, plane_stride, ww, wh, left, top)
 }

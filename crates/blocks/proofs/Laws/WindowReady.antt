@@ -1,0 +1,189 @@
+-- Windows: their margins, their tests in two parts, and what number 0 gives. Assumes nothing.
+use mathlib.Core.Path.{_≡_, refl, sym, ap, _∙_}
+use mathlib.Core.Bool.{Bool, true, false, _&&_}
+use mathlib.Core.List.{List, [], _∷_}
+use Prim.Native.Nat.{ℕ, zero, suc, _+_, _-_, _*_, _/_, _^_, _≤_, _<_}
+use native.Mathlib.Omega.{arith}
+use borrow.Author.Tests.{leb-true}
+use lib.Dec.{leb, eqb}
+use lib.IntN.{ℤ, pos, natAbs, _-ℤ_}
+use mir.Syntax.{w64}
+use mir.Val.{SFits}
+use Rattle.rows.specs.Places.{pick}
+use Rattle.rows.proofs.Laws.Signed.{abs-sub, fit-abs}
+use Rattle.rows.proofs.Laws.Fill.{and-true}
+use Rattle.blocks.specs.Refuse.{Test, size, stride, number, read, written, _asks_, lowest, orSame, sizeOk, blockSide, strideOk, holds, holdsAll}
+use Rattle.blocks.specs.Edge.{placeOk}
+use Rattle.blocks.specs.Ready.{Rows, Fetch}
+use Rattle.blocks.specs.Window.{planeW, planeH, planeSide, frameSizesOk, frameNamesOk, eightTaps, before, after, windowSide, windowStart, windowTests, isPlanes, ownPlane, windowAt, noPart, windowOf, fetched, scratchOf}
+use Rattle.blocks.proofs.Laws.Refuse.{all-met, later, sooner, size-met, stride-met, holds-met, done, refused}
+use Rattle.blocks.proofs.Laws.Ready.{rows-met}
+use Rattle.blocks.proofs.Laws.EdgeReady.{place-met}
+use Rattle.blocks.specs.declared.window.Frame.{Frame}
+use Rattle.blocks.specs.declared.window.Part.{Part}
+
+-- ---- margins
+pub margins : (kind : ℕ) → (before kind ≤ 3) × (after kind ≤ 4)
+unfolding before after
+margins kind = go (eightTaps kind) (eqb kind 2) where
+  go : (a b : Bool) → (pick a 3 0 ≤ 3) × (pick a 4 (pick b 1 0) ≤ 4)
+  go true b = (omega arith, omega arith)
+  go false true = (omega arith, omega arith)
+  go false false = (omega arith, omega arith)
+
+-- a window begins up to 3 before its block
+pub start-near : (kind : ℕ) (x : ℤ) → natAbs x ≤ 2 ^ 30 → natAbs (windowStart kind x) ≤ 2 ^ 30 + 3
+start-near kind x h = omega (arith, abs-sub x (pos (before kind)), margins kind)
+
+pub start-fits : (kind : ℕ) (x : ℤ) → natAbs x ≤ 2 ^ 30 → SFits w64 (windowStart kind x)
+start-fits kind x h = fit-abs w64 (windowStart kind x) (omega (arith, start-near kind x h))
+
+-- a plane's side is at most luma's
+side-le : (planeNo : ℕ) (flag : Bool) (luma : ℕ) → planeSide planeNo flag luma ≤ luma
+unfolding planeSide
+side-le planeNo flag luma = go (eqb planeNo 1 && flag) where
+  go : (b : Bool) → pick b (luma / 2) luma ≤ luma
+  go true = omega arith
+  go false = omega arith
+
+-- ---- the first part of the tests
+abbrev pub sizeTests : (f : Frame) (planeNo planeStride w h : ℕ) → List Test
+sizeTests f planeNo planeStride w h =
+    size asks frameSizesOk f planeNo
+    ∷ size asks sizeOk blockSide w
+    ∷ size asks sizeOk blockSide h
+    ∷ stride asks strideOk (planeW f planeNo) planeStride
+    ∷ []
+
+pub sizes-small : (f : Frame) (planeNo ps w h : ℕ) → lowest (sizeTests f planeNo ps w h) ≡ 0 → (w ≤ 64) × (h ≤ 64)
+sizes-small f planeNo ps w h e =
+    let m = all-met (sizeTests f planeNo ps w h) e in
+    (size-met 64 w (m .1 .0) .1, size-met 64 h (m .1 .1 .0) .1)
+
+-- and the second
+abbrev pub otherTests : (f : Frame) (planeNo pl planeStride kind w h : ℕ) (x y : ℤ) (mode sl : ℕ) → List Test
+otherTests f planeNo pl planeStride kind w h x y mode sl =
+    number asks frameNamesOk f planeNo
+    ∷ number asks leb kind 3
+    ∷ number asks placeOk x
+    ∷ number asks placeOk y
+    ∷ number asks leb mode 1
+    ∷ read asks holds pl planeStride (planeW f planeNo) (planeH f planeNo)
+    ∷ written asks holdsAll sl (windowSide kind w) (windowSide kind h)
+    ∷ []
+
+module _ (f : Frame) (planeNo pl ps kind w h : ℕ) (x y : ℤ) (mode sl : ℕ) where
+  pub window-stop : (lowest (sizeTests f planeNo ps w h) ≡ 0 → ⊥)
+      → lowest (sizeTests f planeNo ps w h) ≡ lowest (windowTests f planeNo pl ps kind w h x y mode sl)
+  window-stop other = sooner (sizeTests f planeNo ps w h) (lowest (otherTests f planeNo pl ps kind w h x y mode sl)) other
+
+  pub window-go : lowest (sizeTests f planeNo ps w h) ≡ 0
+      → lowest (otherTests f planeNo pl ps kind w h x y mode sl) ≡ lowest (windowTests f planeNo pl ps kind w h x y mode sl)
+  window-go e = later (sizeTests f planeNo ps w h) (lowest (otherTests f planeNo pl ps kind w h x y mode sl)) e
+
+-- ---- what number 0 gives
+pub frame-met : (f : Frame) (planeNo : ℕ) → frameSizesOk f planeNo ≡ true
+    → (1 ≤ planeW f planeNo) × (planeW f planeNo ≤ 16384) × (1 ≤ planeH f planeNo) × (planeH f planeNo ≤ 16384)
+unfolding frameSizesOk
+frame-met f planeNo e =
+    let p = and-true (sizeOk 16384 (f .«luma_w») && sizeOk 16384 (f .«luma_h»)) _ e in
+    let l = and-true (sizeOk 16384 (f .«luma_w»)) _ (p .0) in
+    let s = and-true (leb 1 (planeW f planeNo)) _ (p .1) in
+    let a = size-met 16384 (f .«luma_w») (l .0) in
+    let b = size-met 16384 (f .«luma_h») (l .1) in (
+      leb-true _ _ (s .0),
+      omega (arith, a, side-le planeNo (f .«ss_hor») (f .«luma_w»)),
+      leb-true _ _ (s .1),
+      omega (arith, b, side-le planeNo (f .«ss_ver») (f .«luma_h»)),
+    )
+
+-- the window is a block of the endless plane that fits in scratch
+abbrev pub WindowFetch : (f : Frame) (planeNo pl ps kind w h sl : ℕ) → Type 0
+WindowFetch f planeNo pl ps kind w h sl =
+    Fetch (windowSide kind w) (windowSide kind h) (planeW f planeNo) (planeH f planeNo) sl (windowSide kind w) pl ps
+
+pub window-ready : (f : Frame) (planeNo pl ps kind w h : ℕ) (x y : ℤ) (mode sl : ℕ) → lowest (windowTests f planeNo pl ps kind w h x y mode sl) ≡ 0
+    → WindowFetch f planeNo pl ps kind w h sl × (natAbs x ≤ 2 ^ 30) × (natAbs y ≤ 2 ^ 30)
+window-ready f planeNo pl ps kind w h x y mode sl e =
+    let t = all-met (windowTests f planeNo pl ps kind w h x y mode sl) e in
+    let p = frame-met f planeNo (t .0) in
+    let a = size-met 64 w (t .1 .0) in
+    let b = size-met 64 h (t .1 .1 .0) in
+    let s = t .1 .1 .1 in
+    let n = s .1 .1 .1 in
+    let r = n .1 .1 .1 in (
+      record {
+        bw1 = omega (arith, a);
+        bw128 = omega (arith, a, margins kind);
+        bh1 = omega (arith, b);
+        bh128 = omega (arith, b, margins kind);
+        iw1 = p .0;
+        iw14 = p .1;
+        ih1 = p .2;
+        ih14 = p .3;
+        dst = record { wide = omega arith; most = omega (arith, a, margins kind); fits = holds-met sl (windowSide kind w) (windowSide kind w) (windowSide kind h) (r .1 .0) };
+        plane = rows-met pl ps (planeW f planeNo) (planeH f planeNo) (s .0) (r .0);
+      },
+      place-met x (n .0),
+      place-met y (n .1 .0),
+    )
+
+pub window-small : (f : Frame) (planeNo pl ps kind w h : ℕ) (x y : ℤ) (mode sl : ℕ) → lowest (windowTests f planeNo pl ps kind w h x y mode sl) ≡ 0
+    → (w ≤ 64) × (h ≤ 64) × (natAbs x ≤ 2 ^ 30) × (natAbs y ≤ 2 ^ 30)
+window-small f planeNo pl ps kind w h x y mode sl e =
+    let t = all-met (windowTests f planeNo pl ps kind w h x y mode sl) e in
+    let r = window-ready f planeNo pl ps kind w h x y mode sl e in
+    (size-met 64 w (t .1 .0) .1, size-met 64 h (t .1 .1 .0) .1, r .1, r .2)
+
+-- ---- the window as the code has it: its sides, its plane's sides, and where it begins
+pub record Area (f : Frame) (planeNo kind w h : ℕ) (x y : ℤ) (ww wh iw ih : ℕ) (left top : ℤ) : Type 0 where
+  pub ww-is : ww ≡ windowSide kind w
+  pub wh-is : wh ≡ windowSide kind h
+  pub iw-is : iw ≡ planeW f planeNo
+  pub ih-is : ih ≡ planeH f planeNo
+  pub left-is : left ≡ windowStart kind x
+  pub top-is : top ≡ windowStart kind y
+
+module _ (pl ps mode sl : ℕ) {f : Frame} {planeNo kind w h : ℕ} {x y : ℤ} {ww wh iw ih : ℕ} {left top : ℤ} (a : Area f planeNo kind w h x y ww wh iw ih left top)
+    (e : lowest (windowTests f planeNo pl ps kind w h x y mode sl) ≡ 0) where
+  pub area-ready : Fetch ww wh iw ih sl ww pl ps × (natAbs left ≤ 2 ^ 30 + 3) × (natAbs top ≤ 2 ^ 30 + 3)
+  area-ready =
+      let r = window-ready f planeNo pl ps kind w h x y mode sl e in
+      rw (a .ww-is, a .wh-is, a .iw-is, a .ih-is, a .left-is, a .top-is) (r .0, start-near kind x (r .1), start-near kind y (r .2))
+
+  pub area-window : {planes : Bool} {r : Part} → planes ≡ isPlanes mode ww wh iw ih left top → r ≡ windowAt planes ps ww wh left top
+      → r ≡ windowOf f planeNo pl ps kind w h x y mode sl
+  unfolding windowOf
+  area-window p q =
+      q ∙ rw (p, a .ww-is, a .wh-is, a .iw-is, a .ih-is, a .left-is, a .top-is) (sym (done _ _ _ e))
+
+module _ (f : Frame) (planeNo pl ps kind w h : ℕ) (x y : ℤ) (mode sl : ℕ) where
+  -- a refused call names no part
+  pub no-window : (n : ℕ) {r : Part} → n ≡ lowest (windowTests f planeNo pl ps kind w h x y mode sl) → (n ≡ 0 → ⊥) → r ≡ noPart n
+      → r ≡ windowOf f planeNo pl ps kind w h x y mode sl
+  unfolding windowOf
+  no-window n e other is = is ∙ rw e (sym (refused _ _ _ (rw e at other)))
+
+  -- ---- what a call does to scratch: an answer in scratch is accepted, and the plane hasn't the window
+  pub in-scratch : windowOf f planeNo pl ps kind w h x y mode sl .buffer ≡ 2
+      → (lowest (windowTests f planeNo pl ps kind w h x y mode sl) ≡ 0) × (ownPlane f planeNo kind w h x y mode ≡ false)
+  unfolding windowOf windowAt orSame
+  in-scratch = go (lowest (windowTests f planeNo pl ps kind w h x y mode sl)) (ownPlane f planeNo kind w h x y mode) where
+    go : (n : ℕ) (b : Bool) → orSame n (windowAt b ps (windowSide kind w) (windowSide kind h) (windowStart kind x) (windowStart kind y)) (noPart n) .buffer ≡ 2
+        → (n ≡ 0) × (b ≡ false)
+    go zero true e = absurd (omega arith)
+    go zero false e = (refl, refl)
+    go (suc n) b e = absurd (omega arith)
+
+  -- and any other leaves scratch as it was
+  pub not-scratch : (plane scratch : List ℕ) → (windowOf f planeNo pl ps kind w h x y mode sl .buffer ≡ 2 → ⊥)
+      → scratch ≡ scratchOf (windowOf f planeNo pl ps kind w h x y mode sl .number) f planeNo plane ps kind w h x y mode scratch
+  unfolding windowOf windowAt scratchOf fetched orSame
+  not-scratch plane scratch = go (lowest (windowTests f planeNo pl ps kind w h x y mode sl)) (ownPlane f planeNo kind w h x y mode) where
+    go : (n : ℕ) (b : Bool)
+        → (orSame n (windowAt b ps (windowSide kind w) (windowSide kind h) (windowStart kind x) (windowStart kind y)) (noPart n) .buffer ≡ 2 → ⊥)
+        → scratch ≡ orSame (orSame n (windowAt b ps (windowSide kind w) (windowSide kind h) (windowStart kind x) (windowStart kind y)) (noPart n) .number)
+        (fetched b plane ps (windowSide kind w) (windowSide kind h) (planeW f planeNo) (planeH f planeNo) (windowStart kind x) (windowStart kind y) scratch) scratch
+    go zero true h = refl
+    go zero false h = absurd (h refl)
+    go (suc n) b h = refl

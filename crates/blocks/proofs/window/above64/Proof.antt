@@ -1,0 +1,11 @@
+use Rattle.rows.proofs.Laws.Signed.{signed, rd}
+use Rattle.blocks.proofs.window.above64.Statement.{statement}
+use Rattle.blocks.proofs.window.above64.Tie as tie
+
+pub above64-spec : {M : Type 1} → statement M
+above64-spec =
+    tie.close
+    (tie.spec
+    (λ c. omega (signed, rd (c .before .fits .v)))  -- cast-result
+    (λ c. omega (signed, rd (c .before .fits .v)))  -- returns
+    (λ c. omega (signed, rd (c .before .fits .v))))  -- returns-2

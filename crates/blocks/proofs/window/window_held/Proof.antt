@@ -1,0 +1,21 @@
+use mathlib.Core.Path.{refl}
+use borrow.Author.Needs.{needs}
+use Rattle.blocks.proofs.window.window_held.Statement.{statement}
+use Rattle.blocks.proofs.window.window_held.Tie as tie
+
+returns : tie.Need-returns
+returns c =
+    let p = c .before .before in let s = p .before .before in
+    rw (c .held2 .ensures, c .before .plane-h .ensures, p .plane-w .ensures, p .before .held .ensures, s .window-side2 .ensures, s .before .window-side .ensures) refl
+
+pub window-held-spec : {M : Type 1} → statement M
+window-held-spec =
+    tie.close
+    (tie.spec
+    (λ c κs. search needs)  -- window-side-requires
+    (λ c κs. search needs)  -- window-side-requires-2
+    (λ c κs. search needs)  -- held-requires
+    (λ c κs. search needs)  -- plane-w-requires
+    (λ c κs. search needs)  -- plane-h-requires
+    (λ c κs. search needs)  -- held-requires-2
+    returns)

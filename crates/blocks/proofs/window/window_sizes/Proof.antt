@@ -1,0 +1,14 @@
+use borrow.Author.Needs.{needs}
+use Rattle.blocks.proofs.window.window_sizes.Statement.{statement}
+use Rattle.blocks.proofs.window.window_sizes.Tie as tie
+
+pub window-sizes-spec : {M : Type 1} → statement M
+window-sizes-spec =
+    tie.close
+    (tie.spec
+    (λ c κs. search needs)  -- frame-sizes-ok-requires
+    (λ c κs. search needs)  -- plane-w-requires
+    (λ c κs. search needs)  -- stride-requires
+    (λ c κs. search needs)  -- sizes-requires
+    (λ c κs. search needs)  -- needed-requires
+    (λ c. cc))  -- returns
