@@ -38,3 +38,4 @@ pub mod Demand
 pub mod DemandRuns
 pub mod DemandHolds
 pub mod WindowReady
+pub mod Window

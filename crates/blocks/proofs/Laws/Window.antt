@@ -1,0 +1,131 @@
+-- What a window holds: in either mode, and wherever it lies, the pixels of the endless plane. Assumes nothing.
+use mathlib.Core.Path.{_≡_, refl, sym, ap, _∙_}
+use mathlib.Core.Bool.{Bool, true, false, _&&_}
+use mathlib.Core.List.{List}
+use Prim.Native.Nat.{ℕ, zero, suc, _+_, _-_, _*_, _≤_, _<_}
+use native.Mathlib.Nat.{add-mul, mul-le-mul-right, zero-add}
+use native.Mathlib.Omega.{arith}
+use lib.Dec.{eqb}
+use lib.IntN.{ℤ, pos, _+ℤ_, _-ℤ_}
+use lib.ListN.{length, getD}
+use lib.Signed.{leZ}
+use Rattle.rows.specs.Numbers.{up, dn, clip}
+use Rattle.rows.specs.Places.{pixel, span, fill, around}
+use Rattle.rows.specs.Edge.{endless, edge, aroundAt}
+use Rattle.rows.proofs.Laws.Signed.{le-yes, add-parts, one-part, clip-up}
+use Rattle.rows.proofs.Laws.Places.{span-length, span-at, row-fits}
+use Rattle.rows.proofs.Laws.Fill.{and-true, length-fill, fill-in}
+use Rattle.blocks.specs.Refuse.{lowest, orSame, partLen}
+use Rattle.blocks.specs.Ready.{Rows, Fetch, PartIn}
+use Rattle.blocks.specs.Window.{planeW, planeH, before, after, windowSide, windowStart, windowTests, inside, isPlanes, ownPlane, windowAt, noPart, windowOf, fetched, scratchOf, partOf, aroundPart}
+use Rattle.blocks.proofs.Laws.Refuse.{done}
+use Rattle.blocks.proofs.Laws.WindowReady.{window-ready}
+use Rattle.blocks.specs.declared.window.Frame.{Frame}
+use Rattle.blocks.specs.declared.window.Part.{Part}
+
+-- ---- a window inside its plane
+-- n columns from x on lie inside the side
+pub record Inside (x : ℤ) (n side : ℕ) : Type 0 where
+  pub low : dn x ≡ 0
+  pub high : up x + n ≤ side
+
+inside-met : (x : ℤ) (n side : ℕ) → inside x n side ≡ true → Inside x n side
+unfolding inside
+inside-met x n side e =
+    let p = and-true (leZ (pos 0) x) (leZ (x +ℤ pos n) (pos side)) e in
+    record {
+      low = omega (arith, le-yes (pos 0) x (p .0), one-part x);
+      high = omega (arith, le-yes (pos 0) x (p .0), one-part x, le-yes (x +ℤ pos n) (pos side) (p .1), add-parts x (pos n), one-part (x +ℤ pos n));
+    }
+
+pub planes-met : (mode ww wh iw ih : ℕ) (x y : ℤ) → isPlanes mode ww wh iw ih x y ≡ true → Inside x ww iw × Inside y wh ih
+unfolding isPlanes
+planes-met mode ww wh iw ih x y e =
+    let p = and-true (inside x ww iw) (inside y wh ih) (and-true (eqb mode 0) _ e .1) in
+    (inside-met x ww iw (p .0), inside-met y wh ih (p .1))
+
+-- there, the nearest column is the column itself
+clip-inside : (x : ℤ) (n side i : ℕ) → Inside x n side → i < n → clip (side - 1) (x +ℤ pos i) ≡ up x + i
+clip-inside x n side i p h = omega (arith, p, clip-up (side - 1) (x +ℤ pos i), add-parts x (pos i), one-part (x +ℤ pos i))
+
+-- and the plane holds the window
+pub planes-fit : {ww wh iw ih sl pl ps : ℕ} (x y : ℤ) → Fetch ww wh iw ih sl ww pl ps → Inside x ww iw → Inside y wh ih → up y * ps + up x + partLen ps ww wh ≤ pl
+planes-fit {ww} {wh} {iw} {ih} {sl} {pl} {ps} x y ok p q =
+    let low : (up y + (wh - 1)) * ps ≤ (ih - 1) * ps = mul-le-mul-right {m = up y + (wh - 1)} {n = ih - 1} ps (omega (arith, ok, q)) in
+    omega (arith, low, add-mul (up y) (wh - 1) ps, ok .plane, p)
+
+-- ---- a buffer of h rows of w at the stride s whose pixels are g's
+pub record Shows (src : List ℕ) (s w h : ℕ) (g : ℕ → ℕ → ℕ) : Type 0 where
+  pub rows : Rows (length src) s w h
+  pub same : (i j : ℕ) → i < w → j < h → pixel src s i j ≡ g i j
+
+-- such rows from place o on, as a part
+span-shows : (l : List ℕ) (o s w h : ℕ) (g : ℕ → ℕ → ℕ) → w ≤ s → s ≤ 32768 → o + partLen s w h ≤ length l
+    → ((i j : ℕ) → i < w → j < h → getD l (o + (j * s + i)) 0 ≡ g i j) → Shows (span l o (o + partLen s w h)) s w h g
+span-shows l o s w h g wide most fits same =
+    let n : length (span l o (o + partLen s w h)) ≡ partLen s w h = span-length 0 l o (o + partLen s w h) fits ∙ omega arith in
+    record {
+      rows = record { wide = wide; most = most; fits = omega (arith, n) };
+      same = λ i j a b.
+          span-at 0 l o (o + partLen s w h) fits (j * s + i) (omega (arith, row-fits (partLen s w h) s w h j (omega arith) b)) ∙ same i j a b;
+    }
+
+module _ {ww wh iw ih : ℕ} (x y : ℤ) (plane scratch : List ℕ) {ps : ℕ} (ok : Fetch ww wh iw ih (length scratch) ww (length plane) ps) where
+  -- the plane's own part
+  plane-shows : Inside x ww iw → Inside y wh ih
+      → Shows (span plane (up y * ps + up x) (up y * ps + up x + partLen ps ww wh)) ps ww wh (edge plane ps iw ih x y)
+  unfolding edge endless
+  plane-shows p q =
+      span-shows plane (up y * ps + up x) ps ww wh (edge plane ps iw ih x y) (omega (arith, ok .plane, p)) (ok .plane .most) (planes-fit x y ok p q) λ i j a b.
+      ap (λ (k : ℕ). getD plane k 0)
+      (rw (clip-inside x ww iw i p a, clip-inside y wh ih j q b) (omega (arith, add-mul (up y) j ps)))
+
+  -- scratch, filled
+  scratch-shows : Shows (span (fill scratch ww ww wh (edge plane ps iw ih x y)) 0 (0 + partLen ww ww wh)) ww ww wh (edge plane ps iw ih x y)
+  scratch-shows =
+      let g = edge plane ps iw ih x y in
+      let n = length-fill scratch ww ww wh g in
+      span-shows (fill scratch ww ww wh g) 0 ww ww wh g (omega arith) (ok .dst .most) (omega (arith, n, ok .dst)) λ i j a b.
+      ap (λ (k : ℕ). getD (fill scratch ww ww wh g) k 0) (zero-add (j * ww + i))
+      ∙ fill-in 0 ww scratch ww wh g i j (omega arith) a b (omega (arith, row-fits (length scratch) ww ww wh j (ok .dst .fits) b))
+
+  -- either, by whether the plane has the window
+  by-plane : (b : Bool) → (b ≡ true → Inside x ww iw × Inside y wh ih)
+      → Shows (partOf (windowAt b ps ww wh x y) plane (fetched b plane ps ww wh iw ih x y scratch)) (windowAt b ps ww wh x y .stride) ww wh (edge plane ps iw ih x y)
+  unfolding partOf windowAt fetched
+  by-plane true p = plane-shows (p refl .0) (p refl .1)
+  by-plane false p = scratch-shows
+
+-- ---- the part of an accepted window
+module _ (f : Frame) (planeNo : ℕ) (plane : List ℕ) (ps kind w h : ℕ) (x y : ℤ) (mode : ℕ) (scratch : List ℕ)
+    (e : lowest (windowTests f planeNo (length plane) ps kind w h x y mode (length scratch)) ≡ 0) where
+  abbrev answer : Part
+  answer = windowOf f planeNo (length plane) ps kind w h x y mode (length scratch)
+
+  abbrev part : List ℕ
+  part = partOf answer plane (scratchOf 0 f planeNo plane ps kind w h x y mode scratch)
+
+  pub part-shows : Shows part (answer .stride) (windowSide kind w) (windowSide kind h)
+      (edge plane ps (planeW f planeNo) (planeH f planeNo) (windowStart kind x) (windowStart kind y))
+  unfolding windowOf scratchOf orSame
+  part-shows =
+      let r = window-ready f planeNo (length plane) ps kind w h x y mode (length scratch) e in
+      rw e (by-plane (windowStart kind x) (windowStart kind y) plane scratch (r .0) (ownPlane f planeNo kind w h x y mode)
+      (planes-met mode _ _ _ _ (windowStart kind x) (windowStart kind y)))
+
+  -- it is long enough, and its stride carries the window's row
+  pub part-rows : Rows (length part) (answer .stride) (windowSide kind w) (windowSide kind h)
+  part-rows = part-shows .rows
+
+  -- the window law
+  pub part-pixel : (i j : ℕ) → i < windowSide kind w → j < windowSide kind h
+      → pixel part (answer .stride) i j ≡ endless plane ps (planeW f planeNo) (planeH f planeNo) (windowStart kind x +ℤ pos i) (windowStart kind y +ℤ pos j)
+  unfolding edge
+  part-pixel i j a b = part-shows .same i j a b
+
+  -- the pixels around a place of the block
+  pub part-around : (i j a b : ℕ) → i < w → j < h → a < windowSide kind 1 → b < windowSide kind 1
+      → aroundPart kind part (answer .stride) i j a b ≡ aroundAt (before kind) (endless plane ps (planeW f planeNo) (planeH f planeNo)) x y i j a b
+  unfolding around aroundAt
+  part-around i j a b wi hj ka kb =
+      ap (λ (k : ℕ). getD part k 0) (omega arith) ∙ part-pixel (i + a) (j + b) (omega arith) (omega arith)
