@@ -3,10 +3,14 @@ ghost use mathlib.Core.Path.{_≡_};
 ghost use Prim.Native.Nat.{_+_, _-_, _*_, _^_, _≤_};
 ghost use lib.Dec.{leb};
 ghost use lib.IntN.{natAbs};
+ghost use lib.ListN.{length};
 ghost use Rattle.rows.specs.Numbers.{up};
 ghost use Rattle.blocks.specs.Refuse.{need, lowest, sizeOk, blockSide, strideOk, partLen, holds, holdsAll};
+ghost use Rattle.blocks.specs.Ready.{PartIn};
 ghost use Rattle.blocks.specs.Edge.{placeOk};
-ghost use Rattle.blocks.specs.Window.{planeSide, planeW, planeH, frameSizesOk, frameNamesOk, eightTaps, before, after, windowSide, windowStart, windowTests, inside, isPlanes, windowAt, noPart, windowOf};
+ghost use Rattle.blocks.specs.Window.{planeSide, planeW, planeH, frameSizesOk, frameNamesOk, eightTaps, before, after, windowSide, windowStart, windowTests, inside, isPlanes, windowAt, noPart, windowOf, scratchOf, partOf};
+use crate::edge::edge_rows16;
+use crate::edge::edge_rows8;
 use crate::edge::places;
 use crate::mask::flags_ok;
 use crate::refuse::held;
@@ -30,6 +34,16 @@ pub struct Part {
     pub place: usize,
     pub stride: usize,
     pub len: usize,
+}
+
+// A window of ww columns and wh rows, from column `left` and row `top` of a plane of iw columns and ih rows on.
+pub struct Area {
+    pub ww: usize,
+    pub wh: usize,
+    pub iw: usize,
+    pub ih: usize,
+    pub left: i64,
+    pub top: i64,
 }
 
 // A side of the named plane: chroma has half of luma's where the flag is set.
@@ -100,6 +114,20 @@ pub fn window_start(kind: u32, x: i64) -> i64
     ensures { λ r. ⌜ r ≡ windowStart kind x ⌝ }
 {
     x - before(kind) as i64
+}
+
+// The window of a block.
+pub fn area_of(f: Frame, plane_no: u32, kind: u32, w: usize, h: usize, x: i64, y: i64) -> Area
+    requires { ⌜ (w ≤ 64) × (h ≤ 64) × (natAbs x ≤ 2 ^ 30) × (natAbs y ≤ 2 ^ 30) ⌝ }
+    ensures { λ r. ⌜ r ≡ record { ww = windowSide kind w; wh = windowSide kind h; iw = planeW f «plane_no»; ih = planeH f «plane_no»; left = windowStart kind x; top = windowStart kind y } ⌝ }
+{
+    let ww = window_side(kind, w);
+    let wh = window_side(kind, h);
+    let iw = plane_w(f, plane_no);
+    let ih = plane_h(f, plane_no);
+    let left = window_start(kind, x);
+    let top = window_start(kind, y);
+    Area { ww, wh, iw, ih, left, top }
 }
 
 // The links of a window's tests: the sizes and the stride, on which the later ones rely; the other numbers; the buffers.
@@ -258,12 +286,133 @@ pub fn find_window(
     if number != 0 {
         return no_part(number);
     }
-    let ww = window_side(kind, w);
-    let wh = window_side(kind, h);
-    let left = window_start(kind, x);
-    let top = window_start(kind, y);
-    let iw = plane_w(f, plane_no);
-    let ih = plane_h(f, plane_no);
-    let planes = is_planes(mode, ww, wh, iw, ih, left, top);
-    window_at(planes, plane_stride, ww, wh, left, top)
+    let a = area_of(f, plane_no, kind, w, h, x, y);
+    let planes = is_planes(mode, a.ww, a.wh, a.iw, a.ih, a.left, a.top);
+    window_at(planes, plane_stride, a.ww, a.wh, a.left, a.top)
+}
+
+// A window's call: where the window lies, and scratch filled where the plane hasn't got it.
+pub fn window8(
+    f: Frame,
+    plane_no: u32,
+    plane: &[u8],
+    plane_stride: usize,
+    kind: u32,
+    w: usize,
+    h: usize,
+    x: i64,
+    y: i64,
+    mode: u32,
+    scratch: &mut [u8],
+) -> Part
+    ensures { λ r. ⌜ (r ≡ windowOf f «plane_no» (length (now (plane .entry))) «plane_stride» kind w h x y mode (length (now (scratch .entry)))) × (now (scratch .exit) ≡ scratchOf (r .number) f «plane_no» (now (plane .entry)) «plane_stride» kind w h x y mode (now (scratch .entry))) ⌝ }
+{
+    let part = find_window(
+        f,
+        plane_no,
+        plane.len(),
+        plane_stride,
+        kind,
+        w,
+        h,
+        x,
+        y,
+        mode,
+        scratch.len(),
+    );
+    if part.buffer == 2 {
+        let a = area_of(f, plane_no, kind, w, h, x, y);
+        edge_rows8(
+            a.ww,
+            a.wh,
+            a.iw,
+            a.ih,
+            a.left,
+            a.top,
+            scratch,
+            a.ww,
+            plane,
+            plane_stride,
+        );
+    }
+    part
+}
+
+pub fn window16(
+    f: Frame,
+    plane_no: u32,
+    plane: &[u16],
+    plane_stride: usize,
+    kind: u32,
+    w: usize,
+    h: usize,
+    x: i64,
+    y: i64,
+    mode: u32,
+    scratch: &mut [u16],
+) -> Part
+    ensures { λ r. ⌜ (r ≡ windowOf f «plane_no» (length (now (plane .entry))) «plane_stride» kind w h x y mode (length (now (scratch .entry)))) × (now (scratch .exit) ≡ scratchOf (r .number) f «plane_no» (now (plane .entry)) «plane_stride» kind w h x y mode (now (scratch .entry))) ⌝ }
+{
+    let part = find_window(
+        f,
+        plane_no,
+        plane.len(),
+        plane_stride,
+        kind,
+        w,
+        h,
+        x,
+        y,
+        mode,
+        scratch.len(),
+    );
+    if part.buffer == 2 {
+        let a = area_of(f, plane_no, kind, w, h, x, y);
+        edge_rows16(
+            a.ww,
+            a.wh,
+            a.iw,
+            a.ih,
+            a.left,
+            a.top,
+            scratch,
+            a.ww,
+            plane,
+            plane_stride,
+        );
+    }
+    part
+}
+
+// The part that an answer names, empty where it was refused.
+pub fn pick8<'a>(p: Part, plane: &'a [u8], scratch: &'a [u8]) -> &'a [u8]
+    requires { ⌜ PartIn p (length (now plane)) (length (now scratch)) ⌝ }
+    ensures { λ r. ⌜ now r ≡ partOf p (now (plane .entry)) (now (scratch .entry)) ⌝ }
+{
+    let buffer = p.buffer;
+    let start = p.place;
+    let len = p.len;
+    if buffer == 1 {
+        return &plane[start..start + len];
+    }
+    if buffer == 2 {
+        return &scratch[start..start + len];
+    }
+    &plane[0..0]
+}
+
+pub fn pick16<'a>(p: Part, plane: &'a [u16], scratch: &'a [u16]) -> &'a [u16]
+    requires { ⌜ PartIn p (length (now plane)) (length (now scratch)) ⌝ }
+    ensures { λ r. ⌜ now r ≡ partOf p (now (plane .entry)) (now (scratch .entry)) ⌝ }
+{
+    let buffer = p.buffer;
+    let start = p.place;
+    let len = p.len;
+    if buffer == 1 {
+        return &plane[start..start + len];
+    }
+    if buffer == 2 {
+        return &scratch[start..start + len];
+    }
+    &plane[0..0]
 }

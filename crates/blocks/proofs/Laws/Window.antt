@@ -19,7 +19,7 @@ use Rattle.blocks.specs.Refuse.{lowest, orSame, partLen}
 use Rattle.blocks.specs.Ready.{Rows, Fetch, PartIn}
 use Rattle.blocks.specs.Window.{planeW, planeH, before, after, windowSide, windowStart, windowTests, inside, isPlanes, ownPlane, windowAt, noPart, windowOf, fetched, scratchOf, partOf, aroundPart}
 use Rattle.blocks.proofs.Laws.Refuse.{done}
-use Rattle.blocks.proofs.Laws.WindowReady.{window-ready}
+use Rattle.blocks.proofs.Laws.WindowReady.{window-ready, window-number}
 use Rattle.blocks.specs.declared.window.Frame.{Frame}
 use Rattle.blocks.specs.declared.window.Part.{Part}
 
@@ -97,6 +97,12 @@ module _ {ww wh iw ih : ℕ} (x y : ℤ) (plane scratch : List ℕ) {ps : ℕ} (
   by-plane false p = scratch-shows
 
 -- ---- the part of an accepted window
+-- what a kernel reads: the window's rows, in which the pixels around each place of the block are the plane g's
+pub record Picked (kind w h : ℕ) (g : ℤ → ℤ → ℕ) (x y : ℤ) (src : List ℕ) (s : ℕ) : Type 0 where
+  pub rows : Rows (length src) s (windowSide kind w) (windowSide kind h)
+  pub same : (i j a b : ℕ) → i < w → j < h → a < windowSide kind 1 → b < windowSide kind 1
+      → aroundPart kind src s i j a b ≡ aroundAt (before kind) g x y i j a b
+
 module _ (f : Frame) (planeNo : ℕ) (plane : List ℕ) (ps kind w h : ℕ) (x y : ℤ) (mode : ℕ) (scratch : List ℕ)
     (e : lowest (windowTests f planeNo (length plane) ps kind w h x y mode (length scratch)) ≡ 0) where
   abbrev answer : Part
@@ -129,3 +135,11 @@ module _ (f : Frame) (planeNo : ℕ) (plane : List ℕ) (ps kind w h : ℕ) (x y
   unfolding around aroundAt
   part-around i j a b wi hj ka kb =
       ap (λ (k : ℕ). getD part k 0) (omega arith) ∙ part-pixel (i + a) (j + b) (omega arith) (omega arith)
+
+  -- the same of what the two calls gave: the answer p, scratch as it was filled, and the part picked from it
+  pub picked : (p : Part) (filled src : List ℕ) → p ≡ answer → filled ≡ scratchOf (p .number) f planeNo plane ps kind w h x y mode scratch
+      → src ≡ partOf p plane filled → Picked kind w h (endless plane ps (planeW f planeNo) (planeH f planeNo)) x y src (p .stride)
+  picked p filled src is full from =
+      let n : p .number ≡ 0 = ap (λ (q : Part). q .number) is ∙ window-number f planeNo (length plane) ps kind w h x y mode (length scratch) ∙ e in
+      let k : filled ≡ scratchOf 0 f planeNo plane ps kind w h x y mode scratch = full ∙ ap (λ (m : ℕ). scratchOf m f planeNo plane ps kind w h x y mode scratch) n in
+      rw (from, k, is) (record { rows = part-rows; same = part-around })

@@ -7,10 +7,12 @@ use native.Mathlib.Omega.{arith}
 use borrow.Author.Tests.{leb-true}
 use lib.Dec.{leb, eqb}
 use lib.IntN.{ℤ, pos, natAbs, _-ℤ_}
+use lib.ListN.{length}
 use mir.Syntax.{w64}
-use mir.Val.{SFits}
-use Rattle.rows.specs.Places.{pick}
-use Rattle.rows.proofs.Laws.Signed.{abs-sub, fit-abs}
+use mir.Val.{SFits, toZ, ofZ}
+use Rattle.rows.specs.Places.{pick, fill}
+use Rattle.rows.specs.Edge.{edge}
+use Rattle.rows.proofs.Laws.Signed.{abs-sub, fit-abs, backs}
 use Rattle.rows.proofs.Laws.Fill.{and-true}
 use Rattle.blocks.specs.Refuse.{Test, size, stride, number, read, written, _asks_, lowest, orSame, sizeOk, blockSide, strideOk, holds, holdsAll}
 use Rattle.blocks.specs.Edge.{placeOk}
@@ -19,6 +21,7 @@ use Rattle.blocks.specs.Window.{planeW, planeH, planeSide, frameSizesOk,
 use Rattle.blocks.proofs.Laws.Refuse.{all-met, later, sooner, size-met, stride-met, holds-met, done, refused}
 use Rattle.blocks.proofs.Laws.Ready.{rows-met}
 use Rattle.blocks.proofs.Laws.EdgeReady.{place-met}
+use Rattle.blocks.specs.declared.window.Area.{Area}
 use Rattle.blocks.specs.declared.window.Frame.{Frame}
 use Rattle.blocks.specs.declared.window.Part.{Part}
 
@@ -135,34 +138,22 @@ window-small f planeNo pl ps kind w h x y mode sl e =
     let r = window-ready f planeNo pl ps kind w h x y mode sl e in
     (size-met 64 w (t .1 .0) .1, size-met 64 h (t .1 .1 .0) .1, r .1, r .2)
 
--- ---- the window as the code has it: its sides, its plane's sides, and where it begins
-pub record Area (f : Frame) (planeNo kind w h : ℕ) (x y : ℤ) (ww wh iw ih : ℕ) (left top : ℤ) : Type 0 where
-  pub ww-is : ww ≡ windowSide kind w
-  pub wh-is : wh ≡ windowSide kind h
-  pub iw-is : iw ≡ planeW f planeNo
-  pub ih-is : ih ≡ planeH f planeNo
-  pub left-is : left ≡ windowStart kind x
-  pub top-is : top ≡ windowStart kind y
-
-module _ (pl ps mode sl : ℕ) {f : Frame} {planeNo kind w h : ℕ} {x y : ℤ} {ww wh iw ih : ℕ} {left top : ℤ} (a : Area f planeNo kind w h x y ww wh iw ih left top)
-    (e : lowest (windowTests f planeNo pl ps kind w h x y mode sl) ≡ 0) where
-  pub area-ready : Fetch ww wh iw ih sl ww pl ps × (natAbs left ≤ 2 ^ 30 + 3) × (natAbs top ≤ 2 ^ 30 + 3)
-  area-ready =
-      let r = window-ready f planeNo pl ps kind w h x y mode sl e in
-      rw (a .ww-is, a .wh-is, a .iw-is, a .ih-is, a .left-is, a .top-is) (r .0, start-near kind x (r .1), start-near kind y (r .2))
-
-  pub area-window : {planes : Bool} {r : Part} → planes ≡ isPlanes mode ww wh iw ih left top → r ≡ windowAt planes ps ww wh left top
-      → r ≡ windowOf f planeNo pl ps kind w h x y mode sl
-  unfolding windowOf
-  area-window p q =
-      q ∙ rw (p, a .ww-is, a .wh-is, a .iw-is, a .ih-is, a .left-is, a .top-is) (sym (done _ _ _ e))
-
 module _ (f : Frame) (planeNo pl ps kind w h : ℕ) (x y : ℤ) (mode sl : ℕ) where
   -- a refused call names no part
   pub no-window : (n : ℕ) {r : Part} → n ≡ lowest (windowTests f planeNo pl ps kind w h x y mode sl) → (n ≡ 0 → ⊥) → r ≡ noPart n
       → r ≡ windowOf f planeNo pl ps kind w h x y mode sl
   unfolding windowOf
   no-window n e other is = is ∙ rw e (sym (refused _ _ _ (rw e at other)))
+
+  -- the answer's number is the tests'
+  pub window-number : windowOf f planeNo pl ps kind w h x y mode sl .number ≡ lowest (windowTests f planeNo pl ps kind w h x y mode sl)
+  unfolding windowOf windowAt orSame
+  window-number = go (lowest (windowTests f planeNo pl ps kind w h x y mode sl)) (ownPlane f planeNo kind w h x y mode) where
+    go : (n : ℕ) (b : Bool)
+        → orSame n (windowAt b ps (windowSide kind w) (windowSide kind h) (windowStart kind x) (windowStart kind y)) (noPart n) .number ≡ n
+    go zero true = refl
+    go zero false = refl
+    go (suc n) b = refl
 
   -- ---- what a call does to scratch: an answer in scratch is accepted, and the plane hasn't the window
   pub in-scratch : windowOf f planeNo pl ps kind w h x y mode sl .buffer ≡ 2
@@ -187,3 +178,46 @@ module _ (f : Frame) (planeNo pl ps kind w h : ℕ) (x y : ℤ) (mode sl : ℕ) 
     go zero true h = refl
     go zero false h = absurd (h refl)
     go (suc n) b h = refl
+
+-- ---- an accepted window as the code has it
+abbrev pub areaOf : (f : Frame) (planeNo kind w h : ℕ) (x y : ℤ) → Area
+areaOf f planeNo kind w h x y =
+    record {
+      ww = windowSide kind w;
+      wh = windowSide kind h;
+      iw = planeW f planeNo;
+      ih = planeH f planeNo;
+      left = windowStart kind x;
+      top = windowStart kind y;
+    }
+
+module _ (f : Frame) (planeNo pl ps kind w h : ℕ) (x y : ℤ) (mode sl : ℕ) (e : lowest (windowTests f planeNo pl ps kind w h x y mode sl) ≡ 0)
+    {a : Area} (is : a ≡ areaOf f planeNo kind w h x y) where
+  left-is : toZ w64 (ofZ w64 (a .left)) ≡ windowStart kind x
+  left-is = backs w64 (ap (λ (b : Area). b .left) is) (start-fits kind x (window-ready f planeNo pl ps kind w h x y mode sl e .1))
+
+  top-is : toZ w64 (ofZ w64 (a .top)) ≡ windowStart kind y
+  top-is = backs w64 (ap (λ (b : Area). b .top) is) (start-fits kind y (window-ready f planeNo pl ps kind w h x y mode sl e .2))
+
+  pub area-ready : Fetch (a .ww) (a .wh) (a .iw) (a .ih) sl (a .ww) pl ps
+      × (natAbs (toZ w64 (ofZ w64 (a .left))) ≤ 2 ^ 30 + 3) × (natAbs (toZ w64 (ofZ w64 (a .top))) ≤ 2 ^ 30 + 3)
+  area-ready =
+      let r = window-ready f planeNo pl ps kind w h x y mode sl e in
+      rw (left-is, top-is, is) (r .0, start-near kind x (r .1), start-near kind y (r .2))
+
+  pub area-window : {planes : Bool} {r : Part} → planes ≡ isPlanes mode (a .ww) (a .wh) (a .iw) (a .ih) (toZ w64 (ofZ w64 (a .left))) (toZ w64 (ofZ w64 (a .top)))
+      → r ≡ windowAt planes ps (a .ww) (a .wh) (toZ w64 (ofZ w64 (a .left))) (toZ w64 (ofZ w64 (a .top))) → r ≡ windowOf f planeNo pl ps kind w h x y mode sl
+  unfolding windowOf
+  area-window p q = q ∙ rw (p, left-is, top-is, is) (sym (done _ _ _ e))
+
+-- scratch after a call that answers p in it
+pub area-scratch : (f : Frame) (planeNo : ℕ) (plane : List ℕ) (ps kind w h : ℕ) (x y : ℤ) (mode : ℕ) (scratch : List ℕ) {p : Part} {a : Area} {filled : List ℕ}
+    → p ≡ windowOf f planeNo (length plane) ps kind w h x y mode (length scratch) → p .buffer ≡ 2 → a ≡ areaOf f planeNo kind w h x y
+    → filled ≡ fill scratch (a .ww) (a .ww) (a .wh) (edge plane ps (a .iw) (a .ih) (toZ w64 (ofZ w64 (a .left))) (toZ w64 (ofZ w64 (a .top))))
+    → filled ≡ scratchOf (p .number) f planeNo plane ps kind w h x y mode scratch
+unfolding scratchOf fetched orSame
+area-scratch f planeNo plane ps kind w h x y mode scratch {p} {a} pw two is full =
+    let c = in-scratch f planeNo (length plane) ps kind w h x y mode (length scratch) (sym (ap (λ (q : Part). q .buffer) pw) ∙ two) in
+    let n : p .number ≡ 0 = ap (λ (q : Part). q .number) pw ∙ window-number f planeNo (length plane) ps kind w h x y mode (length scratch) ∙ c .0 in
+    full ∙ rw (left-is f planeNo (length plane) ps kind w h x y mode (length scratch) (c .0) is,
+    top-is f planeNo (length plane) ps kind w h x y mode (length scratch) (c .0) is, is, n, c .1) refl
