@@ -9,8 +9,8 @@ ghost use Rattle.blocks.specs.Refuse.{need, lowest, sizeOk, blockSide, s
 ghost use Rattle.blocks.specs.Ready.{PartIn};
 ghost use Rattle.blocks.specs.Edge.{placeOk};
 ghost use Rattle.blocks.specs.Window.{planeSide, planeW, planeH, frameSizesOk, frameNamesOk, eightTaps, before, after, windowSide, windowStart, windowTests, inside, isPlanes, windowAt, noPart, windowOf, scratchOf, partOf};
-use crate::edge::edge_rows16;
 use crate::edge::edge_rows8;
+use crate::edge::edge_rows16;
 use crate::edge::places;
 use crate::mask::flags_ok;
 use crate::refuse::held;
@@ -127,7 +127,14 @@ pub fn area_of(f: Frame, plane_no: u32, kind: u32, w: usize, h: usize, x: i64, y
     let ih = plane_h(f, plane_no);
     let left = window_start(kind, x);
     let top = window_start(kind, y);
-    Area { ww, wh, iw, ih, left, top }
+    Area {
+        ww,
+        wh,
+        iw,
+        ih,
+        left,
+        top,
+    }
 }
 
 // The links of a window's tests: the sizes and the stride, on which the later ones rely; the other numbers; the buffers.

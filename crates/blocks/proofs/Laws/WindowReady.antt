@@ -131,13 +131,7 @@ window-ready f planeNo pl ps kind w h x y mode sl e =
       place-met y (n .1 .0),
     )
 
-pub window-small : (f : Frame) (planeNo pl ps kind w h : ℕ) (x y : ℤ) (mode sl : ℕ) → lowest (windowTests f planeNo pl ps kind w h x y mode sl) ≡ 0
-    → (w ≤ 64) × (h ≤ 64) × (natAbs x ≤ 2 ^ 30) × (natAbs y ≤ 2 ^ 30)
-window-small f planeNo pl ps kind w h x y mode sl e =
-    let t = all-met (windowTests f planeNo pl ps kind w h x y mode sl) e in
-    let r = window-ready f planeNo pl ps kind w h x y mode sl e in
-    (size-met 64 w (t .1 .0) .1, size-met 64 h (t .1 .1 .0) .1, r .1, r .2)
-
+-- ---- the answer
 module _ (f : Frame) (planeNo pl ps kind w h : ℕ) (x y : ℤ) (mode sl : ℕ) where
   -- a refused call names no part
   pub no-window : (n : ℕ) {r : Part} → n ≡ lowest (windowTests f planeNo pl ps kind w h x y mode sl) → (n ≡ 0 → ⊥) → r ≡ noPart n
@@ -145,41 +139,45 @@ module _ (f : Frame) (planeNo pl ps kind w h : ℕ) (x y : ℤ) (mode sl : ℕ) 
   unfolding windowOf
   no-window n e other is = is ∙ rw e (sym (refused _ _ _ (rw e at other)))
 
-  -- the answer's number is the tests'
+  -- by the number and by whether the plane has the window
+  abbrev answerBy : (n : ℕ) (planes : Bool) → Part
+  answerBy n planes = orSame n (windowAt planes ps (windowSide kind w) (windowSide kind h) (windowStart kind x) (windowStart kind y)) (noPart n)
+
+  -- its number is the tests'
   pub window-number : windowOf f planeNo pl ps kind w h x y mode sl .number ≡ lowest (windowTests f planeNo pl ps kind w h x y mode sl)
   unfolding windowOf windowAt orSame
   window-number = go (lowest (windowTests f planeNo pl ps kind w h x y mode sl)) (ownPlane f planeNo kind w h x y mode) where
-    go : (n : ℕ) (b : Bool)
-        → orSame n (windowAt b ps (windowSide kind w) (windowSide kind h) (windowStart kind x) (windowStart kind y)) (noPart n) .number ≡ n
+    go : (n : ℕ) (b : Bool) → answerBy n b .number ≡ n
     go zero true = refl
     go zero false = refl
     go (suc n) b = refl
 
-  -- ---- what a call does to scratch: an answer in scratch is accepted, and the plane hasn't the window
-  pub in-scratch : windowOf f planeNo pl ps kind w h x y mode sl .buffer ≡ 2
+  -- one in scratch is accepted, and the plane hasn't the window
+  in-scratch : windowOf f planeNo pl ps kind w h x y mode sl .buffer ≡ 2
       → (lowest (windowTests f planeNo pl ps kind w h x y mode sl) ≡ 0) × (ownPlane f planeNo kind w h x y mode ≡ false)
   unfolding windowOf windowAt orSame
   in-scratch = go (lowest (windowTests f planeNo pl ps kind w h x y mode sl)) (ownPlane f planeNo kind w h x y mode) where
-    go : (n : ℕ) (b : Bool) → orSame n (windowAt b ps (windowSide kind w) (windowSide kind h) (windowStart kind x) (windowStart kind y)) (noPart n) .buffer ≡ 2
-        → (n ≡ 0) × (b ≡ false)
+    go : (n : ℕ) (b : Bool) → answerBy n b .buffer ≡ 2 → (n ≡ 0) × (b ≡ false)
     go zero true e = absurd (omega arith)
     go zero false e = (refl, refl)
     go (suc n) b e = absurd (omega arith)
 
-  -- and any other leaves scratch as it was
-  pub not-scratch : (plane scratch : List ℕ) → (windowOf f planeNo pl ps kind w h x y mode sl .buffer ≡ 2 → ⊥)
+  -- any other leaves scratch as it was
+  not-scratch : (plane scratch : List ℕ) → (windowOf f planeNo pl ps kind w h x y mode sl .buffer ≡ 2 → ⊥)
       → scratch ≡ scratchOf (windowOf f planeNo pl ps kind w h x y mode sl .number) f planeNo plane ps kind w h x y mode scratch
   unfolding windowOf windowAt scratchOf fetched orSame
   not-scratch plane scratch = go (lowest (windowTests f planeNo pl ps kind w h x y mode sl)) (ownPlane f planeNo kind w h x y mode) where
-    go : (n : ℕ) (b : Bool)
-        → (orSame n (windowAt b ps (windowSide kind w) (windowSide kind h) (windowStart kind x) (windowStart kind y)) (noPart n) .buffer ≡ 2 → ⊥)
-        → scratch ≡ orSame (orSame n (windowAt b ps (windowSide kind w) (windowSide kind h) (windowStart kind x) (windowStart kind y)) (noPart n) .number)
-        (fetched b plane ps (windowSide kind w) (windowSide kind h) (planeW f planeNo) (planeH f planeNo) (windowStart kind x) (windowStart kind y) scratch) scratch
+    go : (n : ℕ) (b : Bool) → (answerBy n b .buffer ≡ 2 → ⊥)
+        → scratch ≡ orSame (answerBy n b .number) (fetched b plane ps (windowSide kind w) (windowSide kind h) (planeW f planeNo) (planeH f planeNo)
+        (windowStart kind x) (windowStart kind y) scratch) scratch
     go zero true h = refl
     go zero false h = absurd (h refl)
     go (suc n) b h = refl
 
 -- ---- an accepted window as the code has it
+pub record Accepted (f : Frame) (planeNo pl ps kind w h : ℕ) (x y : ℤ) (mode sl : ℕ) : Type 0 where
+  pub is : lowest (windowTests f planeNo pl ps kind w h x y mode sl) ≡ 0
+
 abbrev pub areaOf : (f : Frame) (planeNo kind w h : ℕ) (x y : ℤ) → Area
 areaOf f planeNo kind w h x y =
     record {
@@ -191,33 +189,55 @@ areaOf f planeNo kind w h x y =
       top = windowStart kind y;
     }
 
-module _ (f : Frame) (planeNo pl ps kind w h : ℕ) (x y : ℤ) (mode sl : ℕ) (e : lowest (windowTests f planeNo pl ps kind w h x y mode sl) ≡ 0)
-    {a : Area} (is : a ≡ areaOf f planeNo kind w h x y) where
-  left-is : toZ w64 (ofZ w64 (a .left)) ≡ windowStart kind x
-  left-is = backs w64 (ap (λ (b : Area). b .left) is) (start-fits kind x (window-ready f planeNo pl ps kind w h x y mode sl e .1))
+module _ {f : Frame} {planeNo pl ps kind w h : ℕ} {x y : ℤ} {mode sl : ℕ} (ok : Accepted f planeNo pl ps kind w h x y mode sl) where
+  ready : WindowFetch f planeNo pl ps kind w h sl × (natAbs x ≤ 2 ^ 30) × (natAbs y ≤ 2 ^ 30)
+  ready = window-ready f planeNo pl ps kind w h x y mode sl (ok .is)
 
-  top-is : toZ w64 (ofZ w64 (a .top)) ≡ windowStart kind y
-  top-is = backs w64 (ap (λ (b : Area). b .top) is) (start-fits kind y (window-ready f planeNo pl ps kind w h x y mode sl e .2))
+  pub window-small : (w ≤ 64) × (h ≤ 64) × (natAbs x ≤ 2 ^ 30) × (natAbs y ≤ 2 ^ 30)
+  window-small =
+      let t = all-met (windowTests f planeNo pl ps kind w h x y mode sl) (ok .is) in
+      (size-met 64 w (t .1 .0) .1, size-met 64 h (t .1 .1 .0) .1, ready .1, ready .2)
 
-  pub area-ready : Fetch (a .ww) (a .wh) (a .iw) (a .ih) sl (a .ww) pl ps
-      × (natAbs (toZ w64 (ofZ w64 (a .left))) ≤ 2 ^ 30 + 3) × (natAbs (toZ w64 (ofZ w64 (a .top))) ≤ 2 ^ 30 + 3)
-  area-ready =
-      let r = window-ready f planeNo pl ps kind w h x y mode sl e in
-      rw (left-is, top-is, is) (r .0, start-near kind x (r .1), start-near kind y (r .2))
+  module _ {a : Area} (is : a ≡ areaOf f planeNo kind w h x y) where
+    left-is : toZ w64 (ofZ w64 (a .left)) ≡ windowStart kind x
+    left-is = backs w64 (ap (λ (b : Area). b .left) is) (start-fits kind x (ready .1))
 
-  pub area-window : {planes : Bool} {r : Part} → planes ≡ isPlanes mode (a .ww) (a .wh) (a .iw) (a .ih) (toZ w64 (ofZ w64 (a .left))) (toZ w64 (ofZ w64 (a .top)))
-      → r ≡ windowAt planes ps (a .ww) (a .wh) (toZ w64 (ofZ w64 (a .left))) (toZ w64 (ofZ w64 (a .top))) → r ≡ windowOf f planeNo pl ps kind w h x y mode sl
-  unfolding windowOf
-  area-window p q = q ∙ rw (p, left-is, top-is, is) (sym (done _ _ _ e))
+    top-is : toZ w64 (ofZ w64 (a .top)) ≡ windowStart kind y
+    top-is = backs w64 (ap (λ (b : Area). b .top) is) (start-fits kind y (ready .2))
 
--- scratch after a call that answers p in it
-pub area-scratch : (f : Frame) (planeNo : ℕ) (plane : List ℕ) (ps kind w h : ℕ) (x y : ℤ) (mode : ℕ) (scratch : List ℕ) {p : Part} {a : Area} {filled : List ℕ}
-    → p ≡ windowOf f planeNo (length plane) ps kind w h x y mode (length scratch) → p .buffer ≡ 2 → a ≡ areaOf f planeNo kind w h x y
-    → filled ≡ fill scratch (a .ww) (a .ww) (a .wh) (edge plane ps (a .iw) (a .ih) (toZ w64 (ofZ w64 (a .left))) (toZ w64 (ofZ w64 (a .top))))
-    → filled ≡ scratchOf (p .number) f planeNo plane ps kind w h x y mode scratch
-unfolding scratchOf fetched orSame
-area-scratch f planeNo plane ps kind w h x y mode scratch {p} {a} pw two is full =
-    let c = in-scratch f planeNo (length plane) ps kind w h x y mode (length scratch) (sym (ap (λ (q : Part). q .buffer) pw) ∙ two) in
-    let n : p .number ≡ 0 = ap (λ (q : Part). q .number) pw ∙ window-number f planeNo (length plane) ps kind w h x y mode (length scratch) ∙ c .0 in
-    full ∙ rw (left-is f planeNo (length plane) ps kind w h x y mode (length scratch) (c .0) is,
-    top-is f planeNo (length plane) ps kind w h x y mode (length scratch) (c .0) is, is, n, c .1) refl
+    pub area-ready : Fetch (a .ww) (a .wh) (a .iw) (a .ih) sl (a .ww) pl ps
+        × (natAbs (toZ w64 (ofZ w64 (a .left))) ≤ 2 ^ 30 + 3) × (natAbs (toZ w64 (ofZ w64 (a .top))) ≤ 2 ^ 30 + 3)
+    area-ready = rw (left-is, top-is, is) (ready .0, start-near kind x (ready .1), start-near kind y (ready .2))
+
+    pub area-window : {planes : Bool} {r : Part}
+        → planes ≡ isPlanes mode (a .ww) (a .wh) (a .iw) (a .ih) (toZ w64 (ofZ w64 (a .left))) (toZ w64 (ofZ w64 (a .top)))
+        → r ≡ windowAt planes ps (a .ww) (a .wh) (toZ w64 (ofZ w64 (a .left))) (toZ w64 (ofZ w64 (a .top))) → r ≡ windowOf f planeNo pl ps kind w h x y mode sl
+    unfolding windowOf
+    area-window p q = q ∙ rw (p, left-is, top-is, is) (sym (done _ _ _ (ok .is)))
+
+-- ---- scratch after a call that answers p
+pub record Answers (f : Frame) (planeNo : ℕ) (plane : List ℕ) (ps kind w h : ℕ) (x y : ℤ) (mode : ℕ) (scratch : List ℕ) (p : Part) : Type 0 where
+  pub is : p ≡ windowOf f planeNo (length plane) ps kind w h x y mode (length scratch)
+
+module _ {f : Frame} {planeNo : ℕ} {plane : List ℕ} {ps kind w h : ℕ} {x y : ℤ} {mode : ℕ} {scratch : List ℕ} {p : Part}
+    (answer : Answers f planeNo plane ps kind w h x y mode scratch p) where
+  -- not in scratch, which stays as it was
+  pub scratch-kept : (p .buffer ≡ 2 → ⊥) → scratch ≡ scratchOf (p .number) f planeNo plane ps kind w h x y mode scratch
+  scratch-kept other =
+      rw (answer .is) (not-scratch f planeNo (length plane) ps kind w h x y mode (length scratch) plane scratch (rw (answer .is) at other))
+
+  -- in scratch, which is filled
+  module _ (two : p .buffer ≡ 2) where
+    filled : (lowest (windowTests f planeNo (length plane) ps kind w h x y mode (length scratch)) ≡ 0) × (ownPlane f planeNo kind w h x y mode ≡ false)
+    filled = in-scratch f planeNo (length plane) ps kind w h x y mode (length scratch) (sym (ap (λ (q : Part). q .buffer) (answer .is)) ∙ two)
+
+    pub filled-ok : Accepted f planeNo (length plane) ps kind w h x y mode (length scratch)
+    filled-ok = record { is = filled .0 }
+
+    pub scratch-filled : {a : Area} {d : List ℕ} → a ≡ areaOf f planeNo kind w h x y
+        → d ≡ fill scratch (a .ww) (a .ww) (a .wh) (edge plane ps (a .iw) (a .ih) (toZ w64 (ofZ w64 (a .left))) (toZ w64 (ofZ w64 (a .top))))
+        → d ≡ scratchOf (p .number) f planeNo plane ps kind w h x y mode scratch
+    unfolding scratchOf fetched orSame
+    scratch-filled is full =
+        let n : p .number ≡ 0 = ap (λ (q : Part). q .number) (answer .is) ∙ window-number f planeNo (length plane) ps kind w h x y mode (length scratch) ∙ filled .0 in
+        full ∙ rw (left-is filled-ok is, top-is filled-ok is, is, n, filled .1) refl
