@@ -1,58 +1,34 @@
 -- A block of a kind from its window: what the kind's rows rely on, its numbers as a call passes them, its first place and its pixels where no margin stands
 -- before it. Assumes nothing.
-use mathlib.Core.Path.{_≡_, refl, sym, ap, _∙_, fun-ext}
-use mathlib.Core.Bool.{Bool, true, false, _&&_, _||_}
+use mathlib.Core.Path.{_≡_, ap, fun-ext}
+use mathlib.Core.Bool.{true, _&&_}
 use mathlib.Core.List.{List}
 use Prim.Native.Nat.{ℕ, zero, suc, _+_, _-_, _*_, _/_, _^_, _≤_, _<_}
 use native.Mathlib.Omega.{arith}
-use borrow.Author.Tests.{leb-true, eqb-true, le-ltb}
-use lib.Dec.{leb, ltb, eqb}
-use lib.IntN.{ℤ, pos, negsuc}
+use borrow.Author.Tests.{eqb-true}
+use lib.Dec.{eqb}
+use lib.IntN.{ℤ}
 use lib.ListN.{getD}
-use lib.Signed.{leZ, mag}
+use lib.Signed.{mag}
 use mir.Syntax.{Width, w16, w32}
 use mir.Val.{toZ, ofZ, hbits}
 use Rattle.rows.specs.Numbers.{up}
 use Rattle.rows.specs.Places.{pixel, around}
-use Rattle.rows.specs.Subpel.{family}
-use Rattle.rows.specs.Warp.{filterNo, isThere, every, allThere}
-use Rattle.rows.proofs.Laws.Places.{by-lt}
 use Rattle.rows.proofs.Laws.Fill.{and-true}
 use Rattle.rows.proofs.Laws.Signed.{back, fit}
-use Rattle.blocks.specs.Subpel.{typeOk, sixteenthOk, fractionOk, subpelOk, filterIn, on, filterOf, Held}
+use Rattle.blocks.specs.Subpel.{typeOk, sixteenthOk, fractionOk, filterIn, on}
 use Rattle.blocks.specs.Warp.{warpPlaceOk}
 use Rattle.blocks.specs.Window.{before, after, aroundPart}
 use Rattle.blocks.specs.Order.{kindSizeOk, motionOk, filtersOk}
-use Rattle.blocks.specs.Ready.{Block, Rows, Taps, Bilin, Pass, Warps, Windowed}
+use Rattle.blocks.specs.Ready.{Block, Rows, Taps, Bilin, Warps, Windowed}
 use Rattle.blocks.specs.declared.order.Kind.{Kind}
 use Rattle.blocks.specs.declared.order.Kind.the-variants.{Copy, Subpel, Bilinear, Warp}
 use Rattle.blocks.specs.declared.order.SubpelMotion.{SubpelMotion}
 use Rattle.blocks.specs.declared.order.BilinMotion.{BilinMotion}
 use Rattle.blocks.specs.declared.order.Shears.{Shears}
-use Rattle.blocks.proofs.Laws.SubpelChoice.{family-low, family-high}
+use Rattle.blocks.proofs.Laws.SubpelReady.{held}
 use Rattle.blocks.proofs.Laws.BilinReady.{sixteenth-met}
-use Rattle.blocks.proofs.Laws.Corners.{every-at}
-
--- ---- a filter that passed its tests is in its table
-family-le : (t side : ℕ) → t ≤ 2 → family t side ≤ 4
-family-le t side h = by-lt 4 side (λ b. rw (← family-high t side b) (omega arith)) λ b. rw (← family-low t side b) (omega arith)
-
-first-of : (a b : Bool) → a || b ≡ true → b ≡ false → a ≡ true
-first-of true b e f = refl
-first-of false b e f = sym f ∙ e
-
-held : (t f : ℤ) (side tl el : ℕ) → typeOk t ≡ true → fractionOk t f ≡ true → subpelOk tl ≡ true → filterIn t f el ≡ true
-    → Held tl el (filterOf t (up f) side)
-unfolding filterOf typeOk sixteenthOk fractionOk filterIn subpelOk
-held t (negsuc f) side tl el a b c d = tt
-held t (pos zero) side tl el a b c d = tt
-held (negsuc t) (pos (suc f)) side tl el a b c d = omega (arith, leb-true (8 * suc f) el d)
-held (pos t) (pos (suc f)) side tl el a b c d =
-    let m = family-le t side (leb-true t 2 (and-true (leZ (negsuc 0) (pos t)) (leb t 2) a .1)) in
-    let z : ltb t 0 && leb 0 (suc f) ≡ false = rw (le-ltb t 0 (omega arith)) refl in
-    let q = first-of (leb 0 (suc f) && leb (suc f) 15) (ltb t 0 && leb 0 (suc f)) b z in
-    let n = leb-true (suc f) 15 (and-true (leb 0 (suc f)) (leb (suc f) 15) q .1) in
-    omega (arith, eqb-true tl 600 c)
+use Rattle.blocks.proofs.Laws.WarpReady.{passes}
 
 -- ---- a window's places hold those of each tap, with a filter on an axis where x or y is 1
 taps-before : (s x y : ℕ) → x ≤ 1 → y ≤ 1 → 3 * y * s + 3 * x ≤ 3 * s + 3
@@ -76,20 +52,10 @@ pairs-in sl s w h x (suc zero) b m n e =
     let f = rw z at e in omega arith
 pairs-in sl s w h x (suc (suc y)) b m n e = absurd (omega arith)
 
--- ---- warp's size, and its passes
+-- ---- warp's size
 pub warp-size : {k : Kind} {m : Shears} {sl s w h tl el wl : ℕ} → Windowed k sl s w h tl el wl → k ≡ Warp m → (w ≡ 8) × (h ≡ 8)
 unfolding kindSizeOk
 warp-size {k} {m} {sl} {s} {w} {h} p e = let q = and-true (eqb w 8) (eqb h 8) (rw e at (p .size)) in (eqb-true w 8 (q .0), eqb-true h 8 (q .1))
-
-passes : (n : ℕ) (mx my a b c d : ℤ) → warpPlaceOk mx && warpPlaceOk my ≡ true → allThere n mx my a b c d ≡ true
-    → Pass n mx a b 15 × Pass n my c d 8
-unfolding allThere warpPlaceOk
-passes n mx my a b c d p e =
-    let m = and-true (warpPlaceOk mx) (warpPlaceOk my) p in
-    let f = and-true (every 15 (λ r. every 8 (λ i. isThere n (filterNo mx a b r i)))) _ e in (
-      record { near = leb-true _ _ (m .0); there = λ r h c k. every-at 8 (λ i. isThere n (filterNo mx a b r i)) (every-at 15 _ (f .0) r h) c k },
-      record { near = leb-true _ _ (m .1); there = λ r h i k. every-at 8 (λ i. isThere n (filterNo my c d r i)) (every-at 8 _ (f .1) r h) i k },
-    )
 
 -- ---- a kind by its numbers as a call passes them: they are what they were, since each is in the range of its type
 abbrev Told : Width → ℤ → Type 0 → Type 0 → Type 0
@@ -180,7 +146,8 @@ module _ {k : Kind} {sl s w h tl el wl dl ds : ℕ} (p : Windowed k sl s w h tl 
   warp-ready {m} e =
       let q : Windowed (Warp m) sl s w h tl el wl = rw e at p in
       let z = warp-size p e in
-      let f = passes (wl / 8) (m .mx) (m .my) (m .a) (m .b) (m .c) (m .d) (q .motion) (q .filters) in
+      let n = and-true (warpPlaceOk (m .mx)) (warpPlaceOk (m .my)) (q .motion) in
+      let f = passes (wl / 8) (m .mx) (m .my) (m .a) (m .b) (m .c) (m .d) (n .0) (n .1) (q .filters) in
       let r = rw (z .0, z .1) at (q .src) in
       record {
         dst = rw (z .0, z .1) at dst;

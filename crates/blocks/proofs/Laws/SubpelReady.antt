@@ -41,7 +41,7 @@ first-of : (a b : Bool) → a || b ≡ true → b ≡ false → a ≡ true
 first-of true b e f = refl
 first-of false b e f = sym f ∙ e
 
-held : (t f : ℤ) (side tl el : ℕ) → typeOk t ≡ true → fractionOk t f ≡ true → subpelOk tl ≡ true → filterIn t f el ≡ true → Held tl el (filterOf t (up f) side)
+pub held : (t f : ℤ) (side tl el : ℕ) → typeOk t ≡ true → fractionOk t f ≡ true → subpelOk tl ≡ true → filterIn t f el ≡ true → Held tl el (filterOf t (up f) side)
 unfolding filterOf typeOk sixteenthOk fractionOk filterIn subpelOk
 held t (negsuc f) side tl el a b c d = tt
 held t (pos zero) side tl el a b c d = tt

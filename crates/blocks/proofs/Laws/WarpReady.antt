@@ -65,22 +65,23 @@ pass-met : (n rows : ℕ) (m a b : ℤ) → warpPlaceOk m ≡ true → every row
 pass-met n rows m a b p e =
     record { near = place-met m p; there = λ r h c k. every-at 8 (λ i. isThere n (filterNo m a b r i)) (every-at rows _ e r h) c k }
 
-both : (n : ℕ) (mx my a b c d : ℤ) → allThere n mx my a b c d ≡ true
-    → (every 15 (λ r. every 8 (λ i. isThere n (filterNo mx a b r i))) ≡ true) × (every 8 (λ r. every 8 (λ i. isThere n (filterNo my c d r i))) ≡ true)
+pub passes : (n : ℕ) (mx my a b c d : ℤ) → warpPlaceOk mx ≡ true → warpPlaceOk my ≡ true → allThere n mx my a b c d ≡ true
+    → Pass n mx a b 15 × Pass n my c d 8
 unfolding allThere
-both n mx my a b c d e = and-true (every 15 (λ r. every 8 (λ i. isThere n (filterNo mx a b r i)))) _ e
+passes n mx my a b c d p q e =
+    let f = and-true (every 15 (λ r. every 8 (λ i. isThere n (filterNo mx a b r i)))) _ e in (pass-met n 15 mx a b p (f .0), pass-met n 8 my c d q (f .1))
 
 pub warp-ready : (deep : Bool) (dl ds sl ss off : ℕ) (a b c d mx my : ℤ) (tl : ℕ) → lowest (warpTests deep dl ds sl ss off a b c d mx my tl) ≡ 0
     → (deep ≡ true) × Warps dl ds sl off ss (tl / 8) a b c d mx my
 warp-ready deep dl ds sl ss off a b c d mx my tl e =
     let m = all-met (warpTests deep dl ds sl ss off a b c d mx my tl) e in
     let p = m .1 .1 in let t = p .1 .1 .1 in let r = t .1 .1 in
-    let f = both (tl / 8) mx my a b c d (t .1 .0) in (
+    let f = passes (tl / 8) mx my a b c d (p .1 .0) (p .1 .1 .0) (t .1 .0) in (
       p .0,
       record {
         dst = rows-met dl ds 8 8 (m .0) (r .1 .0);
         src = margins-met sl off ss (m .1 .0) (r .0);
-        first = pass-met (tl / 8) 15 mx a b (p .1 .0) (f .0);
-        second = pass-met (tl / 8) 8 my c d (p .1 .1 .0) (f .1);
+        first = f .0;
+        second = f .1;
       },
     )
