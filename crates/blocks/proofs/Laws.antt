@@ -39,3 +39,4 @@ pub mod DemandRuns
 pub mod DemandHolds
 pub mod WindowReady
 pub mod Window
+pub mod WindowRows

@@ -2,13 +2,16 @@
 ghost use mathlib.Core.Path.{_≡_};
 ghost use Prim.Native.Nat.{_+_, _-_, _*_, _^_, _≤_};
 ghost use lib.Dec.{leb};
-ghost use lib.IntN.{natAbs};
+ghost use lib.IntN.{pos, natAbs};
 ghost use lib.ListN.{length};
+ghost use lib.Signed.{leZ, ltZ};
+ghost use mathlib.Core.Bool.{_&&_};
+ghost use mathlib.Core.List.{[]};
 ghost use Rattle.rows.specs.Numbers.{up};
 ghost use Rattle.blocks.specs.Refuse.{need, lowest, sizeOk, blockSide, strideOk, partLen, holds, holdsAll};
 ghost use Rattle.blocks.specs.Ready.{PartIn};
 ghost use Rattle.blocks.specs.Edge.{placeOk};
-ghost use Rattle.blocks.specs.Window.{planeSide, planeW, planeH, frameSizesOk, frameNamesOk, eightTaps, before, after, windowSide, windowStart, windowTests, inside, isPlanes, windowAt, noPart, windowOf, scratchOf, partOf};
+ghost use Rattle.blocks.specs.Window.{planeSide, planeW, planeH, frameSizesOk, frameNamesOk, eightTaps, before, after, windowSide, windowStart, windowTests, inside, isPlanes, windowAt, noPart, windowOf, scratchOf, partOf, rowTests, rowAt, PartAnswer, WindowAnswer};
 use crate::edge::edge_rows8;
 use crate::edge::edge_rows16;
 use crate::edge::places;
@@ -422,4 +425,286 @@ pub fn pick16<'a>(p: Part, plane: &'a [u16], scratch: &'a [u16]) -> &'a [u16]
         return &scratch[start..start + len];
     }
     &plane[0..0]
+}
+
+// The part itself: a second call on the same arguments, after the first has filled scratch.
+pub fn window_part8<'a>(
+    f: Frame,
+    plane_no: u32,
+    plane: &'a [u8],
+    plane_stride: usize,
+    kind: u32,
+    w: usize,
+    h: usize,
+    x: i64,
+    y: i64,
+    mode: u32,
+    scratch: &'a [u8],
+) -> &'a [u8]
+    ensures { λ r. ⌜ now r ≡ partOf (windowOf f «plane_no» (length (now (plane .entry))) «plane_stride» kind w h x y mode (length (now (scratch .entry)))) (now (plane .entry)) (now (scratch .entry)) ⌝ }
+{
+    let part = find_window(
+        f,
+        plane_no,
+        plane.len(),
+        plane_stride,
+        kind,
+        w,
+        h,
+        x,
+        y,
+        mode,
+        scratch.len(),
+    );
+    pick8(part, plane, scratch)
+}
+
+pub fn window_part16<'a>(
+    f: Frame,
+    plane_no: u32,
+    plane: &'a [u16],
+    plane_stride: usize,
+    kind: u32,
+    w: usize,
+    h: usize,
+    x: i64,
+    y: i64,
+    mode: u32,
+    scratch: &'a [u16],
+) -> &'a [u16]
+    ensures { λ r. ⌜ now r ≡ partOf (windowOf f «plane_no» (length (now (plane .entry))) «plane_stride» kind w h x y mode (length (now (scratch .entry)))) (now (plane .entry)) (now (scratch .entry)) ⌝ }
+{
+    let part = find_window(
+        f,
+        plane_no,
+        plane.len(),
+        plane_stride,
+        kind,
+        w,
+        h,
+        x,
+        y,
+        mode,
+        scratch.len(),
+    );
+    pick16(part, plane, scratch)
+}
+
+// A row of a plane of h rows.
+fn row_ok(row: i64, h: usize) -> bool
+    ensures { λ r. ⌜ r ≡ leZ (pos 0) row && ltZ row (pos h) ⌝ }
+{
+    if row < 0 { false } else { above64(row) < h }
+}
+
+fn check_row(f: Frame, plane_no: u32, pl: usize, plane_stride: usize, row: i64) -> u32
+    ensures { λ r. ⌜ r ≡ lowest (rowTests f «plane_no» pl «plane_stride» row) ⌝ }
+{
+    let iw = plane_w(f, plane_no);
+    let ih = plane_h(f, plane_no);
+    let plane = held(pl, plane_stride, iw, ih, 5, 0);
+    let numbers = needed(
+        frame_names_ok(f, plane_no),
+        3,
+        needed(row_ok(row, ih), 3, plane),
+    );
+    needed(
+        frame_sizes_ok(f, plane_no),
+        1,
+        stride(iw, plane_stride, numbers),
+    )
+}
+
+// Where a row of a plane lies.
+pub fn row_at(f: Frame, plane_no: u32, pl: usize, plane_stride: usize, row: i64) -> Part
+    ensures { λ r. ⌜ r ≡ rowAt f «plane_no» pl «plane_stride» row ⌝ }
+{
+    let number = check_row(f, plane_no, pl, plane_stride, row);
+    if number != 0 {
+        return no_part(number);
+    }
+    let place = above64(row) * plane_stride;
+    let len = plane_w(f, plane_no);
+    Part {
+        number: 0,
+        buffer: 1,
+        place,
+        stride: plane_stride,
+        len,
+    }
+}
+
+// The row itself.
+pub fn row_part8(f: Frame, plane_no: u32, plane: &[u8], plane_stride: usize, row: i64) -> &[u8]
+    ensures { λ r. ⌜ now r ≡ partOf (rowAt f «plane_no» (length (now (plane .entry))) «plane_stride» row) (now (plane .entry)) [] ⌝ }
+{
+    let part = row_at(f, plane_no, plane.len(), plane_stride, row);
+    pick8(part, plane, &plane[0..0])
+}
+
+pub fn row_part16(f: Frame, plane_no: u32, plane: &[u16], plane_stride: usize, row: i64) -> &[u16]
+    ensures { λ r. ⌜ now r ≡ partOf (rowAt f «plane_no» (length (now (plane .entry))) «plane_stride» row) (now (plane .entry)) [] ⌝ }
+{
+    let part = row_at(f, plane_no, plane.len(), plane_stride, row);
+    pick16(part, plane, &plane[0..0])
+}
+
+#[no_mangle]
+pub extern "C" fn hv_window_8bpc(
+    luma_w: usize,
+    luma_h: usize,
+    ss_hor: bool,
+    ss_ver: bool,
+    plane_no: u32,
+    plane: &[u8],
+    plane_stride: usize,
+    kind: u32,
+    w: usize,
+    h: usize,
+    x: i64,
+    y: i64,
+    mode: u32,
+    scratch: &mut [u8],
+    buffer: &mut u32,
+    place: &mut usize,
+    stride: &mut usize,
+    len: &mut usize,
+) -> u32
+    ensures { λ r. ⌜ WindowAnswer (record { «luma_w» = «luma_w»; «luma_h» = «luma_h»; «ss_hor» = «ss_hor»; «ss_ver» = «ss_ver» }) «plane_no» (now (plane .entry)) «plane_stride» kind w h x y mode (now (scratch .entry)) r (now (buffer .exit)) (now (place .exit)) (now (stride .exit)) (now (len .exit)) (now (scratch .exit)) ⌝ }
+{
+    let f = Frame {
+        luma_w,
+        luma_h,
+        ss_hor,
+        ss_ver,
+    };
+    let part = window8(
+        f,
+        plane_no,
+        plane,
+        plane_stride,
+        kind,
+        w,
+        h,
+        x,
+        y,
+        mode,
+        scratch,
+    );
+    *buffer = part.buffer;
+    *place = part.place;
+    *stride = part.stride;
+    *len = part.len;
+    part.number
+}
+
+#[no_mangle]
+pub extern "C" fn hv_window_16bpc(
+    luma_w: usize,
+    luma_h: usize,
+    ss_hor: bool,
+    ss_ver: bool,
+    plane_no: u32,
+    plane: &[u16],
+    plane_stride: usize,
+    kind: u32,
+    w: usize,
+    h: usize,
+    x: i64,
+    y: i64,
+    mode: u32,
+    scratch: &mut [u16],
+    buffer: &mut u32,
+    place: &mut usize,
+    stride: &mut usize,
+    len: &mut usize,
+) -> u32
+    ensures { λ r. ⌜ WindowAnswer (record { «luma_w» = «luma_w»; «luma_h» = «luma_h»; «ss_hor» = «ss_hor»; «ss_ver» = «ss_ver» }) «plane_no» (now (plane .entry)) «plane_stride» kind w h x y mode (now (scratch .entry)) r (now (buffer .exit)) (now (place .exit)) (now (stride .exit)) (now (len .exit)) (now (scratch .exit)) ⌝ }
+{
+    let f = Frame {
+        luma_w,
+        luma_h,
+        ss_hor,
+        ss_ver,
+    };
+    let part = window16(
+        f,
+        plane_no,
+        plane,
+        plane_stride,
+        kind,
+        w,
+        h,
+        x,
+        y,
+        mode,
+        scratch,
+    );
+    *buffer = part.buffer;
+    *place = part.place;
+    *stride = part.stride;
+    *len = part.len;
+    part.number
+}
+
+#[no_mangle]
+pub extern "C" fn hv_row_8bpc(
+    luma_w: usize,
+    luma_h: usize,
+    ss_hor: bool,
+    ss_ver: bool,
+    plane_no: u32,
+    plane: &[u8],
+    plane_stride: usize,
+    row: i64,
+    buffer: &mut u32,
+    place: &mut usize,
+    stride: &mut usize,
+    len: &mut usize,
+) -> u32
+    ensures { λ r. ⌜ PartAnswer (rowAt (record { «luma_w» = «luma_w»; «luma_h» = «luma_h»; «ss_hor» = «ss_hor»; «ss_ver» = «ss_ver» }) «plane_no» (length (now (plane .entry))) «plane_stride» row) r (now (buffer .exit)) (now (place .exit)) (now (stride .exit)) (now (len .exit)) ⌝ }
+{
+    let f = Frame {
+        luma_w,
+        luma_h,
+        ss_hor,
+        ss_ver,
+    };
+    let part = row_at(f, plane_no, plane.len(), plane_stride, row);
+    *buffer = part.buffer;
+    *place = part.place;
+    *stride = part.stride;
+    *len = part.len;
+    part.number
+}
+
+#[no_mangle]
+pub extern "C" fn hv_row_16bpc(
+    luma_w: usize,
+    luma_h: usize,
+    ss_hor: bool,
+    ss_ver: bool,
+    plane_no: u32,
+    plane: &[u16],
+    plane_stride: usize,
+    row: i64,
+    buffer: &mut u32,
+    place: &mut usize,
+    stride: &mut usize,
+    len: &mut usize,
+) -> u32
+    ensures { λ r. ⌜ PartAnswer (rowAt (record { «luma_w» = «luma_w»; «luma_h» = «luma_h»; «ss_hor» = «ss_hor»; «ss_ver» = «ss_ver» }) «plane_no» (length (now (plane .entry))) «plane_stride» row) r (now (buffer .exit)) (now (place .exit)) (now (stride .exit)) (now (len .exit)) ⌝ }
+{
+    let f = Frame {
+        luma_w,
+        luma_h,
+        ss_hor,
+        ss_ver,
+    };
+    let part = row_at(f, plane_no, plane.len(), plane_stride, row);
+    *buffer = part.buffer;
+    *place = part.place;
+    *stride = part.stride;
+    *len = part.len;
+    part.number
 }

@@ -19,7 +19,7 @@ use Rattle.blocks.specs.Refuse.{lowest, orSame, partLen}
 use Rattle.blocks.specs.Ready.{Rows, Fetch, PartIn}
 use Rattle.blocks.specs.Window.{planeW, planeH, before, after, windowSide, windowStart, windowTests, inside, isPlanes, ownPlane, windowAt, noPart, windowOf, fetched, scratchOf, partOf, aroundPart}
 use Rattle.blocks.proofs.Laws.Refuse.{done}
-use Rattle.blocks.proofs.Laws.WindowReady.{window-ready, window-number}
+use Rattle.blocks.proofs.Laws.WindowReady.{WindowFetch, window-ready, window-number}
 use Rattle.blocks.specs.declared.window.Frame.{Frame}
 use Rattle.blocks.specs.declared.window.Part.{Part}
 
@@ -95,6 +95,32 @@ module _ {ww wh iw ih : ℕ} (x y : ℤ) (plane scratch : List ℕ) {ps : ℕ} (
   unfolding partOf windowAt fetched
   by-plane true p = plane-shows (p refl .0) (p refl .1)
   by-plane false p = scratch-shows
+
+-- ---- what an answer names is in its buffer
+pub window-in : (f : Frame) (planeNo pl ps kind w h : ℕ) (x y : ℤ) (mode sl : ℕ) → PartIn (windowOf f planeNo pl ps kind w h x y mode sl) pl sl
+unfolding windowOf windowAt orSame
+window-in f planeNo pl ps kind w h x y mode sl =
+    go (lowest (windowTests f planeNo pl ps kind w h x y mode sl)) (λ e. window-ready f planeNo pl ps kind w h x y mode sl e .0)
+    (ownPlane f planeNo kind w h x y mode) (planes-met mode _ _ _ _ (windowStart kind x) (windowStart kind y)) where
+      go : (n : ℕ) → (n ≡ 0 → WindowFetch f planeNo pl ps kind w h sl)
+          → (b : Bool) → (b ≡ true → Inside (windowStart kind x) (windowSide kind w) (planeW f planeNo) × Inside (windowStart kind y) (windowSide kind h) (planeH f planeNo))
+          → PartIn (orSame n (windowAt b ps (windowSide kind w) (windowSide kind h) (windowStart kind x) (windowStart kind y)) (noPart n)) pl sl
+      go zero ok true p =
+          record { plane = λ e. planes-fit (windowStart kind x) (windowStart kind y) (ok refl) (p refl .0) (p refl .1); scratch = λ e. absurd (omega arith) }
+      go zero ok false p = record { plane = λ e. absurd (omega arith); scratch = λ e. omega (arith, ok refl .dst) }
+      go (suc n) ok b p = record { plane = λ e. absurd (omega arith); scratch = λ e. absurd (omega arith) }
+
+-- and filling scratch keeps its length
+pub length-scratchOf : (n : ℕ) (f : Frame) (planeNo : ℕ) (plane : List ℕ) (ps kind w h : ℕ) (x y : ℤ) (mode : ℕ) (scratch : List ℕ)
+    → length (scratchOf n f planeNo plane ps kind w h x y mode scratch) ≡ length scratch
+unfolding scratchOf fetched orSame
+length-scratchOf n f planeNo plane ps kind w h x y mode scratch = go n (ownPlane f planeNo kind w h x y mode) where
+  go : (n : ℕ) (b : Bool)
+      → length (orSame n (fetched b plane ps (windowSide kind w) (windowSide kind h) (planeW f planeNo) (planeH f planeNo) (windowStart kind x) (windowStart kind y) scratch) scratch)
+      ≡ length scratch
+  go zero true = refl
+  go zero false = length-fill scratch _ _ _ _
+  go (suc n) b = refl
 
 -- ---- the part of an accepted window
 -- what a kernel reads: the window's rows, in which the pixels around each place of the block are the plane g's

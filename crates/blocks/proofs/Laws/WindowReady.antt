@@ -17,7 +17,7 @@ use Rattle.rows.proofs.Laws.Fill.{and-true}
 use Rattle.blocks.specs.Refuse.{Test, size, stride, number, read, written, _asks_, lowest, orSame, sizeOk, blockSide, strideOk, holds, holdsAll}
 use Rattle.blocks.specs.Edge.{placeOk}
 use Rattle.blocks.specs.Ready.{Rows, Fetch}
-use Rattle.blocks.specs.Window.{planeW, planeH, planeSide, frameSizesOk, frameNamesOk, eightTaps, before, after, windowSide, windowStart, windowTests, isPlanes, ownPlane, windowAt, noPart, windowOf, fetched, scratchOf}
+use Rattle.blocks.specs.Window.{planeW, planeH, planeSide, frameSizesOk, frameNamesOk, eightTaps, before, after, windowSide, windowStart, windowTests, isPlanes, ownPlane, windowAt, noPart, windowOf, fetched, scratchOf, PartAnswer}
 use Rattle.blocks.proofs.Laws.Refuse.{all-met, later, sooner, size-met, stride-met, holds-met, done, refused}
 use Rattle.blocks.proofs.Laws.Ready.{rows-met}
 use Rattle.blocks.proofs.Laws.EdgeReady.{place-met}
@@ -132,13 +132,15 @@ window-ready f planeNo pl ps kind w h x y mode sl e =
     )
 
 -- ---- the answer
-module _ (f : Frame) (planeNo pl ps kind w h : ℕ) (x y : ℤ) (mode sl : ℕ) where
-  -- a refused call names no part
-  pub no-window : (n : ℕ) {r : Part} → n ≡ lowest (windowTests f planeNo pl ps kind w h x y mode sl) → (n ≡ 0 → ⊥) → r ≡ noPart n
-      → r ≡ windowOf f planeNo pl ps kind w h x y mode sl
-  unfolding windowOf
-  no-window n e other is = is ∙ rw e (sym (refused _ _ _ (rw e at other)))
+-- a refused call names no part
+pub no-part-of : {n m : ℕ} {r : Part} (new : Part) → n ≡ m → (n ≡ 0 → ⊥) → r ≡ noPart n → r ≡ orSame m new (noPart m)
+no-part-of new e other is = is ∙ rw e (sym (refused _ _ _ (rw e at other)))
 
+-- and the C functions give a part's numbers
+pub part-answer : {p q : Part} → p ≡ q → PartAnswer q (p .number) (p .buffer) (p .place) (p .stride) (p .len)
+part-answer e = rw e (refl, refl, refl, refl, refl)
+
+module _ (f : Frame) (planeNo pl ps kind w h : ℕ) (x y : ℤ) (mode sl : ℕ) where
   -- by the number and by whether the plane has the window
   abbrev answerBy : (n : ℕ) (planes : Bool) → Part
   answerBy n planes = orSame n (windowAt planes ps (windowSide kind w) (windowSide kind h) (windowStart kind x) (windowStart kind y)) (noPart n)

@@ -2,8 +2,8 @@ use borrow.Author.Needs.{needs}
 use mathlib.Core.Path.{_≡_, sym, _∙_}
 use Rattle.rows.proofs.Laws.Signed.{back}
 use Rattle.blocks.specs.Refuse.{lowest}
-use Rattle.blocks.specs.Window.{windowTests}
-use Rattle.blocks.proofs.Laws.WindowReady.{no-window, Accepted, window-small, areaOf, area-ready, area-window}
+use Rattle.blocks.specs.Window.{windowTests, windowOf}
+use Rattle.blocks.proofs.Laws.WindowReady.{no-part-of, Accepted, window-small, areaOf, area-ready, area-window}
 use Rattle.blocks.proofs.window.find_window.Statement.{statement}
 use Rattle.blocks.proofs.window.find_window.Tie as tie
 
@@ -13,10 +13,8 @@ is : (c : tie.After-check-window) → let a = c .before .args in
 is c = let f = c .before .fits in rw (back (f .x), back (f .y)) at (c .check-window .ensures)
 
 returns : tie.Need-returns
-returns c =
-    let t = c .before in let a = t .before .before .args in
-    no-window (a .f) (a .plane-no) (a .pl) (a .plane-stride) (a .kind) (a .w) (a .h) (a .x) (a .y) (a .mode) (a .sl) _
-    (is (t .before)) (t .if1 .taken) (c .no-part .ensures)
+unfolding windowOf
+returns c = let t = c .before in no-part-of _ (is (t .before)) (t .if1 .taken) (c .no-part .ensures)
 
 accepted : (c : tie.Else1) → let a = c .before .before .args in
     Accepted (a .f) (a .plane-no) (a .pl) (a .plane-stride) (a .kind) (a .w) (a .h) (a .x) (a .y) (a .mode) (a .sl)
