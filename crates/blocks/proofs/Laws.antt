@@ -40,3 +40,4 @@ pub mod DemandHolds
 pub mod WindowReady
 pub mod Window
 pub mod WindowRows
+pub mod WindowAnswers
