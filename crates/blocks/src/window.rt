@@ -11,7 +11,7 @@ ghost use Rattle.rows.specs.Numbers.{up};
 ghost use Rattle.blocks.specs.Refuse.{need, lowest, sizeOk, blockSide, strideOk, partLen, holds, holdsAll};
 ghost use Rattle.blocks.specs.Ready.{PartIn};
 ghost use Rattle.blocks.specs.Edge.{placeOk};
-ghost use Rattle.blocks.specs.Window.{planeSide, planeW, planeH, frameSizesOk, frameNamesOk, eightTaps, before, after, windowSide, windowStart, windowTests, inside, isPlanes, windowAt, noPart, windowOf, scratchOf, partOf, rowTests, rowAt, PartAnswer, WindowAnswer};
+ghost use Rattle.blocks.specs.Window.{planeSide, planeW, planeH, frameSizesOk, frameNamesOk, before, after, windowSide, windowStart, windowTests, inside, isPlanes, windowAt, noPart, windowOf, scratchOf, partOf, rowTests, rowAt, PartAnswer, WindowAnswer};
 use crate::edge::edge_rows8;
 use crate::edge::edge_rows16;
 use crate::edge::places;

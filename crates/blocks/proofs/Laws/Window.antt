@@ -1,12 +1,12 @@
 -- What a window holds: in either mode, and wherever it lies, the pixels of the endless plane. Assumes nothing.
-use mathlib.Core.Path.{_≡_, refl, sym, ap, _∙_}
-use mathlib.Core.Bool.{Bool, true, false, _&&_}
+use mathlib.Core.Path.{_≡_, refl, ap, _∙_}
+use mathlib.Core.Bool.{Bool, true, false}
 use mathlib.Core.List.{List}
 use Prim.Native.Nat.{ℕ, zero, suc, _+_, _-_, _*_, _≤_, _<_}
 use native.Mathlib.Nat.{add-mul, mul-le-mul-right, zero-add}
 use native.Mathlib.Omega.{arith}
 use lib.Dec.{eqb}
-use lib.IntN.{ℤ, pos, _+ℤ_, _-ℤ_}
+use lib.IntN.{ℤ, pos, _+ℤ_}
 use lib.ListN.{length, getD}
 use lib.Signed.{leZ}
 use Rattle.rows.specs.Numbers.{up, dn, clip}
@@ -17,8 +17,7 @@ use Rattle.rows.proofs.Laws.Places.{span-length, span-at, row-fits}
 use Rattle.rows.proofs.Laws.Fill.{and-true, length-fill, fill-in}
 use Rattle.blocks.specs.Refuse.{lowest, orSame, partLen}
 use Rattle.blocks.specs.Ready.{Rows, Fetch, PartIn}
-use Rattle.blocks.specs.Window.{planeW, planeH, before, after, windowSide, windowStart, windowTests, inside, isPlanes, ownPlane, windowAt, noPart, windowOf, fetched, scratchOf, partOf, aroundPart}
-use Rattle.blocks.proofs.Laws.Refuse.{done}
+use Rattle.blocks.specs.Window.{planeW, planeH, before, windowSide, windowStart, windowTests, inside, isPlanes, ownPlane, windowAt, noPart, windowOf, fetched, scratchOf, partOf, aroundPart}
 use Rattle.blocks.proofs.Laws.WindowReady.{WindowFetch, window-ready, window-number}
 use Rattle.blocks.specs.declared.window.Frame.{Frame}
 use Rattle.blocks.specs.declared.window.Part.{Part}

@@ -1,10 +1,10 @@
 -- Windows' and rows' answers: each is the only one, and there are calls that are accepted. Assumes nothing.
 use mathlib.Core.Path.{_≡_, refl, sym, ap, _∙_}
-use mathlib.Core.Bool.{Bool, true, false}
+use mathlib.Core.Bool.{true}
 use mathlib.Core.List.{List}
 use Prim.Native.Nat.{ℕ}
-use lib.IntN.{ℤ, pos, negsuc}
-use Rattle.blocks.specs.Refuse.{need, lowest, orSame, sizeOk, strideOk, holds}
+use lib.IntN.{ℤ, pos}
+use Rattle.blocks.specs.Refuse.{need, orSame, sizeOk, strideOk, holds}
 use Rattle.blocks.specs.Edge.{placeOk}
 use Rattle.blocks.specs.Mask.{flagsOk}
 use Rattle.blocks.specs.Window.{planeSide, frameSizesOk, frameNamesOk, before, after, inside, isPlanes, windowAt, windowOf, scratchOf, rowAt, PartAnswer, WindowAnswer}

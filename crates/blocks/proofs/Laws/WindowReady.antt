@@ -2,11 +2,11 @@
 use mathlib.Core.Path.{_≡_, refl, sym, ap, _∙_}
 use mathlib.Core.Bool.{Bool, true, false, _&&_}
 use mathlib.Core.List.{List, [], _∷_}
-use Prim.Native.Nat.{ℕ, zero, suc, _+_, _-_, _*_, _/_, _^_, _≤_, _<_}
+use Prim.Native.Nat.{ℕ, zero, suc, _+_, _/_, _^_, _≤_}
 use native.Mathlib.Omega.{arith}
 use borrow.Author.Tests.{leb-true}
 use lib.Dec.{leb, eqb}
-use lib.IntN.{ℤ, pos, natAbs, _-ℤ_}
+use lib.IntN.{ℤ, pos, natAbs}
 use lib.ListN.{length}
 use mir.Syntax.{w64}
 use mir.Val.{SFits, toZ, ofZ}
@@ -16,9 +16,9 @@ use Rattle.rows.proofs.Laws.Signed.{abs-sub, fit-abs, backs}
 use Rattle.rows.proofs.Laws.Fill.{and-true}
 use Rattle.blocks.specs.Refuse.{Test, size, stride, number, read, written, _asks_, lowest, orSame, sizeOk, blockSide, strideOk, holds, holdsAll}
 use Rattle.blocks.specs.Edge.{placeOk}
-use Rattle.blocks.specs.Ready.{Rows, Fetch}
+use Rattle.blocks.specs.Ready.{Fetch}
 use Rattle.blocks.specs.Window.{planeW, planeH, planeSide, frameSizesOk, frameNamesOk, eightTaps, before, after, windowSide, windowStart, windowTests, isPlanes, ownPlane, windowAt, noPart, windowOf, fetched, scratchOf, PartAnswer}
-use Rattle.blocks.proofs.Laws.Refuse.{all-met, later, sooner, size-met, stride-met, holds-met, done, refused}
+use Rattle.blocks.proofs.Laws.Refuse.{all-met, later, sooner, size-met, holds-met, done, refused}
 use Rattle.blocks.proofs.Laws.Ready.{rows-met}
 use Rattle.blocks.proofs.Laws.EdgeReady.{place-met}
 use Rattle.blocks.specs.declared.window.Area.{Area}

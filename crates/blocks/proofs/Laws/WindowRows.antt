@@ -1,7 +1,7 @@
 -- A row of a plane: what its number 0 gives. Assumes nothing.
-use mathlib.Core.Path.{_≡_, refl, sym}
-use mathlib.Core.Bool.{Bool, true, false, _&&_}
-use Prim.Native.Nat.{ℕ, zero, suc, _+_, _*_, _≤_, _<_}
+use mathlib.Core.Path.{_≡_, refl}
+use mathlib.Core.Bool.{true, false, _&&_}
+use Prim.Native.Nat.{ℕ, zero, suc, _+_, _*_, _≤_}
 use native.Mathlib.Omega.{arith}
 use borrow.Author.Tests.{ltb-true, le-leb}
 use lib.Dec.{ltb}
@@ -14,7 +14,7 @@ use Rattle.rows.proofs.Laws.Places.{row-fits}
 use Rattle.blocks.specs.Refuse.{lowest, orSame}
 use Rattle.blocks.specs.Ready.{PartIn}
 use Rattle.blocks.specs.Window.{planeW, planeH, rowTests, noPart, rowAt}
-use Rattle.blocks.proofs.Laws.Refuse.{all-met, stride-met, holds-met}
+use Rattle.blocks.proofs.Laws.Refuse.{all-met, holds-met}
 use Rattle.blocks.specs.declared.window.Frame.{Frame}
 
 -- ---- a row below 0 is none of h rows, and another is where it is below h

@@ -1,5 +1,4 @@
 use mathlib.Core.Path.{refl}
-use native.Mathlib.Omega.{arith}
 use Rattle.rows.proofs.Laws.Signed.{back}
 use Rattle.blocks.specs.Window.{isPlanes}
 use Rattle.blocks.proofs.window.is_planes.Statement.{statement}

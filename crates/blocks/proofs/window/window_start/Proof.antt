@@ -1,11 +1,10 @@
 use mathlib.Core.Path.{_≡_, refl}
-use Prim.Native.Nat.{_<_}
 use native.Mathlib.Omega.{arith}
 use borrow.Author.Needs.{needs}
-use lib.IntN.{pos, _-ℤ_}
+use lib.IntN.{_-ℤ_}
 use mir.Syntax.{w64}
 use mir.Val.{SFits, toZ, ofZ}
-use Rattle.rows.proofs.Laws.Signed.{back, backn, fit, fit-abs, abs-sub}
+use Rattle.rows.proofs.Laws.Signed.{back, backn, fit, fit-abs}
 use Rattle.blocks.specs.Window.{before, windowStart}
 use Rattle.blocks.proofs.Laws.WindowReady.{margins, start-near}
 use Rattle.blocks.proofs.window.window_start.Statement.{statement}
