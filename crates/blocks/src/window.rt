@@ -1,6 +1,6 @@
 // Frames, windows and rows of planes: where a block's pixels with its margins lie, in the plane or in scratch.
 ghost use mathlib.Core.Path.{_≡_};
-ghost use Prim.Native.Nat.{_+_, _-_, _*_, _^_, _≤_};
+ghost use Prim.Native.Nat.{_+_, _^_, _≤_};
 ghost use lib.Dec.{leb};
 ghost use lib.IntN.{pos, natAbs};
 ghost use lib.ListN.{length};

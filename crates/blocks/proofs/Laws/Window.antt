@@ -121,6 +121,14 @@ length-scratchOf n f planeNo plane ps kind w h x y mode scratch = go n (ownPlane
   go zero false = length-fill scratch _ _ _ _
   go (suc n) b = refl
 
+-- so after the call that filled scratch, the part can be picked
+pub picked-in : (f : Frame) (planeNo : ℕ) (plane : List ℕ) (ps kind w h : ℕ) (x y : ℤ) (mode : ℕ) (scratch : List ℕ) (p : Part) (filled : List ℕ)
+    → p ≡ windowOf f planeNo (length plane) ps kind w h x y mode (length scratch)
+    → filled ≡ scratchOf (p .number) f planeNo plane ps kind w h x y mode scratch → PartIn p (length plane) (length filled)
+picked-in f planeNo plane ps kind w h x y mode scratch p filled is full =
+    let n : length filled ≡ length scratch = ap length full ∙ length-scratchOf (p .number) f planeNo plane ps kind w h x y mode scratch in
+    rw (n, is) (window-in f planeNo (length plane) ps kind w h x y mode (length scratch))
+
 -- ---- the part of an accepted window
 -- what a kernel reads: the window's rows, in which the pixels around each place of the block are the plane g's
 pub record Picked (kind w h : ℕ) (g : ℤ → ℤ → ℕ) (x y : ℤ) (src : List ℕ) (s : ℕ) : Type 0 where
