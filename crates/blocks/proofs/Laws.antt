@@ -41,3 +41,4 @@ pub mod WindowReady
 pub mod Window
 pub mod WindowRows
 pub mod WindowAnswers
+pub mod OrderReady

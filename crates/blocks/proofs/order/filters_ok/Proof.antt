@@ -1,0 +1,68 @@
+use borrow.Author.Needs.{needs}
+use mathlib.Core.Path.{refl}
+use mir.Syntax.{w16, w32}
+use Rattle.rows.proofs.Laws.Signed.{back, fit}
+use Rattle.blocks.specs.Order.{filtersOk}
+use Rattle.blocks.proofs.Laws.OrderReady.{warp-near}
+use Rattle.blocks.proofs.order.filters_ok.Statement.{statement}
+use Rattle.blocks.proofs.order.filters_ok.Tie as tie
+
+filters-there-requires : tie.Need-filters-there-requires
+filters-there-requires c κs =
+    let t = c .before .before .before .before .before in let k = t .before .before in
+    let g = t .struct-told4 .given .1 .1 .1 .1 in
+    rw (back (fit w32 (g .0 .1)), back (fit w32 (g .1 .0 .1))) (warp-near _ (rw (k .k2 .given .1) at (k .before .before .pre)))
+
+returns : tie.Need-returns
+unfolding filtersOk
+returns c = rw (c .enum-told .given .1) refl
+
+returns-2 : tie.Need-returns-2
+unfolding filtersOk
+returns-2 c =
+    let x = c .before .before in let t = x .before .before in
+    let g = t .struct-told .given in
+    rw (
+      t .before .before .k .given .1,
+      x .filter-in .ensures,
+      c .filter-in2 .ensures,
+      back (fit w32 (g .1 .1 .0 .1)),
+      back (fit w32 (g .0 .1)),
+      back (fit w32 (g .1 .0 .1)),
+    )
+
+returns-3 : tie.Need-returns-3
+unfolding filtersOk
+returns-3 c = rw (c .enum-told2 .given .1) refl
+
+returns-4 : tie.Need-returns-4
+unfolding filtersOk
+returns-4 c =
+    let t = c .before .before .before .before .before .before in
+    let g = t .struct-told4 .given in let m = g .1 .1 .1 .1 in
+    rw (
+      t .before .before .k2 .given .1,
+      c .filters-there .ensures,
+      back (fit w16 (g .0 .1)),
+      back (fit w16 (g .1 .0 .1)),
+      back (fit w16 (g .1 .1 .0 .1)),
+      back (fit w16 (g .1 .1 .1 .0 .1)),
+      back (fit w32 (m .0 .1)),
+      back (fit w32 (m .1 .0 .1)),
+    )
+
+pub filters-ok-spec : {M : Type 1} → statement M
+filters-ok-spec =
+    tie.close
+    (tie.spec
+    (λ c. search needs)  -- enum-told
+    (λ c. search needs)  -- enum-known-k
+    (λ c κs. search needs)  -- filter-in-requires
+    (λ c κs. search needs)  -- filter-in-requires-2
+    (λ c. search needs)  -- enum-told-2
+    (λ c. search needs)  -- enum-known-k-2
+    filters-there-requires
+    returns
+    returns-2
+    returns-3
+    returns-4)

@@ -1,0 +1,61 @@
+use borrow.Author.Needs.{needs}
+use mathlib.Core.Path.{refl}
+use mir.Syntax.{w32}
+use Rattle.rows.proofs.Laws.Signed.{back, fit}
+use Rattle.blocks.specs.Order.{motionOk}
+use Rattle.blocks.specs.Warp.{warpPlaceOk}
+use Rattle.blocks.proofs.order.motion_ok.Statement.{statement}
+use Rattle.blocks.proofs.order.motion_ok.Tie as tie
+
+returns : tie.Need-returns
+unfolding motionOk
+returns c = rw (c .enum-told .given .1) refl
+
+returns-2 : tie.Need-returns-2
+unfolding motionOk
+returns-2 c =
+    let f = c .before .before in let t = f .before .before in let s = t .before in
+    let g = s .struct-told .given in
+    rw (
+      s .before .before .k .given .1,
+      t .type-ok .ensures,
+      f .fraction-ok .ensures,
+      c .fraction-ok2 .ensures,
+      back (fit w32 (g .1 .1 .0 .1)),
+      back (fit w32 (g .0 .1)),
+      back (fit w32 (g .1 .0 .1)),
+    )
+
+returns-3 : tie.Need-returns-3
+unfolding motionOk
+returns-3 c =
+    let x = c .before .before in let s = x .before in
+    let g = s .struct-told4 .given in
+    rw (s .before .before .k2 .given .1, x .sixteenth-ok .ensures, c .sixteenth-ok2 .ensures, back (fit w32 (g .0 .1)), back (fit w32 (g .1 .0 .1)))
+
+returns-4 : tie.Need-returns-4
+unfolding motionOk warpPlaceOk
+returns-4 c =
+    let x = c .before .before in let s = x .before in
+    let g = s .struct-told6 .given .1 .1 .1 .1 in
+    rw (s .before .before .k3 .given .1, x .within .ensures, c .within2 .ensures, back (fit w32 (g .0 .1)), back (fit w32 (g .1 .0 .1)))
+
+pub motion-ok-spec : {M : Type 1} → statement M
+motion-ok-spec =
+    tie.close
+    (tie.spec
+    (λ c. search needs)  -- enum-told
+    (λ c. search needs)  -- enum-known-k
+    (λ c κs. search needs)  -- type-ok-requires
+    (λ c κs. search needs)  -- fraction-ok-requires
+    (λ c κs. search needs)  -- fraction-ok-requires-2
+    (λ c. search needs)  -- enum-known-k-2
+    (λ c κs. search needs)  -- sixteenth-ok-requires
+    (λ c κs. search needs)  -- sixteenth-ok-requires-2
+    (λ c. search needs)  -- enum-known-k-3
+    (λ c κs. search needs)  -- within-requires
+    (λ c κs. search needs)  -- within-requires-2
+    returns
+    returns-2
+    returns-3
+    returns-4)
