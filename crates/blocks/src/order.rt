@@ -1,13 +1,27 @@
 // Prediction orders: their numbers, and how one is run.
 ghost use mathlib.Core.Path.{_≡_};
 ghost use mathlib.Core.Bool.{true};
-ghost use Rattle.blocks.specs.Order.{kindNumber, kindOf, kindSizeOk, motionOk, filtersOk};
+ghost use Rattle.blocks.specs.Refuse.{need, lowest, sizeOk, blockSide, strideOk, wholeFilters};
+ghost use Rattle.blocks.specs.Edge.{placeOk};
+ghost use Rattle.blocks.specs.Subpel.{subpelOk};
+ghost use Rattle.blocks.specs.Window.{planeW, frameSizesOk, frameNamesOk};
+ghost use Rattle.blocks.specs.Order.{kindNumber, kindOf, kindSizeOk, motionOk, filtersOk, orderTests};
 use crate::bilinear::sixteenth_ok;
+use crate::edge::places;
 use crate::filters::filter_in;
 use crate::filters::fraction_ok;
 use crate::filters::type_ok;
+use crate::refuse::held;
+use crate::refuse::needed;
+use crate::refuse::sizes;
+use crate::refuse::stride;
 use crate::shear::within;
 use crate::warp::filters_there;
+use crate::window::Frame;
+use crate::window::frame_names_ok;
+use crate::window::frame_sizes_ok;
+use crate::window::plane_w;
+use crate::window::window_held;
 
 // The motion of an 8-tap block: the two fractions and the filter type.
 pub struct SubpelMotion {
@@ -122,4 +136,78 @@ fn filters_ok(k: Kind, el: usize, wl: usize) -> bool
         Kind::Bilinear(_) => true,
         Kind::Warp(s) => filters_there(s.a, s.b, s.c, s.d, s.mx, s.my, wl / 8),
     }
+}
+
+// The tests of an order: sizes and strides first, then its numbers, since the filters and the window's sides are asked only of what these allow.
+fn order_shape(
+    f: Frame,
+    plane_no: u32,
+    plane_stride: usize,
+    k: Kind,
+    w: usize,
+    h: usize,
+    dst_stride: usize,
+) -> u32
+    ensures { λ r. ⌜ r ≡ need (frameSizesOk f «plane_no») 1 (need (sizeOk blockSide w) 1 (need (sizeOk blockSide h) 1 (need (kindSizeOk k w h) 1
+        (need (strideOk (planeW f «plane_no») «plane_stride») 2 (need (strideOk w «dst_stride») 2 0))))) ⌝ }
+{
+    let strides = stride(plane_w(f, plane_no), plane_stride, stride(w, dst_stride, 0));
+    let block = sizes(w, h, needed(kind_size_ok(k, w, h), 1, strides));
+    needed(frame_sizes_ok(f, plane_no), 1, block)
+}
+
+fn order_numbers(deep: bool, named: bool, f: Frame, plane_no: u32, k: Kind, x: i64, y: i64) -> u32
+    ensures { λ r. ⌜ r ≡ need deep 3 (need (frameNamesOk f «plane_no») 3 (need named 3
+        (need (placeOk x) 3 (need (placeOk y) 3 (need (motionOk k) 3 0))))) ⌝ }
+{
+    let motion = places(x, y, needed(motion_ok(k), 3, 0));
+    needed(
+        deep,
+        3,
+        needed(frame_names_ok(f, plane_no), 3, needed(named, 3, motion)),
+    )
+}
+
+fn order_tables(k: Kind, tl: usize, el: usize, wl: usize, rest: u32) -> u32
+    requires { ⌜ motionOk k ≡ true ⌝ }
+    ensures { λ r. ⌜ r ≡ need (subpelOk tl) 4 (need (wholeFilters el) 4 (need (wholeFilters wl) 4 (need (filtersOk k el wl) 4 rest))) ⌝ }
+{
+    let there = needed(filters_ok(k, el, wl), 4, rest);
+    needed(
+        tl == 600,
+        4,
+        needed(el % 8 == 0, 4, needed(wl % 8 == 0, 4, there)),
+    )
+}
+
+fn check_order(
+    deep: bool,
+    named: bool,
+    f: Frame,
+    plane_no: u32,
+    pl: usize,
+    plane_stride: usize,
+    o: Order,
+    tl: usize,
+    el: usize,
+    wl: usize,
+    sl: usize,
+    dl: usize,
+    dst_stride: usize,
+) -> u32
+    ensures { λ r. ⌜ r ≡ lowest (orderTests deep named f «plane_no» pl «plane_stride» o tl el wl sl dl «dst_stride») ⌝ }
+{
+    let k = o.kind;
+    let shape = order_shape(f, plane_no, plane_stride, k, o.w, o.h, dst_stride);
+    if shape != 0 {
+        return shape;
+    }
+    let numbers = order_numbers(deep, named, f, plane_no, k, o.x, o.y);
+    if numbers != 0 {
+        return numbers;
+    }
+    let written = held(dl, dst_stride, o.w, o.h, 6, 0);
+    let n = kind_number(k);
+    let buffers = window_held(f, plane_no, pl, plane_stride, n, o.w, o.h, sl, written);
+    order_tables(k, tl, el, wl, buffers)
 }

@@ -1,0 +1,20 @@
+use borrow.Author.Needs.{needs}
+use Rattle.blocks.proofs.order.order_shape.Statement.{statement}
+use Rattle.blocks.proofs.order.order_shape.Tie as tie
+
+returns : tie.Need-returns
+returns c = cc
+
+pub order-shape-spec : {M : Type 1} → statement M
+order-shape-spec =
+    tie.close
+    (tie.spec
+    (λ c κs. search needs)  -- plane-w-requires
+    (λ c κs. search needs)  -- stride-requires
+    (λ c κs. search needs)  -- stride-requires-2
+    (λ c κs. search needs)  -- kind-size-ok-requires
+    (λ c κs. search needs)  -- needed-requires
+    (λ c κs. search needs)  -- sizes-requires
+    (λ c κs. search needs)  -- frame-sizes-ok-requires
+    (λ c κs. search needs)  -- needed-requires-2
+    returns)

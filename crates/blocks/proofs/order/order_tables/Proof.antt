@@ -1,0 +1,20 @@
+use borrow.Author.Needs.{needs}
+use Rattle.blocks.specs.Subpel.{subpelOk}
+use Rattle.blocks.specs.Refuse.{wholeFilters}
+use Rattle.blocks.proofs.order.order_tables.Statement.{statement}
+use Rattle.blocks.proofs.order.order_tables.Tie as tie
+
+returns : tie.Need-returns
+unfolding subpelOk wholeFilters
+returns c = cc
+
+pub order-tables-spec : {M : Type 1} → statement M
+order-tables-spec =
+    tie.close
+    (tie.spec
+    (λ c κs. search needs)  -- filters-ok-requires
+    (λ c κs. search needs)  -- needed-requires
+    (λ c κs. search needs)  -- needed-requires-2
+    (λ c κs. search needs)  -- needed-requires-3
+    (λ c κs. search needs)  -- needed-requires-4
+    returns)
