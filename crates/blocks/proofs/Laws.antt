@@ -42,3 +42,4 @@ pub mod Window
 pub mod WindowRows
 pub mod WindowAnswers
 pub mod OrderReady
+pub mod Orders

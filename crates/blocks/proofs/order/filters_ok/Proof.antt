@@ -1,17 +1,15 @@
 use borrow.Author.Needs.{needs}
 use mathlib.Core.Path.{refl}
-use mir.Syntax.{w16, w32}
-use Rattle.rows.proofs.Laws.Signed.{back, fit}
 use Rattle.blocks.specs.Order.{filtersOk}
+use Rattle.blocks.proofs.Laws.KindsReady.{subpel-passed, warp-passed}
 use Rattle.blocks.proofs.Laws.OrderReady.{warp-near}
 use Rattle.blocks.proofs.order.filters_ok.Statement.{statement}
 use Rattle.blocks.proofs.order.filters_ok.Tie as tie
 
 filters-there-requires : tie.Need-filters-there-requires
 filters-there-requires c κs =
-    let t = c .before .before .before .before .before in let k = t .before .before in
-    let g = t .struct-told4 .given .1 .1 .1 .1 in
-    rw (back (fit w32 (g .0 .1)), back (fit w32 (g .1 .0 .1))) (warp-near _ (rw (k .k2 .given .1) at (k .before .before .pre)))
+    let t = c .before .before .before .before .before in
+    warp-near _ (rw (warp-passed (t .before .before .k2 .given .1) (t .struct-told4 .given)) at (t .before .before .before .before .pre))
 
 returns : tie.Need-returns
 unfolding filtersOk
@@ -21,15 +19,7 @@ returns-2 : tie.Need-returns-2
 unfolding filtersOk
 returns-2 c =
     let x = c .before .before in let t = x .before .before in
-    let g = t .struct-told .given in
-    rw (
-      t .before .before .k .given .1,
-      x .filter-in .ensures,
-      c .filter-in2 .ensures,
-      back (fit w32 (g .1 .1 .0 .1)),
-      back (fit w32 (g .0 .1)),
-      back (fit w32 (g .1 .0 .1)),
-    )
+    rw (subpel-passed (t .before .before .k .given .1) (t .struct-told .given), x .filter-in .ensures, c .filter-in2 .ensures)
 
 returns-3 : tie.Need-returns-3
 unfolding filtersOk
@@ -39,17 +29,7 @@ returns-4 : tie.Need-returns-4
 unfolding filtersOk
 returns-4 c =
     let t = c .before .before .before .before .before .before in
-    let g = t .struct-told4 .given in let m = g .1 .1 .1 .1 in
-    rw (
-      t .before .before .k2 .given .1,
-      c .filters-there .ensures,
-      back (fit w16 (g .0 .1)),
-      back (fit w16 (g .1 .0 .1)),
-      back (fit w16 (g .1 .1 .0 .1)),
-      back (fit w16 (g .1 .1 .1 .0 .1)),
-      back (fit w32 (m .0 .1)),
-      back (fit w32 (m .1 .0 .1)),
-    )
+    rw (warp-passed (t .before .before .k2 .given .1) (t .struct-told4 .given), c .filters-there .ensures)
 
 pub filters-ok-spec : {M : Type 1} → statement M
 filters-ok-spec =

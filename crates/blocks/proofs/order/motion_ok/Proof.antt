@@ -1,9 +1,8 @@
 use borrow.Author.Needs.{needs}
 use mathlib.Core.Path.{refl}
-use mir.Syntax.{w32}
-use Rattle.rows.proofs.Laws.Signed.{back, fit}
 use Rattle.blocks.specs.Order.{motionOk}
 use Rattle.blocks.specs.Warp.{warpPlaceOk}
+use Rattle.blocks.proofs.Laws.KindsReady.{subpel-passed, bilin-passed, warp-passed}
 use Rattle.blocks.proofs.order.motion_ok.Statement.{statement}
 use Rattle.blocks.proofs.order.motion_ok.Tie as tie
 
@@ -15,30 +14,24 @@ returns-2 : tie.Need-returns-2
 unfolding motionOk
 returns-2 c =
     let f = c .before .before in let t = f .before .before in let s = t .before in
-    let g = s .struct-told .given in
     rw (
-      s .before .before .k .given .1,
+      subpel-passed (s .before .before .k .given .1) (s .struct-told .given),
       t .type-ok .ensures,
       f .fraction-ok .ensures,
       c .fraction-ok2 .ensures,
-      back (fit w32 (g .1 .1 .0 .1)),
-      back (fit w32 (g .0 .1)),
-      back (fit w32 (g .1 .0 .1)),
     )
 
 returns-3 : tie.Need-returns-3
 unfolding motionOk
 returns-3 c =
     let x = c .before .before in let s = x .before in
-    let g = s .struct-told4 .given in
-    rw (s .before .before .k2 .given .1, x .sixteenth-ok .ensures, c .sixteenth-ok2 .ensures, back (fit w32 (g .0 .1)), back (fit w32 (g .1 .0 .1)))
+    rw (bilin-passed (s .before .before .k2 .given .1) (s .struct-told4 .given), x .sixteenth-ok .ensures, c .sixteenth-ok2 .ensures)
 
 returns-4 : tie.Need-returns-4
 unfolding motionOk warpPlaceOk
 returns-4 c =
     let x = c .before .before in let s = x .before in
-    let g = s .struct-told6 .given .1 .1 .1 .1 in
-    rw (s .before .before .k3 .given .1, x .within .ensures, c .within2 .ensures, back (fit w32 (g .0 .1)), back (fit w32 (g .1 .0 .1)))
+    rw (warp-passed (s .before .before .k3 .given .1) (s .struct-told6 .given), x .within .ensures, c .within2 .ensures)
 
 pub motion-ok-spec : {M : Type 1} → statement M
 motion-ok-spec =
