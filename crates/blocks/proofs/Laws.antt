@@ -43,3 +43,4 @@ pub mod WindowRows
 pub mod WindowAnswers
 pub mod OrderReady
 pub mod Orders
+pub mod OrderAnswers
