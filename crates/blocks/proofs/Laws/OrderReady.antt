@@ -6,16 +6,16 @@ use mathlib.Core.List.{List, [], _∷_}
 use Prim.Native.Nat.{ℕ, _^_, _≤_}
 use borrow.Author.Tests.{leb-true}
 use lib.Dec.{leb}
-use lib.IntN.{ℤ, natAbs}
+use lib.IntN.{natAbs}
 use Rattle.rows.proofs.Laws.Fill.{and-true}
-use Rattle.blocks.specs.Refuse.{Test, size, stride, number, table, read, written, _asks_, numberOf, need, lowest, sizeOk, blockSide, strideOk, holds, holdsAll, wholeFilters}
+use Rattle.blocks.specs.Refuse.{Test, size, stride, number, table, read, written, _asks_, lowest, sizeOk, blockSide, strideOk, holds, holdsAll, wholeFilters}
 use Rattle.blocks.specs.Edge.{placeOk}
 use Rattle.blocks.specs.Subpel.{subpelOk}
 use Rattle.blocks.specs.Warp.{warpPlaceOk}
 use Rattle.blocks.specs.Window.{planeW, planeH, frameSizesOk, frameNamesOk, windowSide, windowTests}
 use Rattle.blocks.specs.Order.{kindNumber, kindSizeOk, motionOk, filtersOk, orderTests}
 use Rattle.blocks.specs.Ready.{Block, Rows, Windowed}
-use Rattle.blocks.proofs.Laws.Refuse.{Met, all-met, met-all, then, later, sooner}
+use Rattle.blocks.proofs.Laws.Refuse.{all-met, met-all, then, later, sooner}
 use Rattle.blocks.proofs.Laws.Ready.{block-met, rows-met}
 use Rattle.blocks.specs.declared.window.Frame.{Frame}
 use Rattle.blocks.specs.declared.order.Order.{Order}
