@@ -1,16 +1,25 @@
 // Prediction orders: their numbers, and how one is run.
 ghost use mathlib.Core.Path.{_≡_};
 ghost use mathlib.Core.Bool.{true};
-ghost use Rattle.blocks.specs.Refuse.{need, lowest, sizeOk, blockSide, strideOk, wholeFilters};
+ghost use lib.Dec.{leb};
+ghost use lib.ListN.{length};
+ghost use Rattle.rows.specs.Numbers.{up};
+ghost use Rattle.blocks.specs.Refuse.{need, lowest, sizeOk, blockSide, strideOk, wholeFilters, depthOk};
 ghost use Rattle.blocks.specs.Edge.{placeOk};
 ghost use Rattle.blocks.specs.Subpel.{subpelOk};
-ghost use Rattle.blocks.specs.Window.{planeW, frameSizesOk, frameNamesOk};
-ghost use Rattle.blocks.specs.Order.{kindNumber, kindOf, kindSizeOk, motionOk, filtersOk, orderTests};
+ghost use Rattle.blocks.specs.Window.{planeW, frameSizesOk, frameNamesOk, windowOf, scratchOf};
+ghost use Rattle.blocks.specs.Order.{kindNumber, kindOf, kindSizeOk, motionOk, filtersOk, orderTests, OrderPutAnswer, OrderPrepAnswer};
 use crate::bilinear::sixteenth_ok;
 use crate::edge::places;
 use crate::filters::filter_in;
 use crate::filters::fraction_ok;
 use crate::filters::type_ok;
+use crate::kinds::prep_kind8;
+use crate::kinds::prep_kind16;
+use crate::kinds::put_kind8;
+use crate::kinds::put_kind16;
+use crate::refuse::depth_numbers;
+use crate::refuse::depth_ok;
 use crate::refuse::held;
 use crate::refuse::needed;
 use crate::refuse::sizes;
@@ -18,10 +27,15 @@ use crate::refuse::stride;
 use crate::shear::within;
 use crate::warp::filters_there;
 use crate::window::Frame;
+use crate::window::Part;
 use crate::window::frame_names_ok;
 use crate::window::frame_sizes_ok;
+use crate::window::pick8;
+use crate::window::pick16;
 use crate::window::plane_w;
 use crate::window::window_held;
+use crate::window::window8;
+use crate::window::window16;
 
 // The motion of an 8-tap block: the two fractions and the filter type.
 pub struct SubpelMotion {
@@ -210,4 +224,104 @@ fn check_order(
     let n = kind_number(k);
     let buffers = window_held(f, plane_no, pl, plane_stride, n, o.w, o.h, sl, written);
     order_tables(k, tl, el, wl, buffers)
+}
+
+// An order's window, in the default mode.
+fn order_window8(
+    f: Frame,
+    plane_no: u32,
+    plane: &[u8],
+    plane_stride: usize,
+    o: Order,
+    scratch: &mut [u8],
+) -> Part
+    ensures { λ r. ⌜ (r ≡ windowOf f «plane_no» (length (now (plane .entry))) «plane_stride» (kindNumber (o .kind)) (o .w) (o .h) (o .x) (o .y) 0 (length (now (scratch .entry))))
+        × (now (scratch .exit) ≡ scratchOf (r .number) f «plane_no» (now (plane .entry)) «plane_stride» (kindNumber (o .kind)) (o .w) (o .h) (o .x) (o .y) 0 (now (scratch .entry))) ⌝ }
+{
+    let k = o.kind;
+    let n = kind_number(k);
+    window8(
+        f,
+        plane_no,
+        plane,
+        plane_stride,
+        n,
+        o.w,
+        o.h,
+        o.x,
+        o.y,
+        0,
+        scratch,
+    )
+}
+
+fn order_window16(
+    f: Frame,
+    plane_no: u32,
+    plane: &[u16],
+    plane_stride: usize,
+    o: Order,
+    scratch: &mut [u16],
+) -> Part
+    ensures { λ r. ⌜ (r ≡ windowOf f «plane_no» (length (now (plane .entry))) «plane_stride» (kindNumber (o .kind)) (o .w) (o .h) (o .x) (o .y) 0 (length (now (scratch .entry))))
+        × (now (scratch .exit) ≡ scratchOf (r .number) f «plane_no» (now (plane .entry)) «plane_stride» (kindNumber (o .kind)) (o .w) (o .h) (o .x) (o .y) 0 (now (scratch .entry))) ⌝ }
+{
+    let k = o.kind;
+    let n = kind_number(k);
+    window16(
+        f,
+        plane_no,
+        plane,
+        plane_stride,
+        n,
+        o.w,
+        o.h,
+        o.x,
+        o.y,
+        0,
+        scratch,
+    )
+}
+
+// An order run as put, and as prep.
+pub fn order_put8(
+    named: bool,
+    f: Frame,
+    plane_no: u32,
+    plane: &[u8],
+    plane_stride: usize,
+    o: Order,
+    subpel: &[i8],
+    ext: &[i8],
+    warp: &[i8],
+    scratch: &mut [u8],
+    dst: &mut [u8],
+    dst_stride: usize,
+) -> u32
+    ensures { λ r. ⌜ OrderPutAnswer true named 8 f «plane_no» (now (plane .entry)) «plane_stride» o (now (subpel .entry)) (now (ext .entry)) (now (warp .entry))
+        (now (scratch .entry)) (now (dst .entry)) «dst_stride» r (now (scratch .exit)) (now (dst .exit)) ⌝ }
+{
+    let number = check_order(
+        true,
+        named,
+        f,
+        plane_no,
+        plane.len(),
+        plane_stride,
+        o,
+        subpel.len(),
+        ext.len(),
+        warp.len(),
+        scratch.len(),
+        dst.len(),
+        dst_stride,
+    );
+    if number == 0 {
+        let part = order_window8(f, plane_no, plane, plane_stride, o, scratch);
+        let s = part.stride;
+        let src = pick8(part, plane, scratch);
+        let k = o.kind;
+        put_kind8(k, src, s, o.w, o.h, subpel, ext, warp, dst, dst_stride);
+    }
+    number
 }

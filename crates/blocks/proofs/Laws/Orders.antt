@@ -1,26 +1,52 @@
 -- An accepted order: its window is fetched and picked, its kind's rows run on it, and their picture is the order's on the endless plane. Assumes nothing.
-use mathlib.Core.Path.{_≡_, sym, ap, _∙_}
-use mathlib.Core.Bool.{Bool}
+use mathlib.Core.Path.{_≡_, refl, sym, ap, _∙_}
+use mathlib.Core.Bool.{Bool, true, false}
 use mathlib.Core.List.{List}
-use Prim.Native.Nat.{ℕ, _≤_}
+use Prim.Native.Nat.{ℕ, zero, suc, _≤_}
 use native.Mathlib.Omega.{arith}
 use lib.IntN.{ℤ, pos}
 use lib.ListN.{length}
 use Rattle.rows.specs.Depth.{bitsOf, biasOf, maxOf}
 use Rattle.rows.specs.Places.{fill}
-use Rattle.rows.proofs.Laws.Fill.{fill-same}
+use Rattle.rows.proofs.Laws.Fill.{length-fill, fill-same}
 use Rattle.blocks.specs.Refuse.{lowest, orSame}
-use Rattle.blocks.specs.Ready.{Rows, Windowed}
-use Rattle.blocks.specs.Window.{windowTests, windowOf, scratchOf, partOf, aroundPart}
-use Rattle.blocks.specs.Order.{kindNumber, putRule, prepRule, putPicture, prepPicture, planeOf, orderNumber, orderScratch, orderDst, orderTmp, OrderPutAnswer, OrderPrepAnswer}
+use Rattle.blocks.specs.Ready.{Rows, Windowed, PartIn}
+use Rattle.blocks.specs.Window.{planeW, planeH, windowSide, windowStart, windowTests, ownPlane, windowAt, noPart, windowOf, fetched, scratchOf, partOf, aroundPart}
+use Rattle.blocks.specs.Order.{kindNumber, putRule, prepRule, putPicture, prepPicture, planeOf, orderTests, orderNumber, orderScratch, orderDst, orderTmp, OrderPutAnswer, OrderPrepAnswer}
 use Rattle.blocks.proofs.Laws.Refuse.{refused}
-use Rattle.blocks.proofs.Laws.WindowReady.{window-number}
-use Rattle.blocks.proofs.Laws.Window.{Picked, picked}
+use Rattle.blocks.proofs.Laws.WindowReady.{window-ready, window-number}
+use Rattle.blocks.proofs.Laws.Window.{planes-met, planes-fit, Picked, picked}
 use Rattle.blocks.proofs.Laws.Local.{putRule-local, prepRule-local}
 use Rattle.blocks.proofs.Laws.OrderReady.{order-window, order-dst, order-windowed}
 use Rattle.blocks.specs.declared.window.Frame.{Frame}
 use Rattle.blocks.specs.declared.window.Part.{Part}
 use Rattle.blocks.specs.declared.order.Order.{Order}
+
+-- ---- the part that a window's answer names is in its buffer
+scratch-length : (n : ℕ) (f : Frame) (planeNo : ℕ) (plane : List ℕ) (ps kind w h : ℕ) (x y : ℤ) (mode : ℕ) (scratch : List ℕ)
+    → length (scratchOf n f planeNo plane ps kind w h x y mode scratch) ≡ length scratch
+unfolding scratchOf orSame fetched
+scratch-length n f planeNo plane ps kind w h x y mode scratch = go n (ownPlane f planeNo kind w h x y mode) where
+  go : (n : ℕ) (b : Bool)
+      → length (orSame n (fetched b plane ps (windowSide kind w) (windowSide kind h) (planeW f planeNo) (planeH f planeNo) (windowStart kind x) (windowStart kind y) scratch) scratch)
+      ≡ length scratch
+  go zero true = refl
+  go zero false = length-fill scratch (windowSide kind w) (windowSide kind w) (windowSide kind h) _
+  go (suc n) b = refl
+
+window-in : (f : Frame) (planeNo pl ps kind w h : ℕ) (x y : ℤ) (mode sl : ℕ) → PartIn (windowOf f planeNo pl ps kind w h x y mode sl) pl sl
+unfolding windowOf orSame windowAt
+window-in f planeNo pl ps kind w h x y mode sl = go (lowest (windowTests f planeNo pl ps kind w h x y mode sl)) refl (ownPlane f planeNo kind w h x y mode) refl where
+  go : (n : ℕ) → lowest (windowTests f planeNo pl ps kind w h x y mode sl) ≡ n → (b : Bool) → ownPlane f planeNo kind w h x y mode ≡ b
+      → PartIn (orSame n (windowAt b ps (windowSide kind w) (windowSide kind h) (windowStart kind x) (windowStart kind y)) (noPart n)) pl sl
+  go zero e true p =
+      let r = window-ready f planeNo pl ps kind w h x y mode sl e in
+      let q = planes-met mode _ _ _ _ (windowStart kind x) (windowStart kind y) p in
+      record { plane = λ z. planes-fit (windowStart kind x) (windowStart kind y) (r .0) (q .0) (q .1); scratch = λ z. absurd (omega arith) }
+  go zero e false p =
+      let r = window-ready f planeNo pl ps kind w h x y mode sl e in
+      record { plane = λ z. absurd (omega arith); scratch = λ z. omega (arith, r .0 .dst .fits) }
+  go (suc n) e b p = record { plane = λ z. absurd (omega arith); scratch = λ z. absurd (omega arith) }
 
 -- what a kind's rows make of a source
 abbrev putOn : (depth : ℕ) (subpel ext warp : List ℤ) → Order → (src : List ℕ) (s : ℕ) → (i j : ℕ) → ℕ
@@ -44,63 +70,72 @@ module _ (depth : ℕ) (subpel ext warp : List ℤ) (o : Order) {src : List ℕ}
   prep-shown tmp =
       fill-same (pos 0) ds some tmp (o .w) (o .h) _ _ λ i j wi hj. prepRule-local _ _ subpel ext warp _ _ (o .kind) _ _ i j λ a b. p .same i j a b wi hj
 
--- ---- a call: dl is the length of dst (or tmp)
-module _ (deep named : Bool) (f : Frame) (planeNo : ℕ) (plane : List ℕ) (ps : ℕ) (o : Order) (subpel ext warp : List ℤ) (scratch : List ℕ) where
-  -- what its window's call gave: the answer p, and scratch as it was filled
-  pub record Fetched (p : Part) (filled : List ℕ) : Type 0 where
-    pub answer : p ≡ windowOf f planeNo (length plane) ps (kindNumber (o .kind)) (o .w) (o .h) (o .x) (o .y) 0 (length scratch)
-    pub full : filled ≡ scratchOf (p .number) f planeNo plane ps (kindNumber (o .kind)) (o .w) (o .h) (o .x) (o .y) 0 scratch
+-- ---- an accepted call, and what its window's call gave: the answer p, and scratch as it was filled. tl, el and wl are the lengths of subpel, ext and
+-- warp, dl of dst (or tmp)
+pub record Ordered (deep named : Bool) (f : Frame) (planeNo : ℕ) (plane : List ℕ) (ps : ℕ) (o : Order) (tl el wl : ℕ) (scratch : List ℕ) (dl ds : ℕ) (p : Part) (filled : List ℕ) : Type 0 where
+  pub number : lowest (orderTests deep named f planeNo (length plane) ps o tl el wl (length scratch) dl ds) ≡ 0
+  pub answer : p ≡ windowOf f planeNo (length plane) ps (kindNumber (o .kind)) (o .w) (o .h) (o .x) (o .y) 0 (length scratch)
+  pub full : filled ≡ scratchOf (p .number) f planeNo plane ps (kindNumber (o .kind)) (o .w) (o .h) (o .x) (o .y) 0 scratch
 
-  module _ (dl ds : ℕ) (e : orderNumber deep named f planeNo plane ps o subpel ext warp (length scratch) dl ds ≡ 0) {p : Part} {filled : List ℕ} (q : Fetched p filled) where
-    accepted : lowest (windowTests f planeNo (length plane) ps (kindNumber (o .kind)) (o .w) (o .h) (o .x) (o .y) 0 (length scratch)) ≡ 0
-    accepted = order-window deep named f planeNo (length plane) ps o (length subpel) (length ext) (length warp) (length scratch) dl ds e
+module _ {deep named : Bool} {f : Frame} {planeNo : ℕ} {plane : List ℕ} {ps : ℕ} {o : Order} {tl el wl : ℕ} {scratch : List ℕ} {dl ds : ℕ} {p : Part} {filled : List ℕ}
+    (q : Ordered deep named f planeNo plane ps o tl el wl scratch dl ds p filled) where
+  accepted : lowest (windowTests f planeNo (length plane) ps (kindNumber (o .kind)) (o .w) (o .h) (o .x) (o .y) 0 (length scratch)) ≡ 0
+  accepted = order-window deep named f planeNo (length plane) ps o tl el wl (length scratch) dl ds (q .number)
 
-    source : {src : List ℕ} → src ≡ partOf p plane filled → Picked (kindNumber (o .kind)) (o .w) (o .h) (planeOf f planeNo plane ps) (o .x) (o .y) src (p .stride)
-    source {src} from = picked f planeNo plane ps (kindNumber (o .kind)) (o .w) (o .h) (o .x) (o .y) 0 scratch accepted p filled src (q .answer) (q .full) from
+  -- the part is in its buffer
+  pub order-part : PartIn p (length plane) (length filled)
+  order-part =
+      rw (q .full, scratch-length (p .number) f planeNo plane ps (kindNumber (o .kind)) (o .w) (o .h) (o .x) (o .y) 0 scratch, q .answer)
+      (window-in f planeNo (length plane) ps (kindNumber (o .kind)) (o .w) (o .h) (o .x) (o .y) 0 (length scratch))
+
+  -- scratch at the end
+  kept : filled ≡ orderScratch 0 f planeNo plane ps o scratch
+  unfolding orderScratch
+  kept =
+      let n = window-number f planeNo (length plane) ps (kindNumber (o .kind)) (o .w) (o .h) (o .x) (o .y) 0 (length scratch) in
+      q .full
+      ∙ ap (λ (m : ℕ). scratchOf m f planeNo plane ps (kindNumber (o .kind)) (o .w) (o .h) (o .x) (o .y) 0 scratch)
+      (ap (λ (v : Part). v .number) (q .answer) ∙ n ∙ accepted)
+
+  module _ {src : List ℕ} (from : src ≡ partOf p plane filled) where
+    source : Picked (kindNumber (o .kind)) (o .w) (o .h) (planeOf f planeNo plane ps) (o .x) (o .y) src (p .stride)
+    source = picked f planeNo plane ps (kindNumber (o .kind)) (o .w) (o .h) (o .x) (o .y) 0 scratch accepted p filled src (q .answer) (q .full) from
 
     -- what the kind's rows rely on
-    pub order-rows : {src : List ℕ} → src ≡ partOf p plane filled
-        → Windowed (o .kind) (length src) (p .stride) (o .w) (o .h) (length subpel) (length ext) (length warp) × Rows dl ds (o .w) (o .h)
-    order-rows from = (
-      order-windowed deep named f planeNo (length plane) ps o (length subpel) (length ext) (length warp) (length scratch) dl ds e (source from .rows),
-      order-dst deep named f planeNo (length plane) ps o (length subpel) (length ext) (length warp) (length scratch) dl ds e,
+    pub order-rows : Windowed (o .kind) (length src) (p .stride) (o .w) (o .h) tl el wl × Rows dl ds (o .w) (o .h)
+    order-rows = (
+      order-windowed deep named f planeNo (length plane) ps o tl el wl (length scratch) dl ds (q .number) (source .rows),
+      order-dst deep named f planeNo (length plane) ps o tl el wl (length scratch) dl ds (q .number),
     )
 
-    wide : {src : List ℕ} → src ≡ partOf p plane filled → 1 ≤ ds
-    wide from = omega (arith, order-rows from .0 .block, order-rows from .1)
+    some : 1 ≤ ds
+    some = omega (arith, order-rows .0 .block, order-rows .1)
 
-    -- scratch at the end
-    kept : filled ≡ orderScratch 0 f planeNo plane ps o scratch
-    unfolding orderScratch
-    kept =
-        let n = window-number f planeNo (length plane) ps (kindNumber (o .kind)) (o .w) (o .h) (o .x) (o .y) 0 (length scratch) in
-        q .full
-        ∙ ap (λ (m : ℕ). scratchOf m f planeNo plane ps (kindNumber (o .kind)) (o .w) (o .h) (o .x) (o .y) 0 scratch)
-        (ap (λ (v : Part). v .number) (q .answer) ∙ n ∙ accepted)
-
-  -- ---- put's answer where the call is accepted, and where it is refused
-  module _ (depth : ℕ) (dst : List ℕ) (ds : ℕ) {r : ℕ} (is : r ≡ orderNumber deep named f planeNo plane ps o subpel ext warp (length scratch) (length dst) ds) where
-    pub put-done : {p : Part} {filled src dst′ : List ℕ} → r ≡ 0 → Fetched p filled → src ≡ partOf p plane filled
-        → dst′ ≡ fill dst ds (o .w) (o .h) (putOn depth subpel ext warp o src (p .stride))
+-- ---- what the call answers, where it is accepted and where it is refused
+module _ (deep named : Bool) (depth : ℕ) (f : Frame) (planeNo : ℕ) (plane : List ℕ) (ps : ℕ) (o : Order) (subpel ext warp : List ℤ) (scratch : List ℕ) where
+  module _ (dst : List ℕ) (ds : ℕ) {r : ℕ} (is : r ≡ orderNumber deep named f planeNo plane ps o subpel ext warp (length scratch) (length dst) ds) where
+    pub put-done : {p : Part} {filled src dst′ : List ℕ}
+        → Ordered deep named f planeNo plane ps o (length subpel) (length ext) (length warp) scratch (length dst) ds p filled
+        → src ≡ partOf p plane filled → dst′ ≡ fill dst ds (o .w) (o .h) (putOn depth subpel ext warp o src (p .stride))
         → OrderPutAnswer deep named depth f planeNo plane ps o subpel ext warp scratch dst ds r filled dst′
     unfolding orderDst orSame
-    put-done z q from new =
-        let e = sym is ∙ z in
-        (is, rw z (kept (length dst) ds e q), rw z (new ∙ put-shown depth subpel ext warp o (source (length dst) ds e q from) ds (wide (length dst) ds e q from) dst))
+    put-done q from new =
+        let z = is ∙ q .number in
+        (is, rw z (kept q), rw z (new ∙ put-shown depth subpel ext warp o (source q from) ds (some q from) dst))
 
     pub put-refused : (r ≡ 0 → ⊥) → OrderPutAnswer deep named depth f planeNo plane ps o subpel ext warp scratch dst ds r scratch dst
     unfolding orderScratch scratchOf orderDst
     put-refused h = (is, sym (refused r _ scratch h), sym (refused r _ dst h))
 
-  -- and prep's
-  module _ (depth : ℕ) (tmp : List ℤ) (ts : ℕ) {r : ℕ} (is : r ≡ orderNumber deep named f planeNo plane ps o subpel ext warp (length scratch) (length tmp) ts) where
-    pub prep-done : {p : Part} {filled src : List ℕ} {tmp′ : List ℤ} → r ≡ 0 → Fetched p filled → src ≡ partOf p plane filled
-        → tmp′ ≡ fill tmp ts (o .w) (o .h) (prepOn depth subpel ext warp o src (p .stride))
+  module _ (tmp : List ℤ) (ts : ℕ) {r : ℕ} (is : r ≡ orderNumber deep named f planeNo plane ps o subpel ext warp (length scratch) (length tmp) ts) where
+    pub prep-done : {p : Part} {filled src : List ℕ} {tmp′ : List ℤ}
+        → Ordered deep named f planeNo plane ps o (length subpel) (length ext) (length warp) scratch (length tmp) ts p filled
+        → src ≡ partOf p plane filled → tmp′ ≡ fill tmp ts (o .w) (o .h) (prepOn depth subpel ext warp o src (p .stride))
         → OrderPrepAnswer deep named depth f planeNo plane ps o subpel ext warp scratch tmp ts r filled tmp′
     unfolding orderTmp orSame
-    prep-done z q from new =
-        let e = sym is ∙ z in
-        (is, rw z (kept (length tmp) ts e q), rw z (new ∙ prep-shown depth subpel ext warp o (source (length tmp) ts e q from) ts (wide (length tmp) ts e q from) tmp))
+    prep-done q from new =
+        let z = is ∙ q .number in
+        (is, rw z (kept q), rw z (new ∙ prep-shown depth subpel ext warp o (source q from) ts (some q from) tmp))
 
     pub prep-refused : (r ≡ 0 → ⊥) → OrderPrepAnswer deep named depth f planeNo plane ps o subpel ext warp scratch tmp ts r scratch tmp
     unfolding orderScratch scratchOf orderTmp
