@@ -325,3 +325,133 @@ pub fn order_put8(
     }
     number
 }
+
+pub fn order_put16(
+    depth: i32,
+    named: bool,
+    f: Frame,
+    plane_no: u32,
+    plane: &[u16],
+    plane_stride: usize,
+    o: Order,
+    subpel: &[i8],
+    ext: &[i8],
+    warp: &[i8],
+    scratch: &mut [u16],
+    dst: &mut [u16],
+    dst_stride: usize,
+) -> u32
+    ensures { λ r. ⌜ OrderPutAnswer (depthOk depth) named (up depth) f «plane_no» (now (plane .entry)) «plane_stride» o (now (subpel .entry)) (now (ext .entry)) (now (warp .entry))
+        (now (scratch .entry)) (now (dst .entry)) «dst_stride» r (now (scratch .exit)) (now (dst .exit)) ⌝ }
+{
+    let number = check_order(
+        depth_ok(depth),
+        named,
+        f,
+        plane_no,
+        plane.len(),
+        plane_stride,
+        o,
+        subpel.len(),
+        ext.len(),
+        warp.len(),
+        scratch.len(),
+        dst.len(),
+        dst_stride,
+    );
+    if number == 0 {
+        let d = depth_numbers(depth);
+        let part = order_window16(f, plane_no, plane, plane_stride, o, scratch);
+        let s = part.stride;
+        let src = pick16(part, plane, scratch);
+        let k = o.kind;
+        put_kind16(d, k, src, s, o.w, o.h, subpel, ext, warp, dst, dst_stride);
+    }
+    number
+}
+
+pub fn order_prep8(
+    named: bool,
+    f: Frame,
+    plane_no: u32,
+    plane: &[u8],
+    plane_stride: usize,
+    o: Order,
+    subpel: &[i8],
+    ext: &[i8],
+    warp: &[i8],
+    scratch: &mut [u8],
+    tmp: &mut [i16],
+    tmp_stride: usize,
+) -> u32
+    ensures { λ r. ⌜ OrderPrepAnswer true named 8 f «plane_no» (now (plane .entry)) «plane_stride» o (now (subpel .entry)) (now (ext .entry)) (now (warp .entry))
+        (now (scratch .entry)) (now (tmp .entry)) «tmp_stride» r (now (scratch .exit)) (now (tmp .exit)) ⌝ }
+{
+    let number = check_order(
+        true,
+        named,
+        f,
+        plane_no,
+        plane.len(),
+        plane_stride,
+        o,
+        subpel.len(),
+        ext.len(),
+        warp.len(),
+        scratch.len(),
+        tmp.len(),
+        tmp_stride,
+    );
+    if number == 0 {
+        let part = order_window8(f, plane_no, plane, plane_stride, o, scratch);
+        let s = part.stride;
+        let src = pick8(part, plane, scratch);
+        let k = o.kind;
+        prep_kind8(k, src, s, o.w, o.h, subpel, ext, warp, tmp, tmp_stride);
+    }
+    number
+}
+
+pub fn order_prep16(
+    depth: i32,
+    named: bool,
+    f: Frame,
+    plane_no: u32,
+    plane: &[u16],
+    plane_stride: usize,
+    o: Order,
+    subpel: &[i8],
+    ext: &[i8],
+    warp: &[i8],
+    scratch: &mut [u16],
+    tmp: &mut [i16],
+    tmp_stride: usize,
+) -> u32
+    ensures { λ r. ⌜ OrderPrepAnswer (depthOk depth) named (up depth) f «plane_no» (now (plane .entry)) «plane_stride» o (now (subpel .entry)) (now (ext .entry)) (now (warp .entry))
+        (now (scratch .entry)) (now (tmp .entry)) «tmp_stride» r (now (scratch .exit)) (now (tmp .exit)) ⌝ }
+{
+    let number = check_order(
+        depth_ok(depth),
+        named,
+        f,
+        plane_no,
+        plane.len(),
+        plane_stride,
+        o,
+        subpel.len(),
+        ext.len(),
+        warp.len(),
+        scratch.len(),
+        tmp.len(),
+        tmp_stride,
+    );
+    if number == 0 {
+        let d = depth_numbers(depth);
+        let part = order_window16(f, plane_no, plane, plane_stride, o, scratch);
+        let s = part.stride;
+        let src = pick16(part, plane, scratch);
+        let k = o.kind;
+        prep_kind16(d, k, src, s, o.w, o.h, subpel, ext, warp, tmp, tmp_stride);
+    }
+    number
+}
