@@ -455,3 +455,255 @@ pub fn order_prep16(
     }
     number
 }
+
+#[no_mangle]
+pub extern "C" fn hv_order_put_8bpc(
+    luma_w: usize,
+    luma_h: usize,
+    ss_hor: bool,
+    ss_ver: bool,
+    plane_no: u32,
+    plane: &[u8],
+    plane_stride: usize,
+    kind: u32,
+    x: i64,
+    y: i64,
+    w: usize,
+    h: usize,
+    mx: i32,
+    my: i32,
+    filter_type: i32,
+    a: i16,
+    b: i16,
+    c: i16,
+    d: i16,
+    subpel: &[i8],
+    ext: &[i8],
+    warp: &[i8],
+    scratch: &mut [u8],
+    dst: &mut [u8],
+    dst_stride: usize,
+) -> u32
+    ensures { λ r. ⌜ OrderPutAnswer true (leb kind 3) 8 (record { «luma_w» = «luma_w»; «luma_h» = «luma_h»; «ss_hor» = «ss_hor»; «ss_ver» = «ss_ver» }) «plane_no»
+        (now (plane .entry)) «plane_stride» (record { x = x; y = y; w = w; h = h; kind = kindOf kind mx my «filter_type» a b c d })
+        (now (subpel .entry)) (now (ext .entry)) (now (warp .entry)) (now (scratch .entry)) (now (dst .entry)) «dst_stride» r (now (scratch .exit)) (now (dst .exit)) ⌝ }
+{
+    let f = Frame {
+        luma_w,
+        luma_h,
+        ss_hor,
+        ss_ver,
+    };
+    let k = kind_of(kind, mx, my, filter_type, a, b, c, d);
+    let o = Order {
+        x,
+        y,
+        w,
+        h,
+        kind: k,
+    };
+    order_put8(
+        kind <= 3,
+        f,
+        plane_no,
+        plane,
+        plane_stride,
+        o,
+        subpel,
+        ext,
+        warp,
+        scratch,
+        dst,
+        dst_stride,
+    )
+}
+
+#[no_mangle]
+pub extern "C" fn hv_order_put_16bpc(
+    depth: i32,
+    luma_w: usize,
+    luma_h: usize,
+    ss_hor: bool,
+    ss_ver: bool,
+    plane_no: u32,
+    plane: &[u16],
+    plane_stride: usize,
+    kind: u32,
+    x: i64,
+    y: i64,
+    w: usize,
+    h: usize,
+    mx: i32,
+    my: i32,
+    filter_type: i32,
+    a: i16,
+    b: i16,
+    c: i16,
+    d: i16,
+    subpel: &[i8],
+    ext: &[i8],
+    warp: &[i8],
+    scratch: &mut [u16],
+    dst: &mut [u16],
+    dst_stride: usize,
+) -> u32
+    ensures { λ r. ⌜ OrderPutAnswer (depthOk depth) (leb kind 3) (up depth) (record { «luma_w» = «luma_w»; «luma_h» = «luma_h»; «ss_hor» = «ss_hor»; «ss_ver» = «ss_ver» }) «plane_no»
+        (now (plane .entry)) «plane_stride» (record { x = x; y = y; w = w; h = h; kind = kindOf kind mx my «filter_type» a b c d })
+        (now (subpel .entry)) (now (ext .entry)) (now (warp .entry)) (now (scratch .entry)) (now (dst .entry)) «dst_stride» r (now (scratch .exit)) (now (dst .exit)) ⌝ }
+{
+    let f = Frame {
+        luma_w,
+        luma_h,
+        ss_hor,
+        ss_ver,
+    };
+    let k = kind_of(kind, mx, my, filter_type, a, b, c, d);
+    let o = Order {
+        x,
+        y,
+        w,
+        h,
+        kind: k,
+    };
+    order_put16(
+        depth,
+        kind <= 3,
+        f,
+        plane_no,
+        plane,
+        plane_stride,
+        o,
+        subpel,
+        ext,
+        warp,
+        scratch,
+        dst,
+        dst_stride,
+    )
+}
+
+#[no_mangle]
+pub extern "C" fn hv_order_prep_8bpc(
+    luma_w: usize,
+    luma_h: usize,
+    ss_hor: bool,
+    ss_ver: bool,
+    plane_no: u32,
+    plane: &[u8],
+    plane_stride: usize,
+    kind: u32,
+    x: i64,
+    y: i64,
+    w: usize,
+    h: usize,
+    mx: i32,
+    my: i32,
+    filter_type: i32,
+    a: i16,
+    b: i16,
+    c: i16,
+    d: i16,
+    subpel: &[i8],
+    ext: &[i8],
+    warp: &[i8],
+    scratch: &mut [u8],
+    tmp: &mut [i16],
+    tmp_stride: usize,
+) -> u32
+    ensures { λ r. ⌜ OrderPrepAnswer true (leb kind 3) 8 (record { «luma_w» = «luma_w»; «luma_h» = «luma_h»; «ss_hor» = «ss_hor»; «ss_ver» = «ss_ver» }) «plane_no»
+        (now (plane .entry)) «plane_stride» (record { x = x; y = y; w = w; h = h; kind = kindOf kind mx my «filter_type» a b c d })
+        (now (subpel .entry)) (now (ext .entry)) (now (warp .entry)) (now (scratch .entry)) (now (tmp .entry)) «tmp_stride» r (now (scratch .exit)) (now (tmp .exit)) ⌝ }
+{
+    let f = Frame {
+        luma_w,
+        luma_h,
+        ss_hor,
+        ss_ver,
+    };
+    let k = kind_of(kind, mx, my, filter_type, a, b, c, d);
+    let o = Order {
+        x,
+        y,
+        w,
+        h,
+        kind: k,
+    };
+    order_prep8(
+        kind <= 3,
+        f,
+        plane_no,
+        plane,
+        plane_stride,
+        o,
+        subpel,
+        ext,
+        warp,
+        scratch,
+        tmp,
+        tmp_stride,
+    )
+}
+
+#[no_mangle]
+pub extern "C" fn hv_order_prep_16bpc(
+    depth: i32,
+    luma_w: usize,
+    luma_h: usize,
+    ss_hor: bool,
+    ss_ver: bool,
+    plane_no: u32,
+    plane: &[u16],
+    plane_stride: usize,
+    kind: u32,
+    x: i64,
+    y: i64,
+    w: usize,
+    h: usize,
+    mx: i32,
+    my: i32,
+    filter_type: i32,
+    a: i16,
+    b: i16,
+    c: i16,
+    d: i16,
+    subpel: &[i8],
+    ext: &[i8],
+    warp: &[i8],
+    scratch: &mut [u16],
+    tmp: &mut [i16],
+    tmp_stride: usize,
+) -> u32
+    ensures { λ r. ⌜ OrderPrepAnswer (depthOk depth) (leb kind 3) (up depth) (record { «luma_w» = «luma_w»; «luma_h» = «luma_h»; «ss_hor» = «ss_hor»; «ss_ver» = «ss_ver» }) «plane_no»
+        (now (plane .entry)) «plane_stride» (record { x = x; y = y; w = w; h = h; kind = kindOf kind mx my «filter_type» a b c d })
+        (now (subpel .entry)) (now (ext .entry)) (now (warp .entry)) (now (scratch .entry)) (now (tmp .entry)) «tmp_stride» r (now (scratch .exit)) (now (tmp .exit)) ⌝ }
+{
+    let f = Frame {
+        luma_w,
+        luma_h,
+        ss_hor,
+        ss_ver,
+    };
+    let k = kind_of(kind, mx, my, filter_type, a, b, c, d);
+    let o = Order {
+        x,
+        y,
+        w,
+        h,
+        kind: k,
+    };
+    order_prep16(
+        depth,
+        kind <= 3,
+        f,
+        plane_no,
+        plane,
+        plane_stride,
+        o,
+        subpel,
+        ext,
+        warp,
+        scratch,
+        tmp,
+        tmp_stride,
+    )
+}

@@ -21,6 +21,7 @@ use Rattle.blocks.proofs.Laws.OrderReady.{order-window, order-dst, orde
 use Rattle.blocks.specs.declared.window.Frame.{Frame}
 use Rattle.blocks.specs.declared.window.Part.{Part}
 use Rattle.blocks.specs.declared.order.Order.{Order}
+use Rattle.blocks.specs.declared.order.Kind.{Kind}
 
 -- ---- the part that a window's answer names is in its buffer
 scratch-length : (n : ℕ) (f : Frame) (planeNo : ℕ) (plane : List ℕ) (ps kind w h : ℕ) (x y : ℤ) (mode : ℕ) (scratch : List ℕ)
@@ -140,3 +141,18 @@ module _ (deep named : Bool) (depth : ℕ) (f : Frame) (planeNo : ℕ) (plane : 
     pub prep-refused : (r ≡ 0 → ⊥) → OrderPrepAnswer deep named depth f planeNo plane ps o subpel ext warp scratch tmp ts r scratch tmp
     unfolding orderScratch scratchOf orderTmp
     prep-refused h = (is, sym (refused r _ scratch h), sym (refused r _ tmp h))
+
+-- ---- a call by its numbers as they are passed on: an order's, and what answers for them
+pub order-passed : {x x′ y y′ : ℤ} (w h : ℕ) {k k′ : Kind} → x ≡ x′ → y ≡ y′ → k ≡ k′
+    → _≡_ {A = Order} (record { x = x; y = y; w = w; h = h; kind = k }) (record { x = x′; y = y′; w = w; h = h; kind = k′ })
+order-passed w h a b c = rw (a, b, c) refl
+
+module _ (named : Bool) (f : Frame) (planeNo : ℕ) (plane : List ℕ) (ps : ℕ) (subpel ext warp : List ℤ) (scratch : List ℕ) (ds r : ℕ) (scratch′ : List ℕ)
+    {deep deep′ : Bool} {depth depth′ : ℕ} {o o′ : Order} (d : deep ≡ deep′) (b : depth ≡ depth′) (e : o ≡ o′) where
+  pub put-passed : (dst dst′ : List ℕ) → OrderPutAnswer deep named depth f planeNo plane ps o subpel ext warp scratch dst ds r scratch′ dst′
+      → OrderPutAnswer deep′ named depth′ f planeNo plane ps o′ subpel ext warp scratch dst ds r scratch′ dst′
+  put-passed dst dst′ a = rw (← d, ← b, ← e) a
+
+  pub prep-passed : (tmp tmp′ : List ℤ) → OrderPrepAnswer deep named depth f planeNo plane ps o subpel ext warp scratch tmp ds r scratch′ tmp′
+      → OrderPrepAnswer deep′ named depth′ f planeNo plane ps o′ subpel ext warp scratch tmp ds r scratch′ tmp′
+  prep-passed tmp tmp′ a = rw (← d, ← b, ← e) a
