@@ -56,6 +56,8 @@ target/draft/libblocks.a: crates.txt tools/draft-archive $(shell find crates -na
 test: $(if $(shell command -v cargo),$(DRAFT))
 	@if command -v python3 >/dev/null; then tools/reading; fi
 	@if command -v cc >/dev/null; then cc -std=c99 -Wall -Wextra -pedantic -Werror -fsyntax-only include/hemavolups.h; fi
+	@if command -v cargo >/dev/null; then cd bindings/rust && HEMAVOLUPS_ARCHIVE='$(abspath $(DRAFT))' cargo test --offline -q; \
+	    else echo "The Rust bindings were not tried: there is no cargo."; fi
 	@why=$$($(lacking)); if [ -n "$$why" ]; then echo "$$why"; else ($(call ORACLE,$(DRAFT)) run --offline) \
 	    && ($(call ORACLE,$(DRAFT)) test --offline --release -q) && ($(call ORACLE,$(DRAFT)) run --offline --release -- compare 300) \
 	    && ($(call ORACLE,$(DRAFT)) run --offline --release -- guard 100); fi
