@@ -1,53 +1,27 @@
 -- An accepted order: its window is fetched and picked, its kind's rows run on it, and their picture is the order's on the endless plane. Assumes nothing.
 use mathlib.Core.Path.{_≡_, refl, sym, ap, _∙_}
-use mathlib.Core.Bool.{Bool, true, false}
+use mathlib.Core.Bool.{Bool}
 use mathlib.Core.List.{List}
-use Prim.Native.Nat.{ℕ, zero, suc, _≤_}
+use Prim.Native.Nat.{ℕ, _≤_}
 use native.Mathlib.Omega.{arith}
 use lib.IntN.{ℤ, pos}
 use lib.ListN.{length}
 use Rattle.rows.specs.Depth.{bitsOf, biasOf, maxOf}
 use Rattle.rows.specs.Places.{fill}
-use Rattle.rows.proofs.Laws.Fill.{length-fill, fill-same}
+use Rattle.rows.proofs.Laws.Fill.{fill-same}
 use Rattle.blocks.specs.Refuse.{lowest, orSame}
 use Rattle.blocks.specs.Ready.{Rows, Windowed, PartIn}
-use Rattle.blocks.specs.Window.{planeW, planeH, windowSide, windowStart, windowTests, ownPlane, windowAt, noPart, windowOf, fetched, scratchOf, partOf, aroundPart}
+use Rattle.blocks.specs.Window.{windowTests, windowOf, scratchOf, partOf, aroundPart}
 use Rattle.blocks.specs.Order.{kindNumber, putRule, prepRule, putPicture, prepPicture, planeOf, orderTests, orderNumber, orderScratch, orderDst, orderTmp, OrderPutAnswer, OrderPrepAnswer}
 use Rattle.blocks.proofs.Laws.Refuse.{refused}
-use Rattle.blocks.proofs.Laws.WindowReady.{window-ready, window-number}
-use Rattle.blocks.proofs.Laws.Window.{planes-met, planes-fit, Picked, picked}
+use Rattle.blocks.proofs.Laws.WindowReady.{window-number}
+use Rattle.blocks.proofs.Laws.Window.{picked-in, Picked, picked}
 use Rattle.blocks.proofs.Laws.Local.{putRule-local, prepRule-local}
 use Rattle.blocks.proofs.Laws.OrderReady.{order-window, order-dst, order-windowed}
 use Rattle.blocks.specs.declared.window.Frame.{Frame}
 use Rattle.blocks.specs.declared.window.Part.{Part}
 use Rattle.blocks.specs.declared.order.Order.{Order}
 use Rattle.blocks.specs.declared.order.Kind.{Kind}
-
--- ---- the part that a window's answer names is in its buffer
-scratch-length : (n : ℕ) (f : Frame) (planeNo : ℕ) (plane : List ℕ) (ps kind w h : ℕ) (x y : ℤ) (mode : ℕ) (scratch : List ℕ)
-    → length (scratchOf n f planeNo plane ps kind w h x y mode scratch) ≡ length scratch
-unfolding scratchOf orSame fetched
-scratch-length n f planeNo plane ps kind w h x y mode scratch = go n (ownPlane f planeNo kind w h x y mode) where
-  go : (n : ℕ) (b : Bool)
-      → length (orSame n (fetched b plane ps (windowSide kind w) (windowSide kind h) (planeW f planeNo) (planeH f planeNo) (windowStart kind x) (windowStart kind y) scratch) scratch)
-      ≡ length scratch
-  go zero true = refl
-  go zero false = length-fill scratch (windowSide kind w) (windowSide kind w) (windowSide kind h) _
-  go (suc n) b = refl
-
-window-in : (f : Frame) (planeNo pl ps kind w h : ℕ) (x y : ℤ) (mode sl : ℕ) → PartIn (windowOf f planeNo pl ps kind w h x y mode sl) pl sl
-unfolding windowOf orSame windowAt
-window-in f planeNo pl ps kind w h x y mode sl = go (lowest (windowTests f planeNo pl ps kind w h x y mode sl)) refl (ownPlane f planeNo kind w h x y mode) refl where
-  go : (n : ℕ) → lowest (windowTests f planeNo pl ps kind w h x y mode sl) ≡ n → (b : Bool) → ownPlane f planeNo kind w h x y mode ≡ b
-      → PartIn (orSame n (windowAt b ps (windowSide kind w) (windowSide kind h) (windowStart kind x) (windowStart kind y)) (noPart n)) pl sl
-  go zero e true p =
-      let r = window-ready f planeNo pl ps kind w h x y mode sl e in
-      let q = planes-met mode _ _ _ _ (windowStart kind x) (windowStart kind y) p in
-      record { plane = λ z. planes-fit (windowStart kind x) (windowStart kind y) (r .0) (q .0) (q .1); scratch = λ z. absurd (omega arith) }
-  go zero e false p =
-      let r = window-ready f planeNo pl ps kind w h x y mode sl e in
-      record { plane = λ z. absurd (omega arith); scratch = λ z. omega (arith, r .0 .dst .fits) }
-  go (suc n) e b p = record { plane = λ z. absurd (omega arith); scratch = λ z. absurd (omega arith) }
 
 -- what a kind's rows make of a source
 abbrev putOn : (depth : ℕ) (subpel ext warp : List ℤ) → Order → (src : List ℕ) (s : ℕ) → (i j : ℕ) → ℕ
@@ -58,7 +32,7 @@ abbrev prepOn : (depth : ℕ) (subpel ext warp : List ℤ) → Order → (src : 
 prepOn depth subpel ext warp o src s i j =
     prepRule (bitsOf depth) (biasOf depth) subpel ext warp (o .kind) (o .w) (o .h) i j (aroundPart (kindNumber (o .kind)) src s i j)
 
--- is the order's block on the plane g that the source shows
+-- it is the order's block on g, where the source shows the plane g
 module _ (depth : ℕ) (subpel ext warp : List ℤ) (o : Order) {src : List ℕ} {s : ℕ} {g : ℤ → ℤ → ℕ} (p : Picked (kindNumber (o .kind)) (o .w) (o .h) g (o .x) (o .y) src s)
     (ds : ℕ) (some : 1 ≤ ds) where
   put-shown : (dst : List ℕ) → fill dst ds (o .w) (o .h) (putOn depth subpel ext warp o src s) ≡ fill dst ds (o .w) (o .h) (putPicture depth subpel ext warp o g)
@@ -85,9 +59,7 @@ module _ {deep named : Bool} {f : Frame} {planeNo : ℕ} {plane : List ℕ} {ps 
 
   -- the part is in its buffer
   pub order-part : PartIn p (length plane) (length filled)
-  order-part =
-      rw (q .full, scratch-length (p .number) f planeNo plane ps (kindNumber (o .kind)) (o .w) (o .h) (o .x) (o .y) 0 scratch, q .answer)
-      (window-in f planeNo (length plane) ps (kindNumber (o .kind)) (o .w) (o .h) (o .x) (o .y) 0 (length scratch))
+  order-part = picked-in f planeNo plane ps (kindNumber (o .kind)) (o .w) (o .h) (o .x) (o .y) 0 scratch p filled (q .answer) (q .full)
 
   -- scratch at the end
   kept : filled ≡ orderScratch 0 f planeNo plane ps o scratch
