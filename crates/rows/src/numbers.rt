@@ -8,13 +8,9 @@ ghost use Rattle.rows.specs.Numbers.{clip, low16, low32, minus16, minus3
 pub fn clip8(v: i32) -> u8
     ensures { λ r. ⌜ r ≡ clip 255 v ⌝ }
 {
-    if v < 0 {
-        0
-    } else if v > 255 {
-        255
-    } else {
-        v as u8
-    }
+    let low = if v > 255 { 255 } else { v };
+    let kept = if low < 0 { 0 } else { low };
+    kept as u8
 }
 
 // The number clamped to 0..max.
