@@ -9,11 +9,8 @@ ghost use Rattle.rows.specs.Numbers.{px, apart, sum};
 fn abs_diff(a: u16, b: u16) -> u32
     ensures { λ r. ⌜ (r ≡ apart (pos a) (pos b)) × (r < 65536) ⌝ }
 {
-    if a < b {
-        (b - a) as u32
-    } else {
-        (a - b) as u32
-    }
+    let d = a as i32 - b as i32;
+    if d < 0 { (0 - d) as u32 } else { d as u32 }
 }
 
 // Of w pixels from place o of p on and from place q of r on.

@@ -158,6 +158,10 @@ pub above : (v : ℤ) → ltZ v (pos 0) ≡ false → v ≡ pos (natAbs v)
 above (pos n) e = refl
 above (negsuc n) e = absurd (subst T e tt)
 
+pub turned : (v : ℤ) → ltZ v (pos 0) ≡ true → pos 0 -ℤ v ≡ pos (natAbs v)
+turned (pos n) e = absurd (omega (arith, ltb-true n 0 e))
+turned (negsuc n) e = eq-of _ _ (omega (arith, sub-parts (pos 0) (negsuc n)))
+
 pub mag-abs : (z : ℤ) → mag z ≤ natAbs z
 mag-abs (pos n) = omega arith
 mag-abs (negsuc n) = omega arith

@@ -1,53 +1,41 @@
--- By the parts of the difference above and below 0.
 use native.Mathlib.Omega.{arith}
+use mathlib.Core.Path.{_≡_}
 use Prim.Native.Nat.{_<_}
 use lib.IntN.{ℤ, pos, natAbs, _-ℤ_}
 use mir.Syntax.{w32}
 use mir.Val.{SFits}
-use Rattle.rows.proofs.Laws.Signed.{signed, reading, back, back16, mag-sub, mag-up, mag-dn, sub-parts, one-part, abs-parts, abs-mag, lt-yes, lt-no}
+use Rattle.rows.proofs.Laws.Signed.{reading, back, back16, mag-up, mag-dn, abs-parts, fit-abs, sub-parts, one-part, turned, above}
 use Rattle.rows.proofs.mask.abs_diff16.Statement.{statement}
 use Rattle.rows.proofs.mask.abs_diff16.Tie as tie
 
-abbrev D : tie.Start → ℤ
-D s = s .args .a -ℤ s .args .b
+module _ (s : tie.Start) where
+  abbrev a : ℤ
+  a = s .args .a
 
-diff : (s : tie.Start) → SFits w32 (D s)
-diff s = omega (arith, mag-sub (s .args .a) (s .args .b))
+  abbrev b : ℤ
+  b = s .args .b
 
-minus : (s : tie.Start) → SFits w32 (pos 0 -ℤ D s)
-minus s = omega (arith, mag-sub (s .args .a) (s .args .b), mag-sub (pos 0) (D s))
+  abbrev D : ℤ
+  D = a -ℤ b
 
-within : (s : tie.Start) → natAbs (D s) < 65536
-within s =
-    let a = s .args .a in let b = s .args .b in
-    omega (arith, abs-parts (D s), one-part (D s), sub-parts a b, mag-up a, mag-dn a, mag-up b, mag-dn b)
+  within : natAbs D < 65536
+  within = omega (arith, abs-parts D, one-part D, sub-parts a b, mag-up a, mag-dn a, mag-up b, mag-dn b)
 
-sub-result : tie.Need-sub-result
-sub-result c = let s = c .before in simp (back16 (s .fits .a), back16 (s .fits .b), back (diff s)) (minus s)
+  fits : SFits w32 D
+  fits = fit-abs w32 D (omega (arith, within))
 
-cast-result : tie.Need-cast-result
-cast-result c =
-    let s = c .before in
-    let t = simp (back16 (s .fits .a), back16 (s .fits .b), back (diff s)) at (c .if1 .taken) in
-    simp (back16 (s .fits .a), back16 (s .fits .b), back (diff s), back (minus s))
-    (omega (signed, lt-yes (D s) (pos 0) t, sub-parts (pos 0) (D s), one-part (D s), abs-parts (pos 0 -ℤ D s), mag-dn (D s), diff s))
+  size : SFits w32 (pos (natAbs D))
+  size = omega (arith, within)
 
-cast-result-2 : tie.Need-cast-result-2
-cast-result-2 c =
-    let s = c .before in
-    let t = simp (back16 (s .fits .a), back16 (s .fits .b), back (diff s)) at (c .if1 .left) in
-    simp (back16 (s .fits .a), back16 (s .fits .b), back (diff s)) (omega (signed, lt-no (D s) (pos 0) t, one-part (D s), abs-mag (D s), diff s))
+-- where the difference is below 0, its negation is its size; else it is its size itself
+under : (c : tie.Then1) → pos 0 -ℤ D (c .before) ≡ pos (natAbs (D (c .before)))
+under c = let s = c .before in turned (D s) (simp (back16 (s .fits .a), back16 (s .fits .b), back (fits s)) at (c .if1 .taken))
+
+over : (c : tie.Else1) → D (c .before) ≡ pos (natAbs (D (c .before)))
+over c = let s = c .before in above (D s) (simp (back16 (s .fits .a), back16 (s .fits .b), back (fits s)) at (c .if1 .left))
 
 returns : tie.Need-returns
-returns c =
-    let s = c .before in
-    simp (back16 (s .fits .a), back16 (s .fits .b), back (diff s), back (minus s))
-    (omega (arith, sub-parts (pos 0) (D s), one-part (pos 0 -ℤ D s), one-part (D s), abs-parts (pos 0 -ℤ D s), abs-parts (D s), within s))
-
-returns-2 : tie.Need-returns-2
-returns-2 c =
-    let s = c .before in
-    simp (back16 (s .fits .a), back16 (s .fits .b), back (diff s)) (omega (arith, within s))
+returns c = let s = c .before in simp (back16 (s .fits .a), back16 (s .fits .b), back (fits s), under c, back (size s)) (omega (arith, within s))
 
 pub abs-diff16-spec : {M : Type 1} → statement M
 abs-diff16-spec =
@@ -55,9 +43,9 @@ abs-diff16-spec =
     (tie.spec
     (λ c. search reading)  -- cast-d
     (λ c. search reading)  -- cast-d-2
-    (λ c. simp (back16 (c .fits .a), back16 (c .fits .b)) (diff c))  -- sub-d
-    sub-result
-    cast-result
-    cast-result-2
+    (λ c. simp (back16 (c .fits .a), back16 (c .fits .b)) (fits c))  -- sub-d
+    (λ c. let s = c .before in simp (back16 (s .fits .a), back16 (s .fits .b), back (fits s), under c) (size s))  -- sub-result
+    (λ c. let s = c .before in simp (back16 (s .fits .a), back16 (s .fits .b), back (fits s), under c, back (size s)) (omega (arith, within s)))  -- cast-result
+    (λ c. let s = c .before in simp (back16 (s .fits .a), back16 (s .fits .b), back (fits s)) (rw (over c) (omega (arith, within s))))  -- cast-result-2
     returns
-    returns-2)
+    (λ c. let s = c .before in simp (back16 (s .fits .a), back16 (s .fits .b), back (fits s)) (omega (arith, within s))))  -- returns-2
