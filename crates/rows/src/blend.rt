@@ -6,6 +6,7 @@ ghost use lib.ListN.{length, getD};
 ghost use lib.Signed.{shrZ};
 ghost use Rattle.rows.specs.Places.{rowOf};
 ghost use Rattle.rows.specs.Combine.{blend, morph, AtMost};
+use crate::numbers::clip8;
 use crate::numbers::clip16;
 use crate::numbers::to_byte;
 
@@ -69,7 +70,7 @@ fn morph_px8(alpha: i32, beta: i32, d: u8) -> u8
     requires { ⌜ (natAbs alpha ≤ 2 ^ 14) × (natAbs beta ≤ 2 ^ 22) ⌝ }
     ensures { λ r. ⌜ r ≡ morph 255 alpha beta d ⌝ }
 {
-    to_byte(morph_px(alpha, beta, d as u16, 255))
+    clip8(scaled(alpha, beta, d as i32))
 }
 
 pub fn morph_row8(dst: &mut [u8], alpha: i32, beta: i32)

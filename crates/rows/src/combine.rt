@@ -7,8 +7,8 @@ ghost use lib.Signed.{mag, shrZ};
 ghost use Rattle.rows.specs.Numbers.{at};
 ghost use Rattle.rows.specs.Places.{rowOf};
 ghost use Rattle.rows.specs.Combine.{avg, weighted, masked, both};
+use crate::numbers::clip8;
 use crate::numbers::clip16;
-use crate::numbers::to_byte;
 
 // (k a + (t - k) b + r) >> n
 fn mix(a: i16, b: i16, k: i32, t: i32, r: u32, n: u32) -> i32
@@ -56,20 +56,20 @@ pub fn mask_px(a: i16, b: i16, m: u8, bits: u32, bias: u32, max: u16) -> u16
 fn avg_px8(a: i16, b: i16) -> u8
     ensures { λ r. ⌜ r ≡ avg 255 4 0 a b ⌝ }
 {
-    to_byte(avg_px(a, b, 4, 0, 255))
+    clip8(mix(a, b, 1, 2, rounding(1, 4, 0), 5))
 }
 
 fn w_avg_px8(a: i16, b: i16, weight: i32) -> u8
     requires { ⌜ mag weight < 33 ⌝ }
     ensures { λ r. ⌜ r ≡ weighted 255 4 0 weight a b ⌝ }
 {
-    to_byte(w_avg_px(a, b, weight, 4, 0, 255))
+    clip8(mix(a, b, weight, 16, rounding(8, 4, 0), 8))
 }
 
 fn mask_px8(a: i16, b: i16, m: u8) -> u8
     ensures { λ r. ⌜ r ≡ masked 255 4 0 m a b ⌝ }
 {
-    to_byte(mask_px(a, b, m, 4, 0, 255))
+    clip8(mix(a, b, m as i32, 64, rounding(32, 4, 0), 10))
 }
 
 // The rows read the intermediates from place q on.

@@ -1,15 +1,27 @@
-use Rattle.rows.proofs.Laws.Pixel.{morph-lt}
-use Rattle.rows.proofs.Laws.Signed.{back}
+use borrow.Author.Needs.{needs}
+use native.Mathlib.Omega.{arith}
+use mir.Syntax.{w32}
+use mir.Val.{SFits}
+use Rattle.rows.specs.Combine.{morph}
+use Rattle.rows.proofs.Laws.Signed.{back, backn}
 use Rattle.rows.proofs.blend.morph_px8.Statement.{statement}
 use Rattle.rows.proofs.blend.morph_px8.Tie as tie
 
+scaled-requires : tie.Need-scaled-requires
+scaled-requires c κs = simp (back (c .fits .alpha), back (c .fits .beta), backn w32 (c .args .d) (omega arith)) (omega arith)
+
 returns : tie.Need-returns
-returns c = let s = c .before .before in rw (c .to-byte .ensures, c .before .morph-px .ensures, back (s .fits .alpha), back (s .fits .beta))
+unfolding morph
+returns c =
+    let s = c .before .before in
+    let f : SFits w32 (c .before .scaled .result) = omega arith in
+    rw (c .clip8 .ensures, back f, c .before .scaled .ensures, back (s .fits .alpha), back (s .fits .beta), backn w32 (s .args .d) (omega arith))
 
 pub morph-px8-spec : {M : Type 1} → statement M
 morph-px8-spec =
     tie.close
     (tie.spec
-    (λ c κs. simp (back (c .fits .alpha), back (c .fits .beta)) (c .pre))  -- morph-px-requires
-    (λ c κs. rw (c .morph-px .ensures) (morph-lt 255 _ _ _))  -- to-byte-requires
+    (λ c. search needs)  -- cast-scaled
+    scaled-requires
+    (λ c κs. search needs)  -- clip8-requires
     returns)

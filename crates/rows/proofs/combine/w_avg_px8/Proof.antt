@@ -1,16 +1,25 @@
+use borrow.Author.Needs.{needs}
 use native.Mathlib.Omega.{arith}
-use Rattle.rows.proofs.Laws.Pixel.{weighted-lt}
+use mir.Syntax.{w32}
+use mir.Val.{SFits}
+use Rattle.rows.specs.Combine.{weighted}
 use Rattle.rows.proofs.Laws.Signed.{back, rd}
 use Rattle.rows.proofs.combine.w_avg_px8.Statement.{statement}
 use Rattle.rows.proofs.combine.w_avg_px8.Tie as tie
 
 returns : tie.Need-returns
-returns c = let s = c .before .before in rw (c .to-byte .ensures, c .before .w-avg-px .ensures, back (s .fits .a), back (s .fits .b), back (s .fits .weight))
+unfolding weighted
+returns c =
+    let s = c .before .before .before in
+    let sum = c .before .mix in
+    let f : SFits w32 (sum .result) = omega arith in
+    rw (c .clip8 .ensures, back f, sum .ensures, back (s .fits .a), back (s .fits .b), back (s .fits .weight), c .before .before .rounding .ensures .0)
 
 pub w-avg-px8-spec : {M : Type 1} → statement M
 w-avg-px8-spec =
     tie.close
     (tie.spec
-    (λ c κs. omega (arith, rd (c .fits .weight)))  -- w-avg-px-requires
-    (λ c κs. rw (c .w-avg-px .ensures) (weighted-lt 255 4 0 _ _ _))  -- to-byte-requires
+    (λ c κs. search needs)  -- rounding-requires
+    (λ c κs. omega (arith, rd (c .before .fits .weight)))  -- mix-requires
+    (λ c κs. search needs)  -- clip8-requires
     returns)
