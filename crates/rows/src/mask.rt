@@ -16,13 +16,15 @@ pub fn abs_diff16(a: i16, b: i16) -> u32
     if d < 0 { (0 - d) as u32 } else { d as u32 }
 }
 
-// min(38 + ((|a-b| + 2^(T-5)) >> T), 64) with T = depth + B - 4
+// min(38 + ((|a-b| + 2^(T-5)) >> T), 64) with T = depth + B - 4. The shift is done in two steps, of which the first makes 2^(T-5) a 1:
+// so sixteen bits hold all numbers.
 pub fn weight_px(a: i16, b: i16, depth: u32, bits: u32) -> u8
     requires { ⌜ (8 ≤ depth) × (depth ≤ 12) × (2 ≤ bits) × (bits ≤ 4) ⌝ }
     ensures { λ r. ⌜ (r ≡ weightOf depth bits a b) × (r ≤ 64) ⌝ }
 {
     let t = depth + bits - 4;
-    let m = 38 + ((abs_diff16(a, b) + (1u32 << (t - 5))) >> t);
+    let d = abs_diff16(a, b) as u16;
+    let m = 38 + (((d >> (t - 5)) + 1) >> 5);
     if m < 64 { m as u8 } else { 64 }
 }
 
