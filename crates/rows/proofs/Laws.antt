@@ -16,6 +16,7 @@ pub mod Combine
 pub mod Pixel
 pub mod Edge
 pub mod Filter
+pub mod Near
 pub mod Bilinear
 pub mod Warp
 pub mod Worked

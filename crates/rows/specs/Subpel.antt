@@ -1,10 +1,10 @@
 -- 8-tap: the filter of an axis, and the pixel as one rule on the pixels around a place. Assumes nothing.
-use Prim.Native.Nat.{ℕ, zero, suc, _+_, _-_, _*_, _%_}
+use Prim.Native.Nat.{ℕ, zero, suc, _+_, _-_, _*_, _%_, _≤_}
 use lib.Dec.{ltb}
-use lib.IntN.{ℤ, pos, negsuc, _+ℤ_, _*ℤ_}
+use lib.IntN.{ℤ, pos, negsuc, natAbs, _+ℤ_, _*ℤ_}
 use mathlib.Core.Bool.{cond}
 use mathlib.Core.List.{List}
-use Rattle.rows.specs.Numbers.{at, clip, half, low16, minus16, sumZ, _>>_}
+use Rattle.rows.specs.Numbers.{at, clip, half, low16, minus16, sum, sumZ, _>>_}
 use Rattle.rows.specs.Places.{rowOf}
 use Rattle.rows.specs.Copy.{put, prep}
 
@@ -35,6 +35,10 @@ filterBits (negsuc t) = 7
 -- "Each filter sum is S": the taps of f times the eight numbers x 0 to x 7, which "stand at -3 to +4"
 unfoldable pub S : List ℤ → (ℕ → ℤ) → ℤ
 S f x = sumZ 8 (λ t. at f t *ℤ x t)
+
+-- taps whose sizes sum to 128 at most: by them the sum of eight bytes is of sixteen bits
+abbrev pub Near : List ℤ → Type 0
+Near f = sum 8 (λ t. natAbs (at f t)) ≤ 128
 
 -- (S + r) >> n
 unfoldable pub tapped : List ℤ → (r n : ℕ) → (ℕ → ℤ) → ℤ

@@ -1,12 +1,14 @@
 // 8-tap rows. A filter's taps stand at place o, o + step, .. o + 7 step: step is 1 along a row, a stride down a column.
 ghost use mathlib.Core.Path.{_≡_};
+ghost use mathlib.Core.Bool.{true};
+ghost use lib.Dec.{leb};
 ghost use Prim.Native.Nat.{_+_, _*_, _^_, _<_, _≤_};
 ghost use lib.IntN.{pos, natAbs, _+ℤ_, _*ℤ_};
 ghost use lib.ListN.{length};
 ghost use lib.Signed.{mag, shrZ};
-ghost use Rattle.rows.specs.Numbers.{at, px, clip, low16, minus16};
+ghost use Rattle.rows.specs.Numbers.{at, px, clip, low16, minus16, sum};
 ghost use Rattle.rows.specs.Places.{rowOf};
-ghost use Rattle.rows.specs.Subpel.{filter, S, tapped};
+ghost use Rattle.rows.specs.Subpel.{filter, S, tapped, Near};
 use crate::numbers::clip8;
 use crate::numbers::clip16;
 use crate::numbers::keep16;
@@ -111,11 +113,100 @@ pub fn kept(s: i32, r: u32, n: u32, bias: i16) -> i16
     wrapping_sub16(keep16(rounded(s, r, n)), bias)
 }
 
-fn tap_px8(src: &[u8], o: usize, step: usize, f: &[i8; 8], r: u32, n: u32) -> u8
-    requires { ⌜ (o + 7 * step < length (now src)) × (r < 2 ^ 20) × (n < 32) ⌝ }
+// |v|
+fn tap_size(v: i8) -> u32
+    ensures { λ r. ⌜ (r ≡ natAbs v) × (r ≤ 128) ⌝ }
+{
+    if v < 0 { (-1 - v) as u32 + 1 } else { v as u32 }
+}
+
+// Near taps: by them a sum of bytes, and each part of it, is of sixteen bits.
+fn is_near(f: &[i8; 8]) -> bool
+    ensures { λ b. ⌜ b ≡ leb (sum 8 (λ t. natAbs (at (now (f .entry)) t))) 128 ⌝ }
+{
+    let mut s: u32 = 0;
+    let mut j = 0;
+    while j < 8 {
+        s += tap_size(f[j]);
+        j += 1;
+    }
+    s <= 128
+}
+
+// Whether a row of w numbers goes the near way: one below least isn't worth the test of its taps.
+fn goes_near(f: &[i8; 8], w: usize, least: usize) -> bool
+    ensures { λ b. ⌜ (b ≡ true → Near (now (f .entry))) ⌝ }
+{
+    if w < least { false } else { is_near(f) }
+}
+
+// The same for a row of bytes, whose sums are also rounded in sixteen bits.
+fn goes_near8(f: &[i8; 8], w: usize, least: usize, r: u32, n: u32) -> bool
+    ensures { λ b. ⌜ (b ≡ true → Near (now (f .entry)) × (r ≤ 127) × (n ≤ 15)) ⌝ }
+{
+    if r > 127 {
+        false
+    } else if n > 15 {
+        false
+    } else {
+        goes_near(f, w, least)
+    }
+}
+
+// acc + f x, in sixteen bits
+fn near_tap(acc: i16, f: i8, x: i16) -> i16
+    requires { ⌜ (natAbs acc + natAbs f * 255 ≤ 32640) × (natAbs x ≤ 255) ⌝ }
+    ensures { λ r. ⌜ (r ≡ acc +ℤ f *ℤ x) × (natAbs (f *ℤ x) ≤ natAbs f * 255) ⌝ }
+{
+    acc + f as i16 * x
+}
+
+fn near_tap_u8(acc: i16, f: i8, x: u8) -> i16
+    requires { ⌜ natAbs acc + natAbs f * 255 ≤ 32640 ⌝ }
+    ensures { λ r. ⌜ (r ≡ acc +ℤ f *ℤ pos x) × (natAbs (f *ℤ pos x) ≤ natAbs f * 255) ⌝ }
+{
+    near_tap(acc, f, x as i16)
+}
+
+// The filter sum S by near taps.
+fn near_u8(src: &[u8], o: usize, step: usize, f: &[i8; 8]) -> i16
+    requires { ⌜ (o + 7 * step < length (now src)) × Near (now f) ⌝ }
+    ensures { λ r. ⌜ (r ≡ S (now (f .entry)) (λ t. px (now (src .entry)) (o + t * step))) × (natAbs r ≤ 32640) ⌝ }
+{
+    let mut s: i16 = 0;
+    let mut j = 0;
+    while j < 8 {
+        s = near_tap_u8(s, f[j], src[o + j * step]);
+        j += 1;
+    }
+    s
+}
+
+// (s + r) >> n, in sixteen bits: so the compiler doesn't widen the sum.
+fn near_rounded(s: i16, r: u32, n: u32) -> i16
+    requires { ⌜ (natAbs s ≤ 32640) × (r ≤ 127) × (n ≤ 15) ⌝ }
+    ensures { λ v. ⌜ v ≡ shrZ (s +ℤ pos r) (2 ^ n) ⌝ }
+{
+    (s + r as i16) >> n
+}
+
+// (S + r) >> n of bytes, the near way if near says so.
+fn rounded_u8(src: &[u8], o: usize, step: usize, f: &[i8; 8], near: bool, r: u32, n: u32) -> i32
+    requires { ⌜ (o + 7 * step < length (now src)) × (r < 2 ^ 20) × (n < 32) × (near ≡ true → Near (now f) × (r ≤ 127) × (n ≤ 15)) ⌝ }
+    ensures { λ v. ⌜ v ≡ tapped (now (f .entry)) r n (λ t. px (now (src .entry)) (o + t * step)) ⌝ }
+{
+    if near {
+        near_rounded(near_u8(src, o, step, f), r, n) as i32
+    } else {
+        rounded(taps_u8(src, o, step, f), r, n)
+    }
+}
+
+fn tap_px8(src: &[u8], o: usize, step: usize, f: &[i8; 8], near: bool, r: u32, n: u32) -> u8
+    requires { ⌜ (o + 7 * step < length (now src)) × (r < 2 ^ 20) × (n < 32) × (near ≡ true → Near (now f) × (r ≤ 127) × (n ≤ 15)) ⌝ }
     ensures { λ v. ⌜ v ≡ clip 255 (tapped (now (f .entry)) r n (λ t. px (now (src .entry)) (o + t * step))) ⌝ }
 {
-    clip8(rounded(taps_u8(src, o, step, f), r, n))
+    clip8(rounded_u8(src, o, step, f, near, r, n))
 }
 
 fn tap_px16(src: &[u16], o: usize, step: usize, f: &[i8; 8], r: u32, n: u32, max: u16) -> u16
@@ -125,11 +216,20 @@ fn tap_px16(src: &[u16], o: usize, step: usize, f: &[i8; 8], r: u32, n: u32, max
     clip16(rounded(taps_u16(src, o, step, f), r, n), max)
 }
 
-fn tap_mid_px8(src: &[u8], o: usize, step: usize, f: &[i8; 8], r: u32, n: u32, bias: i16) -> i16
-    requires { ⌜ (o + 7 * step < length (now src)) × (r < 2 ^ 20) × (n < 32) ⌝ }
+fn tap_mid_px8(
+    src: &[u8],
+    o: usize,
+    step: usize,
+    f: &[i8; 8],
+    near: bool,
+    r: u32,
+    n: u32,
+    bias: i16,
+) -> i16
+    requires { ⌜ (o + 7 * step < length (now src)) × (r < 2 ^ 20) × (n < 32) × (near ≡ true → Near (now f) × (r ≤ 127) × (n ≤ 15)) ⌝ }
     ensures { λ v. ⌜ v ≡ minus16 (low16 (tapped (now (f .entry)) r n (λ t. px (now (src .entry)) (o + t * step)))) bias ⌝ }
 {
-    kept(taps_u8(src, o, step, f), r, n, bias)
+    wrapping_sub16(keep16(rounded_u8(src, o, step, f, near, r, n)), bias)
 }
 
 fn tap_mid_px16(src: &[u16], o: usize, step: usize, f: &[i8; 8], r: u32, n: u32, bias: i16) -> i16
@@ -160,18 +260,40 @@ fn mid_prep_px(mid: &[i16], o: usize, step: usize, f: &[i8; 8], r: u32, n: u32, 
     kept(taps_i16(mid, o, step, f), r, n, bias)
 }
 
-// Pixels from pixels: put, one axis.
-pub fn tap_row8(dst: &mut [u8], src: &[u8], o: usize, step: usize, f: &[i8; 8], r: u32, n: u32)
-    requires { ⌜ (o + length (now dst) + 7 * step ≤ length (now src)) × (r < 2 ^ 20) × (n < 32) ⌝ }
+// Rows, the near way or the far way: near is passed as a constant, so the compiler makes a loop of each.
+fn tap_row8_by(
+    dst: &mut [u8],
+    src: &[u8],
+    o: usize,
+    step: usize,
+    f: &[i8; 8],
+    near: bool,
+    r: u32,
+    n: u32,
+)
+    requires { ⌜ (o + length (now dst) + 7 * step ≤ length (now src)) × (r < 2 ^ 20) × (n < 32) × (near ≡ true → Near (now f) × (r ≤ 127) × (n ≤ 15)) ⌝ }
     ensures { λ _. ⌜ now (dst .exit) ≡ rowOf (length (now (dst .entry)))
         (λ i. clip 255 (tapped (now (f .entry)) r n (λ t. px (now (src .entry)) (o + i + t * step)))) ⌝ }
 {
     let w = dst.len();
     let mut i = 0;
     while i < w {
-        let v = tap_px8(src, o + i, step, f, r, n);
+        let v = tap_px8(src, o + i, step, f, near, r, n);
         dst[i] = v;
         i += 1;
+    }
+}
+
+// Pixels from pixels: put, one axis.
+pub fn tap_row8(dst: &mut [u8], src: &[u8], o: usize, step: usize, f: &[i8; 8], r: u32, n: u32)
+    requires { ⌜ (o + length (now dst) + 7 * step ≤ length (now src)) × (r < 2 ^ 20) × (n < 32) ⌝ }
+    ensures { λ _. ⌜ now (dst .exit) ≡ rowOf (length (now (dst .entry)))
+        (λ i. clip 255 (tapped (now (f .entry)) r n (λ t. px (now (src .entry)) (o + i + t * step)))) ⌝ }
+{
+    if goes_near8(f, dst.len(), 8, r, n) {
+        tap_row8_by(dst, src, o, step, f, true, r, n);
+    } else {
+        tap_row8_by(dst, src, o, step, f, false, r, n);
     }
 }
 
@@ -198,6 +320,30 @@ pub fn tap_row16(
     }
 }
 
+fn tap_mid_row8_by(
+    tmp: &mut [i16],
+    src: &[u8],
+    o: usize,
+    step: usize,
+    f: &[i8; 8],
+    near: bool,
+    r: u32,
+    n: u32,
+    bias: i16,
+)
+    requires { ⌜ (o + length (now tmp) + 7 * step ≤ length (now src)) × (r < 2 ^ 20) × (n < 32) × (near ≡ true → Near (now f) × (r ≤ 127) × (n ≤ 15)) ⌝ }
+    ensures { λ _. ⌜ now (tmp .exit) ≡ rowOf (length (now (tmp .entry)))
+        (λ i. minus16 (low16 (tapped (now (f .entry)) r n (λ t. px (now (src .entry)) (o + i + t * step)))) bias) ⌝ }
+{
+    let w = tmp.len();
+    let mut i = 0;
+    while i < w {
+        let v = tap_mid_px8(src, o + i, step, f, near, r, n, bias);
+        tmp[i] = v;
+        i += 1;
+    }
+}
+
 // Intermediates from pixels: prep, one axis, and with the bias 0 the first pass of two.
 pub fn tap_mid_row8(
     tmp: &mut [i16],
@@ -213,12 +359,10 @@ pub fn tap_mid_row8(
     ensures { λ _. ⌜ now (tmp .exit) ≡ rowOf (length (now (tmp .entry)))
         (λ i. minus16 (low16 (tapped (now (f .entry)) r n (λ t. px (now (src .entry)) (o + i + t * step)))) bias) ⌝ }
 {
-    let w = tmp.len();
-    let mut i = 0;
-    while i < w {
-        let v = tap_mid_px8(src, o + i, step, f, r, n, bias);
-        tmp[i] = v;
-        i += 1;
+    if goes_near8(f, tmp.len(), 16, r, n) {
+        tap_mid_row8_by(tmp, src, o, step, f, true, r, n, bias);
+    } else {
+        tap_mid_row8_by(tmp, src, o, step, f, false, r, n, bias);
     }
 }
 

@@ -2,22 +2,23 @@ use native.Mathlib.Omega.{arith}
 use mir.Syntax.{w16, w32}
 use mir.Val.{SFits}
 use borrow.Author.Needs.{needs}
-use Rattle.rows.specs.Subpel.{tapped}
 use Rattle.rows.proofs.Laws.Signed.{back}
 use Rattle.rows.proofs.subpel.tap_mid_px8.Statement.{statement}
 use Rattle.rows.proofs.subpel.tap_mid_px8.Tie as tie
 
 returns : tie.Need-returns
-unfolding tapped
 returns c =
-    let fv : SFits w16 (c .kept .result) = omega arith in
-    let ft : SFits w32 (c .before .taps-u8 .result) = omega arith in
-    rw (back fv, c .kept .ensures, back ft, c .before .taps-u8 .ensures .0, back (c .before .before .before .fits .bias))
+    let k = c .before in let r = k .before in
+    let fv : SFits w16 (c .wrapping-sub16 .result) = omega arith in
+    let fk : SFits w16 (k .keep16 .result) = omega arith in
+    let fr : SFits w32 (r .rounded-u8 .result) = omega arith in
+    rw (back fv, c .wrapping-sub16 .ensures, back fk, k .keep16 .ensures, back fr, r .rounded-u8 .ensures, back (r .before .before .fits .bias))
 
 pub tap-mid-px8-spec : {M : Type 1} → statement M
 tap-mid-px8-spec =
     tie.close
     (tie.spec
-    (λ c κs. search needs)  -- taps-u8-requires
-    (λ c κs. search needs)  -- kept-requires
+    (λ c κs. search needs)  -- rounded-u8-requires
+    (λ c κs. search needs)  -- keep16-requires
+    (λ c κs. search needs)  -- wrapping-sub16-requires
     returns)
