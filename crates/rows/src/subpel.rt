@@ -6,7 +6,7 @@ ghost use Prim.Native.Nat.{_+_, _*_, _^_, _<_, _≤_};
 ghost use lib.IntN.{pos, natAbs, _+ℤ_, _*ℤ_};
 ghost use lib.ListN.{length};
 ghost use lib.Signed.{mag, shrZ};
-ghost use Rattle.rows.specs.Numbers.{at, px, clip, low16, minus16, sum};
+ghost use Rattle.rows.specs.Numbers.{at, px, clip, low16, minus16, modZ, sum};
 ghost use Rattle.rows.specs.Places.{rowOf};
 ghost use Rattle.rows.specs.Subpel.{filter, S, tapped, Near};
 use crate::numbers::clip8;
@@ -168,6 +168,43 @@ fn near_tap_u8(acc: i16, f: i8, x: u8) -> i16
     near_tap(acc, f, x as i16)
 }
 
+// The same of the high byte of a wider number, and of its low one.
+fn near_high_u16(acc: i16, f: i8, x: u16) -> i16
+    requires { ⌜ natAbs acc + natAbs f * 255 ≤ 32640 ⌝ }
+    ensures { λ r. ⌜ (r ≡ acc +ℤ f *ℤ shrZ (pos x) 256) × (natAbs (f *ℤ shrZ (pos x) 256) ≤ natAbs f * 255) ⌝ }
+{
+    near_tap_u8(acc, f, (x / 256) as u8)
+}
+
+fn near_low_u16(acc: i16, f: i8, x: u16) -> i16
+    requires { ⌜ natAbs acc + natAbs f * 255 ≤ 32640 ⌝ }
+    ensures { λ r. ⌜ (r ≡ acc +ℤ f *ℤ pos (modZ (pos x) 256)) × (natAbs (f *ℤ pos (modZ (pos x) 256)) ≤ natAbs f * 255) ⌝ }
+{
+    near_tap_u8(acc, f, (x % 256) as u8)
+}
+
+fn near_high_i16(acc: i16, f: i8, x: i16) -> i16
+    requires { ⌜ natAbs acc + natAbs f * 255 ≤ 32640 ⌝ }
+    ensures { λ r. ⌜ (r ≡ acc +ℤ f *ℤ shrZ x 256) × (natAbs (f *ℤ shrZ x 256) ≤ natAbs f * 255) ⌝ }
+{
+    near_tap(acc, f, x >> 8)
+}
+
+fn near_low_i16(acc: i16, f: i8, x: i16) -> i16
+    requires { ⌜ natAbs acc + natAbs f * 255 ≤ 32640 ⌝ }
+    ensures { λ r. ⌜ (r ≡ acc +ℤ f *ℤ pos (modZ x 256)) × (natAbs (f *ℤ pos (modZ x 256)) ≤ natAbs f * 255) ⌝ }
+{
+    near_tap(acc, f, x - (x >> 8) * 256)
+}
+
+// A number from its high byte and its low one, or a sum from the sums of these.
+fn near_whole(high: i16, low: i16) -> i32
+    requires { ⌜ (natAbs high ≤ 32640) × (natAbs low ≤ 32640) ⌝ }
+    ensures { λ r. ⌜ (r ≡ high *ℤ pos 256 +ℤ low) × (mag r < 2 ^ 30) ⌝ }
+{
+    high as i32 * 256 + low as i32
+}
+
 // The filter sum S by near taps.
 fn near_u8(src: &[u8], o: usize, step: usize, f: &[i8; 8]) -> i16
     requires { ⌜ (o + 7 * step < length (now src)) × Near (now f) ⌝ }
@@ -180,6 +217,61 @@ fn near_u8(src: &[u8], o: usize, step: usize, f: &[i8; 8]) -> i16
         j += 1;
     }
     s
+}
+
+fn near_i16(src: &[i16], o: usize, step: usize, f: &[i8; 8]) -> i32
+    requires { ⌜ (o + 7 * step < length (now src)) × Near (now f) ⌝ }
+    ensures { λ r. ⌜ (r ≡ S (now (f .entry)) (λ t. at (now (src .entry)) (o + t * step))) × (mag r < 2 ^ 30) ⌝ }
+{
+    let mut high: i16 = 0;
+    let mut low: i16 = 0;
+    let mut j = 0;
+    while j < 8 {
+        let x = src[o + j * step];
+        high = near_high_i16(high, f[j], x);
+        low = near_low_i16(low, f[j], x);
+        j += 1;
+    }
+    near_whole(high, low)
+}
+
+fn near_u16(src: &[u16], o: usize, step: usize, f: &[i8; 8]) -> i32
+    requires { ⌜ (o + 7 * step < length (now src)) × Near (now f) ⌝ }
+    ensures { λ r. ⌜ (r ≡ S (now (f .entry)) (λ t. px (now (src .entry)) (o + t * step))) × (mag r < 2 ^ 30) ⌝ }
+{
+    let mut high: i16 = 0;
+    let mut low: i16 = 0;
+    let mut j = 0;
+    while j < 8 {
+        let x = src[o + j * step];
+        high = near_high_u16(high, f[j], x);
+        low = near_low_u16(low, f[j], x);
+        j += 1;
+    }
+    near_whole(high, low)
+}
+
+// S, the near way if near says so.
+fn sum_i16(src: &[i16], o: usize, step: usize, f: &[i8; 8], near: bool) -> i32
+    requires { ⌜ (o + 7 * step < length (now src)) × (near ≡ true → Near (now f)) ⌝ }
+    ensures { λ r. ⌜ (r ≡ S (now (f .entry)) (λ t. at (now (src .entry)) (o + t * step))) × (mag r < 2 ^ 30) ⌝ }
+{
+    if near {
+        near_i16(src, o, step, f)
+    } else {
+        taps_i16(src, o, step, f)
+    }
+}
+
+fn sum_u16(src: &[u16], o: usize, step: usize, f: &[i8; 8], near: bool) -> i32
+    requires { ⌜ (o + 7 * step < length (now src)) × (near ≡ true → Near (now f)) ⌝ }
+    ensures { λ r. ⌜ (r ≡ S (now (f .entry)) (λ t. px (now (src .entry)) (o + t * step))) × (mag r < 2 ^ 30) ⌝ }
+{
+    if near {
+        near_u16(src, o, step, f)
+    } else {
+        taps_u16(src, o, step, f)
+    }
 }
 
 // (s + r) >> n, in sixteen bits: so the compiler doesn't widen the sum.
@@ -209,11 +301,20 @@ fn tap_px8(src: &[u8], o: usize, step: usize, f: &[i8; 8], near: bool, r: u32, n
     clip8(rounded_u8(src, o, step, f, near, r, n))
 }
 
-fn tap_px16(src: &[u16], o: usize, step: usize, f: &[i8; 8], r: u32, n: u32, max: u16) -> u16
-    requires { ⌜ (o + 7 * step < length (now src)) × (r < 2 ^ 20) × (n < 32) ⌝ }
+fn tap_px16(
+    src: &[u16],
+    o: usize,
+    step: usize,
+    f: &[i8; 8],
+    near: bool,
+    r: u32,
+    n: u32,
+    max: u16,
+) -> u16
+    requires { ⌜ (o + 7 * step < length (now src)) × (r < 2 ^ 20) × (n < 32) × (near ≡ true → Near (now f)) ⌝ }
     ensures { λ v. ⌜ v ≡ clip max (tapped (now (f .entry)) r n (λ t. px (now (src .entry)) (o + t * step))) ⌝ }
 {
-    clip16(rounded(taps_u16(src, o, step, f), r, n), max)
+    clip16(rounded(sum_u16(src, o, step, f, near), r, n), max)
 }
 
 fn tap_mid_px8(
@@ -232,32 +333,59 @@ fn tap_mid_px8(
     wrapping_sub16(keep16(rounded_u8(src, o, step, f, near, r, n)), bias)
 }
 
-fn tap_mid_px16(src: &[u16], o: usize, step: usize, f: &[i8; 8], r: u32, n: u32, bias: i16) -> i16
-    requires { ⌜ (o + 7 * step < length (now src)) × (r < 2 ^ 20) × (n < 32) ⌝ }
+fn tap_mid_px16(
+    src: &[u16],
+    o: usize,
+    step: usize,
+    f: &[i8; 8],
+    near: bool,
+    r: u32,
+    n: u32,
+    bias: i16,
+) -> i16
+    requires { ⌜ (o + 7 * step < length (now src)) × (r < 2 ^ 20) × (n < 32) × (near ≡ true → Near (now f)) ⌝ }
     ensures { λ v. ⌜ v ≡ minus16 (low16 (tapped (now (f .entry)) r n (λ t. px (now (src .entry)) (o + t * step)))) bias ⌝ }
 {
-    kept(taps_u16(src, o, step, f), r, n, bias)
+    kept(sum_u16(src, o, step, f, near), r, n, bias)
 }
 
-fn mid_px8(mid: &[i16], o: usize, step: usize, f: &[i8; 8], r: u32, n: u32) -> u8
-    requires { ⌜ (o + 7 * step < length (now mid)) × (r < 2 ^ 20) × (n < 32) ⌝ }
+fn mid_px8(mid: &[i16], o: usize, step: usize, f: &[i8; 8], near: bool, r: u32, n: u32) -> u8
+    requires { ⌜ (o + 7 * step < length (now mid)) × (r < 2 ^ 20) × (n < 32) × (near ≡ true → Near (now f)) ⌝ }
     ensures { λ v. ⌜ v ≡ clip 255 (tapped (now (f .entry)) r n (λ t. at (now (mid .entry)) (o + t * step))) ⌝ }
 {
-    clip8(rounded(taps_i16(mid, o, step, f), r, n))
+    clip8(rounded(sum_i16(mid, o, step, f, near), r, n))
 }
 
-fn mid_px16(mid: &[i16], o: usize, step: usize, f: &[i8; 8], r: u32, n: u32, max: u16) -> u16
-    requires { ⌜ (o + 7 * step < length (now mid)) × (r < 2 ^ 20) × (n < 32) ⌝ }
+fn mid_px16(
+    mid: &[i16],
+    o: usize,
+    step: usize,
+    f: &[i8; 8],
+    near: bool,
+    r: u32,
+    n: u32,
+    max: u16,
+) -> u16
+    requires { ⌜ (o + 7 * step < length (now mid)) × (r < 2 ^ 20) × (n < 32) × (near ≡ true → Near (now f)) ⌝ }
     ensures { λ v. ⌜ v ≡ clip max (tapped (now (f .entry)) r n (λ t. at (now (mid .entry)) (o + t * step))) ⌝ }
 {
-    clip16(rounded(taps_i16(mid, o, step, f), r, n), max)
+    clip16(rounded(sum_i16(mid, o, step, f, near), r, n), max)
 }
 
-fn mid_prep_px(mid: &[i16], o: usize, step: usize, f: &[i8; 8], r: u32, n: u32, bias: i16) -> i16
-    requires { ⌜ (o + 7 * step < length (now mid)) × (r < 2 ^ 20) × (n < 32) ⌝ }
+fn mid_prep_px(
+    mid: &[i16],
+    o: usize,
+    step: usize,
+    f: &[i8; 8],
+    near: bool,
+    r: u32,
+    n: u32,
+    bias: i16,
+) -> i16
+    requires { ⌜ (o + 7 * step < length (now mid)) × (r < 2 ^ 20) × (n < 32) × (near ≡ true → Near (now f)) ⌝ }
     ensures { λ v. ⌜ v ≡ minus16 (low16 (tapped (now (f .entry)) r n (λ t. at (now (mid .entry)) (o + t * step)))) bias ⌝ }
 {
-    kept(taps_i16(mid, o, step, f), r, n, bias)
+    kept(sum_i16(mid, o, step, f, near), r, n, bias)
 }
 
 // Rows, the near way or the far way: near is passed as a constant, so the compiler makes a loop of each.
@@ -297,6 +425,30 @@ pub fn tap_row8(dst: &mut [u8], src: &[u8], o: usize, step: usize, f: &[i8; 8], 
     }
 }
 
+fn tap_row16_by(
+    dst: &mut [u16],
+    src: &[u16],
+    o: usize,
+    step: usize,
+    f: &[i8; 8],
+    near: bool,
+    r: u32,
+    n: u32,
+    max: u16,
+)
+    requires { ⌜ (o + length (now dst) + 7 * step ≤ length (now src)) × (r < 2 ^ 20) × (n < 32) × (near ≡ true → Near (now f)) ⌝ }
+    ensures { λ _. ⌜ now (dst .exit) ≡ rowOf (length (now (dst .entry)))
+        (λ i. clip max (tapped (now (f .entry)) r n (λ t. px (now (src .entry)) (o + i + t * step)))) ⌝ }
+{
+    let w = dst.len();
+    let mut i = 0;
+    while i < w {
+        let v = tap_px16(src, o + i, step, f, near, r, n, max);
+        dst[i] = v;
+        i += 1;
+    }
+}
+
 pub fn tap_row16(
     dst: &mut [u16],
     src: &[u16],
@@ -311,12 +463,10 @@ pub fn tap_row16(
     ensures { λ _. ⌜ now (dst .exit) ≡ rowOf (length (now (dst .entry)))
         (λ i. clip max (tapped (now (f .entry)) r n (λ t. px (now (src .entry)) (o + i + t * step)))) ⌝ }
 {
-    let w = dst.len();
-    let mut i = 0;
-    while i < w {
-        let v = tap_px16(src, o + i, step, f, r, n, max);
-        dst[i] = v;
-        i += 1;
+    if goes_near(f, dst.len(), 8) {
+        tap_row16_by(dst, src, o, step, f, true, r, n, max);
+    } else {
+        tap_row16_by(dst, src, o, step, f, false, r, n, max);
     }
 }
 
@@ -366,6 +516,30 @@ pub fn tap_mid_row8(
     }
 }
 
+fn tap_mid_row16_by(
+    tmp: &mut [i16],
+    src: &[u16],
+    o: usize,
+    step: usize,
+    f: &[i8; 8],
+    near: bool,
+    r: u32,
+    n: u32,
+    bias: i16,
+)
+    requires { ⌜ (o + length (now tmp) + 7 * step ≤ length (now src)) × (r < 2 ^ 20) × (n < 32) × (near ≡ true → Near (now f)) ⌝ }
+    ensures { λ _. ⌜ now (tmp .exit) ≡ rowOf (length (now (tmp .entry)))
+        (λ i. minus16 (low16 (tapped (now (f .entry)) r n (λ t. px (now (src .entry)) (o + i + t * step)))) bias) ⌝ }
+{
+    let w = tmp.len();
+    let mut i = 0;
+    while i < w {
+        let v = tap_mid_px16(src, o + i, step, f, near, r, n, bias);
+        tmp[i] = v;
+        i += 1;
+    }
+}
+
 pub fn tap_mid_row16(
     tmp: &mut [i16],
     src: &[u16],
@@ -380,11 +554,32 @@ pub fn tap_mid_row16(
     ensures { λ _. ⌜ now (tmp .exit) ≡ rowOf (length (now (tmp .entry)))
         (λ i. minus16 (low16 (tapped (now (f .entry)) r n (λ t. px (now (src .entry)) (o + i + t * step)))) bias) ⌝ }
 {
-    let w = tmp.len();
+    if goes_near(f, tmp.len(), 8) {
+        tap_mid_row16_by(tmp, src, o, step, f, true, r, n, bias);
+    } else {
+        tap_mid_row16_by(tmp, src, o, step, f, false, r, n, bias);
+    }
+}
+
+fn mid_row8_by(
+    dst: &mut [u8],
+    mid: &[i16],
+    o: usize,
+    step: usize,
+    f: &[i8; 8],
+    near: bool,
+    r: u32,
+    n: u32,
+)
+    requires { ⌜ (o + length (now dst) + 7 * step ≤ length (now mid)) × (r < 2 ^ 20) × (n < 32) × (near ≡ true → Near (now f)) ⌝ }
+    ensures { λ _. ⌜ now (dst .exit) ≡ rowOf (length (now (dst .entry)))
+        (λ i. clip 255 (tapped (now (f .entry)) r n (λ t. at (now (mid .entry)) (o + i + t * step)))) ⌝ }
+{
+    let w = dst.len();
     let mut i = 0;
     while i < w {
-        let v = tap_mid_px16(src, o + i, step, f, r, n, bias);
-        tmp[i] = v;
+        let v = mid_px8(mid, o + i, step, f, near, r, n);
+        dst[i] = v;
         i += 1;
     }
 }
@@ -395,10 +590,32 @@ pub fn mid_row8(dst: &mut [u8], mid: &[i16], o: usize, step: usize, f: &[i8; 8],
     ensures { λ _. ⌜ now (dst .exit) ≡ rowOf (length (now (dst .entry)))
         (λ i. clip 255 (tapped (now (f .entry)) r n (λ t. at (now (mid .entry)) (o + i + t * step)))) ⌝ }
 {
+    if goes_near(f, dst.len(), 8) {
+        mid_row8_by(dst, mid, o, step, f, true, r, n);
+    } else {
+        mid_row8_by(dst, mid, o, step, f, false, r, n);
+    }
+}
+
+fn mid_row16_by(
+    dst: &mut [u16],
+    mid: &[i16],
+    o: usize,
+    step: usize,
+    f: &[i8; 8],
+    near: bool,
+    r: u32,
+    n: u32,
+    max: u16,
+)
+    requires { ⌜ (o + length (now dst) + 7 * step ≤ length (now mid)) × (r < 2 ^ 20) × (n < 32) × (near ≡ true → Near (now f)) ⌝ }
+    ensures { λ _. ⌜ now (dst .exit) ≡ rowOf (length (now (dst .entry)))
+        (λ i. clip max (tapped (now (f .entry)) r n (λ t. at (now (mid .entry)) (o + i + t * step)))) ⌝ }
+{
     let w = dst.len();
     let mut i = 0;
     while i < w {
-        let v = mid_px8(mid, o + i, step, f, r, n);
+        let v = mid_px16(mid, o + i, step, f, near, r, n, max);
         dst[i] = v;
         i += 1;
     }
@@ -418,11 +635,33 @@ pub fn mid_row16(
     ensures { λ _. ⌜ now (dst .exit) ≡ rowOf (length (now (dst .entry)))
         (λ i. clip max (tapped (now (f .entry)) r n (λ t. at (now (mid .entry)) (o + i + t * step)))) ⌝ }
 {
-    let w = dst.len();
+    if goes_near(f, dst.len(), 8) {
+        mid_row16_by(dst, mid, o, step, f, true, r, n, max);
+    } else {
+        mid_row16_by(dst, mid, o, step, f, false, r, n, max);
+    }
+}
+
+fn mid_prep_row_by(
+    tmp: &mut [i16],
+    mid: &[i16],
+    o: usize,
+    step: usize,
+    f: &[i8; 8],
+    near: bool,
+    r: u32,
+    n: u32,
+    bias: i16,
+)
+    requires { ⌜ (o + length (now tmp) + 7 * step ≤ length (now mid)) × (r < 2 ^ 20) × (n < 32) × (near ≡ true → Near (now f)) ⌝ }
+    ensures { λ _. ⌜ now (tmp .exit) ≡ rowOf (length (now (tmp .entry)))
+        (λ i. minus16 (low16 (tapped (now (f .entry)) r n (λ t. at (now (mid .entry)) (o + i + t * step)))) bias) ⌝ }
+{
+    let w = tmp.len();
     let mut i = 0;
     while i < w {
-        let v = mid_px16(mid, o + i, step, f, r, n, max);
-        dst[i] = v;
+        let v = mid_prep_px(mid, o + i, step, f, near, r, n, bias);
+        tmp[i] = v;
         i += 1;
     }
 }
@@ -442,11 +681,9 @@ pub fn mid_prep_row(
     ensures { λ _. ⌜ now (tmp .exit) ≡ rowOf (length (now (tmp .entry)))
         (λ i. minus16 (low16 (tapped (now (f .entry)) r n (λ t. at (now (mid .entry)) (o + i + t * step)))) bias) ⌝ }
 {
-    let w = tmp.len();
-    let mut i = 0;
-    while i < w {
-        let v = mid_prep_px(mid, o + i, step, f, r, n, bias);
-        tmp[i] = v;
-        i += 1;
+    if goes_near(f, tmp.len(), 8) {
+        mid_prep_row_by(tmp, mid, o, step, f, true, r, n, bias);
+    } else {
+        mid_prep_row_by(tmp, mid, o, step, f, false, r, n, bias);
     }
 }

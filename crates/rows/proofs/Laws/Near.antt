@@ -1,19 +1,20 @@
 -- Sums by near taps: their sizes sum to 128 at most, so each part of a sum of bytes is within 128 * 255 of 0, which sixteen bits hold.
 -- Assumes nothing.
-use mathlib.Core.Path.{_≡_, refl, ap, _∙_}
+use mathlib.Core.Path.{_≡_, refl, ap, ap₂, _∙_}
 use mathlib.Core.List.{List}
-use Prim.Native.Nat.{ℕ, zero, suc, _+_, _-_, _*_, _^_, _≤_, _<_}
+use Prim.Native.Nat.{ℕ, zero, suc, _+_, _-_, _*_, _/_, _%_, _^_, _≤_, _<_}
 use native.Mathlib.Nat.{le-refl, zero-add, suc-add}
 use native.Mathlib.Numerals.{add-one}
 use native.Mathlib.Omega.{arith}
-use lib.IntN.{ℤ, pos, natAbs, _+ℤ_, _*ℤ_}
+use lib.IntN.{ℤ, pos, negsuc, natAbs, _+ℤ_, _-ℤ_, _*ℤ_}
+use lib.Signed.{shrZ}
 use mir.Syntax.{w8, w16}
 use mir.Val.{SFits, toZ, ofZ}
 use mir.ValLaws.{toZ-ofZ}
 use mir.Facts.{sfits-widen}
-use Rattle.rows.specs.Numbers.{at, sum, sumZ}
+use Rattle.rows.specs.Numbers.{at, modZ, sum, sumZ, up, dn}
 use Rattle.rows.specs.Subpel.{S, Near}
-use Rattle.rows.proofs.Laws.Signed.{abs-add, fit-abs}
+use Rattle.rows.proofs.Laws.Signed.{abs-add, fit-abs, eq-of, add-parts, mul-up, mul-dn, mul-parts, sub-parts, mag-lt, fit}
 
 -- a tap, widened to sixteen bits
 pub wide8-16 : {z : ℤ} → SFits w8 z → SFits w16 z
@@ -77,3 +78,97 @@ near-all {f} {x} {j} p h =
     let e : j ≡ 8 = omega (arith, p .le) in
     let q = rw e at p in
     (near-is q, rw (near-is q) (omega (arith, q .most, q .few)))
+
+-- ---- a wider number is 256 times its high byte and its low byte; so is a sum of such numbers
+pub split : (x : ℤ) → shrZ x 256 *ℤ pos 256 +ℤ pos (modZ x 256) ≡ x
+split (pos n) = ap pos (omega arith)
+split (negsuc n) =
+    let h = negsuc (n / 256) *ℤ pos 256 in
+    eq-of (h +ℤ pos (255 - n % 256)) (negsuc n)
+    (omega (arith, add-parts h (pos (255 - n % 256)), mul-up (negsuc (n / 256)) 256, mul-dn (negsuc (n / 256)) 256))
+
+pub low-byte : (x : ℤ) → modZ x 256 ≤ 255
+low-byte (pos n) = omega arith
+low-byte (negsuc n) = omega arith
+
+pub high-byte : (x : ℤ) → SFits w16 x → natAbs (shrZ x 256) ≤ 128
+high-byte (pos n) f = omega (arith, f .sfits)
+high-byte (negsuc n) f = omega (arith, f .sfits)
+
+-- f (256 h + l)
+over : (f h l : ℤ) → f *ℤ h *ℤ pos 256 +ℤ f *ℤ l ≡ f *ℤ (h *ℤ pos 256 +ℤ l)
+over f h l =
+    let x = h *ℤ pos 256 +ℤ l in
+    let e : up x + dn h * 256 + dn l ≡ dn x + up h * 256 + up l = omega (arith, add-parts (h *ℤ pos 256) l, mul-up h 256, mul-dn h 256) in
+    eq-of (f *ℤ h *ℤ pos 256 +ℤ f *ℤ l) (f *ℤ x)
+    (omega (
+      arith,
+      add-parts (f *ℤ h *ℤ pos 256) (f *ℤ l),
+      mul-up (f *ℤ h) 256,
+      mul-dn (f *ℤ h) 256,
+      mul-parts f h,
+      mul-parts f l,
+      mul-parts f x,
+      ap (λ (k : ℕ). up f * k) e,
+      ap (λ (k : ℕ). dn f * k) e,
+    ))
+
+joined : (A a B b : ℤ) → (A +ℤ a) *ℤ pos 256 +ℤ (B +ℤ b) ≡ A *ℤ pos 256 +ℤ B +ℤ (a *ℤ pos 256 +ℤ b)
+joined A a B b =
+    eq-of ((A +ℤ a) *ℤ pos 256 +ℤ (B +ℤ b)) (A *ℤ pos 256 +ℤ B +ℤ (a *ℤ pos 256 +ℤ b))
+    (omega (
+      arith,
+      add-parts ((A +ℤ a) *ℤ pos 256) (B +ℤ b),
+      mul-up (A +ℤ a) 256,
+      mul-dn (A +ℤ a) 256,
+      add-parts A a,
+      add-parts B b,
+      add-parts (A *ℤ pos 256 +ℤ B) (a *ℤ pos 256 +ℤ b),
+      add-parts (A *ℤ pos 256) B,
+      add-parts (a *ℤ pos 256) b,
+      mul-up A 256,
+      mul-dn A 256,
+      mul-up a 256,
+      mul-dn a 256,
+    ))
+
+abbrev pub highs : (ℕ → ℤ) → ℕ → ℤ
+highs x t = shrZ (x t) 256
+
+abbrev pub lows : (ℕ → ℤ) → ℕ → ℤ
+lows x t = pos (modZ (x t) 256)
+
+whole : (f : List ℤ) (x : ℕ → ℤ) (n : ℕ) → sumZ n (λ t. at f t *ℤ highs x t) *ℤ pos 256 +ℤ sumZ n (λ t. at f t *ℤ lows x t) ≡ sumZ n (λ t. at f t *ℤ x t)
+unfolding sumZ
+whole f x zero = refl
+whole f x (suc n) =
+    joined (sumZ n (λ t. at f t *ℤ highs x t)) (at f n *ℤ highs x n) (sumZ n (λ t. at f t *ℤ lows x t)) (at f n *ℤ lows x n)
+    ∙ ap₂ (λ (a b : ℤ). a +ℤ b) (whole f x n) (over (at f n) (highs x n) (lows x n) ∙ ap (λ (v : ℤ). at f n *ℤ v) (split (x n)))
+
+pub whole-sum : (f : List ℤ) (x : ℕ → ℤ) → S f (highs x) *ℤ pos 256 +ℤ S f (lows x) ≡ S f x
+unfolding S
+whole-sum f x = whole f x 8
+
+-- what the high byte leaves is the low one
+pub low-is : (x : ℤ) → x -ℤ shrZ x 256 *ℤ pos 256 ≡ pos (modZ x 256)
+low-is x =
+    eq-of (x -ℤ shrZ x 256 *ℤ pos 256) (pos (modZ x 256))
+    (omega
+    (arith, sub-parts x (shrZ x 256 *ℤ pos 256), add-parts (shrZ x 256 *ℤ pos 256) (pos (modZ x 256)), ap up (split x), ap dn (split x)))
+
+pub high-up : (x : ℤ) → SFits w16 x → SFits w16 (shrZ x 256 *ℤ pos 256)
+high-up (pos n) f = fit w16 (omega (arith, f .sfits))
+high-up (negsuc n) f =
+    fit w16
+    (mag-lt (negsuc (n / 256) *ℤ pos 256) 32768 (omega (arith, mul-up (negsuc (n / 256)) 256)) (omega (arith, f .sfits, mul-dn (negsuc (n / 256)) 256)))
+
+-- two locals of sixteen bits, for the high bytes and for the low ones
+pub record NearBoth (f : List ℤ) (x : ℕ → ℤ) (j h l : ℕ) : Type 0 where
+  pub high : NearSum f (highs x) j h
+  pub low : NearSum f (lows x) j l
+
+pub both-none : (f : List ℤ) (x : ℕ → ℤ) → NearBoth f x 0 0 0
+both-none f x = record { high = near-none f (highs x); low = near-none f (lows x) }
+
+pub both-all : {f : List ℤ} {x : ℕ → ℤ} {j h l : ℕ} {r : ℤ} → NearBoth f x j h l → 8 ≤ j → r ≡ toZ w16 h *ℤ pos 256 +ℤ toZ w16 l → r ≡ S f x
+both-all {f} {x} p k e = e ∙ ap₂ (λ (a b : ℤ). a *ℤ pos 256 +ℤ b) (near-all (p .high) k .0) (near-all (p .low) k .0) ∙ whole-sum f x

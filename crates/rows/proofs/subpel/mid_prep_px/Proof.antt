@@ -11,13 +11,13 @@ returns : tie.Need-returns
 unfolding tapped
 returns c =
     let fv : SFits w16 (c .kept .result) = omega arith in
-    let ft : SFits w32 (c .before .taps-i16 .result) = omega arith in
-    rw (back fv, c .kept .ensures, back ft, c .before .taps-i16 .ensures .0, back (c .before .before .fits .bias))
+    let ft : SFits w32 (c .before .sum-i16 .result) = omega arith in
+    rw (back fv, c .kept .ensures, back ft, c .before .sum-i16 .ensures .0, back (c .before .before .fits .bias))
 
 pub mid-prep-px-spec : {M : Type 1} → statement M
 mid-prep-px-spec =
     tie.close
     (tie.spec
-    (λ c κs. search needs)  -- taps-i16-requires
+    (λ c κs. search needs)  -- sum-i16-requires
     (λ c κs. search needs)  -- kept-requires
     returns)

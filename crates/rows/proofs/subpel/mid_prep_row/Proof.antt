@@ -1,37 +1,19 @@
+use lib.Dec.{T}
+use mathlib.Core.Path.{sym, subst}
 use native.Mathlib.Omega.{arith}
-use Prim.Native.Nat.{_+_, _*_, _-_}
-use lib.IntN.{pos}
-use lib.ListN.{length}
-use mir.Syntax.{w16}
-use mir.Val.{toZ}
-use Rattle.rows.specs.Numbers.{low16, minus16, at}
-use Rattle.rows.specs.Subpel.{tapped}
-use Rattle.rows.proofs.Laws.Row.{Upto, upto-none, upto-all}
-use Rattle.rows.proofs.Laws.Filter.{upto-kept}
+use borrow.Author.Needs.{needs}
 use Rattle.rows.proofs.Laws.Signed.{back}
 use Rattle.rows.proofs.subpel.mid_prep_row.Statement.{statement}
 use Rattle.rows.proofs.subpel.mid_prep_row.Tie as tie
-
--- the first i are done
-abbrev Inv-loop : tie.InvT-loop
-Inv-loop tmp₀ mid o step f r n bias w i₀ tmp i =
-    Upto (pos 0) (λ x. minus16 (low16 (tapped f r n (λ t. at mid (o + x + t * step)))) (toZ w16 bias)) (length tmp₀) i tmp
-
-abbrev μ-loop : tie.MeasureT-loop
-μ-loop tmp₀ mid o step f r n bias w i₀ tmp i = w - i
 
 pub mid-prep-row-spec : {M : Type 1} → statement M
 mid-prep-row-spec =
     tie.close
     (tie.spec
-    Inv-loop
-    μ-loop
-    (λ c. upto-none _ _ _)  -- loop-holds
-    (λ c. omega arith)  -- o + i
-    (λ c κs. omega arith)  -- mid-prep-px-requires
-    (λ c. omega arith) (λ c. omega arith)  -- tmp[i] =
-    (λ c. omega arith)  -- i += 1
-    (λ c. omega arith)  -- loop-less
-    (λ c. upto-kept (c .before .before .loop .inv) (omega arith) (omega arith) (c .mid-prep-px .ensures))  -- loop-again
-    (λ c. omega arith)  -- same-length
-    (λ c. rw (← back (c .before .before .fits .bias)) (upto-all (c .before .loop .inv) (omega arith))))  -- returns
+    (λ c κs. search needs)  -- goes-near-requires
+    (λ c κs. (omega arith, omega arith, omega arith, λ e. c .before .before .goes-near .ensures (c .before .if1 .taken)))  -- mid-prep-row-by-requires
+    (λ c κs. (omega arith, omega arith, omega arith, λ e. absurd (subst T (sym e) tt)))  -- mid-prep-row-by-requires-2
+    (λ c. search needs)  -- same-length
+    (λ c. rw (back (c .before .before .before .before .before .fits .bias)) at (c .before .mid-prep-row-by .ensures))  -- returns
+    (λ c. search needs)  -- same-length
+    (λ c. rw (back (c .before .before .before .before .before .fits .bias)) at (c .before .mid-prep-row-by2 .ensures)))  -- returns-2

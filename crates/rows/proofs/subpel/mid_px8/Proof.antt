@@ -11,14 +11,14 @@ returns : tie.Need-returns
 unfolding tapped
 returns c =
     let fr : SFits w32 (c .before .rounded .result) = omega arith in
-    let ft : SFits w32 (c .before .before .taps-i16 .result) = omega arith in
-    rw (c .clip8 .ensures, back fr, c .before .rounded .ensures, back ft, c .before .before .taps-i16 .ensures .0)
+    let ft : SFits w32 (c .before .before .sum-i16 .result) = omega arith in
+    rw (c .clip8 .ensures, back fr, c .before .rounded .ensures, back ft, c .before .before .sum-i16 .ensures .0)
 
 pub mid-px8-spec : {M : Type 1} → statement M
 mid-px8-spec =
     tie.close
     (tie.spec
-    (λ c κs. search needs)  -- taps-i16-requires
+    (λ c κs. search needs)  -- sum-i16-requires
     (λ c κs. search needs)  -- rounded-requires
     (λ c κs. search needs)  -- clip8-requires
     returns)

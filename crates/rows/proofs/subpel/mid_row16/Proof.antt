@@ -1,31 +1,18 @@
+use lib.Dec.{T}
+use mathlib.Core.Path.{sym, subst}
 use native.Mathlib.Omega.{arith}
-use Prim.Native.Nat.{_+_, _*_, _-_}
-use lib.ListN.{length}
-use Rattle.rows.specs.Numbers.{clip, at}
-use Rattle.rows.specs.Subpel.{tapped}
-use Rattle.rows.proofs.Laws.Row.{Upto, upto-none, upto-more, upto-all}
+use borrow.Author.Needs.{needs}
 use Rattle.rows.proofs.subpel.mid_row16.Statement.{statement}
 use Rattle.rows.proofs.subpel.mid_row16.Tie as tie
-
--- the first i are done
-abbrev Inv-loop : tie.InvT-loop
-Inv-loop dst₀ mid o step f r n max w i₀ dst i = Upto 0 (λ x. clip max (tapped f r n (λ t. at mid (o + x + t * step)))) (length dst₀) i dst
-
-abbrev μ-loop : tie.MeasureT-loop
-μ-loop dst₀ mid o step f r n max w i₀ dst i = w - i
 
 pub mid-row16-spec : {M : Type 1} → statement M
 mid-row16-spec =
     tie.close
     (tie.spec
-    Inv-loop
-    μ-loop
-    (λ c. upto-none _ _ _)  -- loop-holds
-    (λ c. omega arith)  -- o + i
-    (λ c κs. omega arith)  -- mid-px16-requires
-    (λ c. omega arith) (λ c. omega arith)  -- dst[i] =
-    (λ c. omega arith)  -- i += 1
-    (λ c. omega arith)  -- loop-less
-    (λ c. upto-more (c .before .before .loop .inv) (omega arith) (c .mid-px16 .ensures))  -- loop-again
-    (λ c. omega arith)  -- same-length
-    (λ c. upto-all (c .before .loop .inv) (omega arith)))  -- returns
+    (λ c κs. search needs)  -- goes-near-requires
+    (λ c κs. (omega arith, omega arith, omega arith, λ e. c .before .before .goes-near .ensures (c .before .if1 .taken)))  -- mid-row16-by-requires
+    (λ c κs. (omega arith, omega arith, omega arith, λ e. absurd (subst T (sym e) tt)))  -- mid-row16-by-requires-2
+    (λ c. search needs)  -- same-length
+    (λ c. search needs)  -- returns
+    (λ c. search needs)  -- same-length
+    (λ c. search needs))  -- returns-2

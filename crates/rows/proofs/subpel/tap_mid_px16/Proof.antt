@@ -11,13 +11,13 @@ returns : tie.Need-returns
 unfolding tapped
 returns c =
     let fv : SFits w16 (c .kept .result) = omega arith in
-    let ft : SFits w32 (c .before .taps-u16 .result) = omega arith in
-    rw (back fv, c .kept .ensures, back ft, c .before .taps-u16 .ensures .0, back (c .before .before .before .fits .bias))
+    let ft : SFits w32 (c .before .sum-u16 .result) = omega arith in
+    rw (back fv, c .kept .ensures, back ft, c .before .sum-u16 .ensures .0, back (c .before .before .before .fits .bias))
 
 pub tap-mid-px16-spec : {M : Type 1} → statement M
 tap-mid-px16-spec =
     tie.close
     (tie.spec
-    (λ c κs. search needs)  -- taps-u16-requires
+    (λ c κs. search needs)  -- sum-u16-requires
     (λ c κs. search needs)  -- kept-requires
     returns)

@@ -11,14 +11,14 @@ returns : tie.Need-returns
 unfolding tapped
 returns c =
     let fr : SFits w32 (c .before .rounded .result) = omega arith in
-    let ft : SFits w32 (c .before .before .taps-u16 .result) = omega arith in
-    rw (c .clip16 .ensures, back fr, c .before .rounded .ensures, back ft, c .before .before .taps-u16 .ensures .0)
+    let ft : SFits w32 (c .before .before .sum-u16 .result) = omega arith in
+    rw (c .clip16 .ensures, back fr, c .before .rounded .ensures, back ft, c .before .before .sum-u16 .ensures .0)
 
 pub tap-px16-spec : {M : Type 1} → statement M
 tap-px16-spec =
     tie.close
     (tie.spec
-    (λ c κs. search needs)  -- taps-u16-requires
+    (λ c κs. search needs)  -- sum-u16-requires
     (λ c κs. search needs)  -- rounded-requires
     (λ c κs. search needs)  -- clip16-requires
     returns)
