@@ -4,7 +4,7 @@ ghost use mathlib.Core.Bool.{true};
 ghost use lib.Dec.{leb};
 ghost use Prim.Native.Nat.{_+_, _*_, _^_, _<_, _≤_};
 ghost use lib.IntN.{pos, natAbs, _+ℤ_, _*ℤ_};
-ghost use lib.ListN.{length};
+ghost use lib.ListN.{length, getD};
 ghost use lib.Signed.{mag, shrZ};
 ghost use Rattle.rows.specs.Numbers.{at, px, clip, low16, minus16, modZ, sum};
 ghost use Rattle.rows.specs.Places.{rowOf};
@@ -388,6 +388,65 @@ fn mid_prep_px(
     kept(sum_i16(mid, o, step, f, near), r, n, bias)
 }
 
+// Eight pixels of a row by near taps, as one: no source can overlap what a function returns, so the compiler tests for nothing.
+fn near_eight8(src: &[u8], o: usize, step: usize, f: &[i8; 8], r: u32, n: u32) -> [u8; 8]
+    requires { ⌜ (o + 8 + 7 * step ≤ length (now src)) × Near (now f) × (r ≤ 127) × (n ≤ 15) ⌝ }
+    ensures { λ v. ⌜ v ≡ rowOf 8 (λ i. clip 255 (tapped (now (f .entry)) r n (λ t. px (now (src .entry)) (o + i + t * step)))) ⌝ }
+{
+    let mut line = [0u8; 8];
+    let mut i = 0;
+    while i < 8 {
+        line[i] = tap_px8(src, o + i, step, f, true, r, n);
+        i += 1;
+    }
+    line
+}
+
+fn near_eight_mid8(
+    src: &[u8],
+    o: usize,
+    step: usize,
+    f: &[i8; 8],
+    r: u32,
+    n: u32,
+    bias: i16,
+) -> [i16; 8]
+    requires { ⌜ (o + 8 + 7 * step ≤ length (now src)) × Near (now f) × (r ≤ 127) × (n ≤ 15) ⌝ }
+    ensures { λ v. ⌜ v ≡ rowOf 8 (λ i. minus16 (low16 (tapped (now (f .entry)) r n (λ t. px (now (src .entry)) (o + i + t * step)))) bias) ⌝ }
+{
+    let mut line = [0i16; 8];
+    let mut i = 0;
+    while i < 8 {
+        line[i] = tap_mid_px8(src, o + i, step, f, true, r, n, bias);
+        i += 1;
+    }
+    line
+}
+
+fn take_eight8(dst: &mut [u8], line: &[u8; 8])
+    requires { ⌜ length (now dst) ≡ 8 ⌝ }
+    ensures { λ _. ⌜ now (dst .exit) ≡ rowOf (length (now (dst .entry))) (λ i. getD (now (line .entry)) i 0) ⌝ }
+{
+    let mut i = 0;
+    while i < 8 {
+        let v = line[i];
+        dst[i] = v;
+        i += 1;
+    }
+}
+
+fn take_eight_mid(tmp: &mut [i16], line: &[i16; 8])
+    requires { ⌜ length (now tmp) ≡ 8 ⌝ }
+    ensures { λ _. ⌜ now (tmp .exit) ≡ rowOf (length (now (tmp .entry))) (at (now (line .entry))) ⌝ }
+{
+    let mut i = 0;
+    while i < 8 {
+        let v = line[i];
+        tmp[i] = v;
+        i += 1;
+    }
+}
+
 // Rows, the near way or the far way: near is passed as a constant, so the compiler makes a loop of each.
 fn tap_row8_by(
     dst: &mut [u8],
@@ -412,6 +471,19 @@ fn tap_row8_by(
     }
 }
 
+fn near_row8(dst: &mut [u8], src: &[u8], o: usize, step: usize, f: &[i8; 8], r: u32, n: u32)
+    requires { ⌜ (o + length (now dst) + 7 * step ≤ length (now src)) × Near (now f) × (r ≤ 127) × (n ≤ 15) ⌝ }
+    ensures { λ _. ⌜ now (dst .exit) ≡ rowOf (length (now (dst .entry)))
+        (λ i. clip 255 (tapped (now (f .entry)) r n (λ t. px (now (src .entry)) (o + i + t * step)))) ⌝ }
+{
+    if dst.len() == 8 {
+        let line = near_eight8(src, o, step, f, r, n);
+        take_eight8(dst, &line);
+    } else {
+        tap_row8_by(dst, src, o, step, f, true, r, n);
+    }
+}
+
 // Pixels from pixels: put, one axis.
 pub fn tap_row8(dst: &mut [u8], src: &[u8], o: usize, step: usize, f: &[i8; 8], r: u32, n: u32)
     requires { ⌜ (o + length (now dst) + 7 * step ≤ length (now src)) × (r < 2 ^ 20) × (n < 32) ⌝ }
@@ -419,7 +491,7 @@ pub fn tap_row8(dst: &mut [u8], src: &[u8], o: usize, step: usize, f: &[i8; 8], 
         (λ i. clip 255 (tapped (now (f .entry)) r n (λ t. px (now (src .entry)) (o + i + t * step)))) ⌝ }
 {
     if goes_near8(f, dst.len(), 8, r, n) {
-        tap_row8_by(dst, src, o, step, f, true, r, n);
+        near_row8(dst, src, o, step, f, r, n);
     } else {
         tap_row8_by(dst, src, o, step, f, false, r, n);
     }
@@ -494,6 +566,28 @@ fn tap_mid_row8_by(
     }
 }
 
+fn near_mid_row8(
+    tmp: &mut [i16],
+    src: &[u8],
+    o: usize,
+    step: usize,
+    f: &[i8; 8],
+    r: u32,
+    n: u32,
+    bias: i16,
+)
+    requires { ⌜ (o + length (now tmp) + 7 * step ≤ length (now src)) × Near (now f) × (r ≤ 127) × (n ≤ 15) ⌝ }
+    ensures { λ _. ⌜ now (tmp .exit) ≡ rowOf (length (now (tmp .entry)))
+        (λ i. minus16 (low16 (tapped (now (f .entry)) r n (λ t. px (now (src .entry)) (o + i + t * step)))) bias) ⌝ }
+{
+    if tmp.len() == 8 {
+        let line = near_eight_mid8(src, o, step, f, r, n, bias);
+        take_eight_mid(tmp, &line);
+    } else {
+        tap_mid_row8_by(tmp, src, o, step, f, true, r, n, bias);
+    }
+}
+
 // Intermediates from pixels: prep, one axis, and with the bias 0 the first pass of two.
 pub fn tap_mid_row8(
     tmp: &mut [i16],
@@ -509,8 +603,8 @@ pub fn tap_mid_row8(
     ensures { λ _. ⌜ now (tmp .exit) ≡ rowOf (length (now (tmp .entry)))
         (λ i. minus16 (low16 (tapped (now (f .entry)) r n (λ t. px (now (src .entry)) (o + i + t * step)))) bias) ⌝ }
 {
-    if goes_near8(f, tmp.len(), 16, r, n) {
-        tap_mid_row8_by(tmp, src, o, step, f, true, r, n, bias);
+    if goes_near8(f, tmp.len(), 8, r, n) {
+        near_mid_row8(tmp, src, o, step, f, r, n, bias);
     } else {
         tap_mid_row8_by(tmp, src, o, step, f, false, r, n, bias);
     }

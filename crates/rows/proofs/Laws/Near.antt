@@ -7,13 +7,16 @@ use native.Mathlib.Nat.{le-refl, zero-add, suc-add}
 use native.Mathlib.Numerals.{add-one}
 use native.Mathlib.Omega.{arith}
 use lib.IntN.{ℤ, pos, negsuc, natAbs, _+ℤ_, _-ℤ_, _*ℤ_}
+use lib.ListN.{getD}
 use lib.Signed.{shrZ}
 use mir.Syntax.{w8, w16}
 use mir.Val.{SFits, toZ, ofZ}
 use mir.ValLaws.{toZ-ofZ}
 use mir.Facts.{sfits-widen}
 use Rattle.rows.specs.Numbers.{at, modZ, sum, sumZ, up, dn}
+use Rattle.rows.specs.Places.{rowOf}
 use Rattle.rows.specs.Subpel.{S, Near}
+use Rattle.rows.proofs.Laws.Places.{row-same, getD-rowOf}
 use Rattle.rows.proofs.Laws.Signed.{abs-add, fit-abs, eq-of, add-parts, mul-up, mul-dn, mul-parts, sub-parts, mag-lt, fit}
 
 -- a tap, widened to sixteen bits
@@ -172,3 +175,8 @@ both-none f x = record { high = near-none f (highs x); low = near-none f (lows x
 
 pub both-all : {f : List ℤ} {x : ℕ → ℤ} {j h l : ℕ} {r : ℤ} → NearBoth f x j h l → 8 ≤ j → r ≡ toZ w16 h *ℤ pos 256 +ℤ toZ w16 l → r ≡ S f x
 both-all {f} {x} p k e = e ∙ ap₂ (λ (a b : ℤ). a *ℤ pos 256 +ℤ b) (near-all (p .high) k .0) (near-all (p .low) k .0) ∙ whole-sum f x
+
+-- a copy of a row that was made apart
+pub row-copied : {A : Type 0} (z : A) (g : ℕ → A) {n m : ℕ} {l d : List A} → n ≡ m → d ≡ rowOf n (λ k. getD l k z) → l ≡ rowOf m g → d ≡ rowOf n g
+row-copied {A} z g {n} {m} {l} e p q =
+    p ∙ row-same z n (λ k. getD l k z) g (λ i h. ap (λ (x : List A). getD x i z) q ∙ getD-rowOf z m g i (omega arith))

@@ -1,0 +1,32 @@
+use mathlib.Core.Path.{refl}
+use Prim.Native.Nat.{_-_}
+use native.Mathlib.Omega.{arith}
+use lib.IntN.{pos}
+use lib.ListN.{length}
+use mir.Syntax.{w16}
+use Rattle.rows.specs.Numbers.{at}
+use Rattle.rows.proofs.Laws.Row.{Upto, upto-none, upto-more, upto-all}
+use Rattle.rows.proofs.Laws.Signed.{back, fit}
+use Rattle.rows.proofs.subpel.take_eight_mid.Statement.{statement}
+use Rattle.rows.proofs.subpel.take_eight_mid.Tie as tie
+
+abbrev Inv-loop : tie.InvT-loop
+Inv-loop tmp₀ line i₀ tmp i = Upto (pos 0) (λ x. at line x) (length tmp₀) i tmp
+
+abbrev μ-loop : tie.MeasureT-loop
+μ-loop tmp₀ line i₀ tmp i = 8 - i
+
+pub take-eight-mid-spec : {M : Type 1} → statement M
+take-eight-mid-spec =
+    tie.close
+    (tie.spec
+    Inv-loop
+    μ-loop
+    (λ c. upto-none _ _ _)  -- loop-holds
+    (λ c. omega arith) (λ c. omega arith)  -- line[i]
+    (λ c. omega arith) (λ c. omega arith)  -- tmp[i] =
+    (λ c. omega arith)  -- i += 1
+    (λ c. omega arith)  -- loop-less
+    (λ c. upto-more (c .before .before .loop .inv) (omega arith) (back (fit w16 (c .v .given))))  -- loop-again
+    (λ c. omega arith)  -- same-length
+    (λ c. upto-all (c .before .loop .inv) (omega arith)))  -- returns
