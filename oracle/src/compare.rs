@@ -110,18 +110,30 @@ where
     tally.count(number, &rare, &texts, &told);
 }
 
-/// Runs `$run::<call, $subject>` on every entry and depth, and hands what it gives to `$each` as soon as it is there.
+/// Runs `$run::<call, $subject>` on every entry and depth, and hands what it gives to `$each` as soon as it is there; with
+/// `kernels` before it, not on windows, rows and orders.
 #[macro_export]
 macro_rules! every_entry {
     ($run:ident of $subject:ty, $amount:expr, $each:expr) => {{
+        $crate::every_entry! { @kernels $run, $subject, $amount, $each }
+        $crate::every_entry! { @sets $run, $subject, $amount, $each;
+            window::Window, window::Row, order::OrderPut, order::OrderPrep }
+        $crate::every_entry! { @shears $run, $subject, $amount, $each }
+    }};
+    (kernels $run:ident of $subject:ty, $amount:expr, $each:expr) => {{
+        $crate::every_entry! { @kernels $run, $subject, $amount, $each }
+        $crate::every_entry! { @shears $run, $subject, $amount, $each }
+    }};
+    (@kernels $run:ident, $subject:ty, $amount:expr, $each:expr) => {
         $crate::every_entry! { @sets $run, $subject, $amount, $each;
             copy::Put, copy::Prep, combine::Avg, combine::WAvg, combine::Mask, combine::Blend, combine::Morph,
             combine::WMask, edge::EmuEdge, subpel::Put8tap, subpel::Prep8tap, bilinear::PutBilin, bilinear::PrepBilin,
-            search::SadNxn, search::SadRefineMv, warp::WarpAffine, warp::WarpAffineT, window::Window, window::Row,
-            order::OrderPut, order::OrderPrep }
+            search::SadNxn, search::SadRefineMv, warp::WarpAffine, warp::WarpAffineT }
+    };
+    (@shears $run:ident, $subject:ty, $amount:expr, $each:expr) => {
         $crate::every_entry! { @plain $run, $subject, $amount, $each;
             shear::ResolveDivisor32, shear::GetShearParams, shear::SetAffineMv2d }
-    }};
+    };
     (@sets $run:ident, $subject:ty, $amount:expr, $each:expr; $($family:ident :: $call:ident),+) => {
         $(
             $each($run::<$crate::calls::$family::$call<u8>, $subject>(Some(8), $amount));

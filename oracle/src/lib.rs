@@ -13,6 +13,7 @@ pub mod lend;
 pub mod library;
 pub mod limits;
 pub mod pages;
+pub mod record;
 pub mod refuse;
 pub mod rng;
 pub mod rules;

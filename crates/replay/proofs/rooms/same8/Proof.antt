@@ -1,0 +1,29 @@
+use borrow.Author.Needs.{needs}
+use Prim.Native.Nat.{_≤_, _-_}
+use native.Mathlib.Omega.{arith}
+use Rattle.replay.proofs.rooms.same8.Statement.{statement}
+use Rattle.replay.proofs.rooms.same8.Tie as tie
+
+abbrev Inv-loop : tie.InvT-loop
+Inv-loop r b d c n same₀ i₀ same i = i ≤ n
+
+abbrev μ-loop : tie.MeasureT-loop
+μ-loop r b d c n same₀ i₀ same i = n - i
+
+pub same8-spec : {M : Type 1} → statement M
+same8-spec =
+    tie.close
+    (tie.spec
+    Inv-loop
+    μ-loop
+    (λ c κs. search needs)  -- layout-of-requires
+    (λ c κs. search needs)  -- places-requires
+    (λ c. omega arith)  -- loop-holds
+    (λ c. omega arith)  -- cast-same
+    (λ c. omega arith)  -- element-copy-out-same
+    (λ c κs. search needs)  -- left-requires
+    (λ c κs. search needs)  -- value8-requires
+    (λ c. omega arith)  -- add-i
+    (λ c. omega arith)  -- loop-less
+    (λ c. omega arith)  -- loop-again
+    (λ c. omega arith))  -- returns

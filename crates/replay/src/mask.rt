@@ -1,0 +1,64 @@
+// Replays calls of w_mask.
+use crate::list::ROOM;
+use crate::list::flag;
+use crate::list::int;
+use crate::list::size;
+use crate::list::told;
+use crate::rooms::fill_mids;
+use crate::rooms::fill8;
+use crate::rooms::fill16;
+use crate::rooms::same8;
+use crate::rooms::same16;
+use blocks::mask::hv_w_mask_8bpc;
+use blocks::mask::hv_w_mask_16bpc;
+
+pub fn w_mask_8bpc(r: &[u8]) -> bool {
+    let mut dst = [0u8; ROOM];
+    let mut tmp1 = [0i16; ROOM];
+    let mut tmp2 = [0i16; ROOM];
+    let mut mask = [0u8; ROOM];
+    let n0 = fill8(r, 0, &mut dst);
+    let n1 = fill_mids(r, 1, &mut tmp1);
+    let n2 = fill_mids(r, 2, &mut tmp2);
+    let n3 = fill8(r, 3, &mut mask);
+    let number = hv_w_mask_8bpc(
+        &mut dst[..n0],
+        size(r, 0),
+        &tmp1[..n1],
+        &tmp2[..n2],
+        size(r, 1),
+        size(r, 2),
+        &mut mask[..n3],
+        size(r, 3),
+        int(r, 4),
+        flag(r, 5),
+        flag(r, 6),
+    );
+    told(r, number) & same8(r, 0, &dst) & same8(r, 3, &mask)
+}
+
+pub fn w_mask_16bpc(r: &[u8]) -> bool {
+    let mut dst = [0u16; ROOM];
+    let mut tmp1 = [0i16; ROOM];
+    let mut tmp2 = [0i16; ROOM];
+    let mut mask = [0u8; ROOM];
+    let n0 = fill16(r, 0, &mut dst);
+    let n1 = fill_mids(r, 1, &mut tmp1);
+    let n2 = fill_mids(r, 2, &mut tmp2);
+    let n3 = fill8(r, 3, &mut mask);
+    let number = hv_w_mask_16bpc(
+        int(r, 0),
+        &mut dst[..n0],
+        size(r, 1),
+        &tmp1[..n1],
+        &tmp2[..n2],
+        size(r, 2),
+        size(r, 3),
+        &mut mask[..n3],
+        size(r, 4),
+        int(r, 5),
+        flag(r, 6),
+        flag(r, 7),
+    );
+    told(r, number) & same16(r, 0, &dst) & same8(r, 3, &mask)
+}

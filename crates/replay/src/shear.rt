@@ -1,0 +1,85 @@
+// Replays calls of resolve_divisor_32, get_shear_params and set_affine_mv2d.
+use crate::list::ROOM;
+use crate::list::UNSET;
+use crate::list::int;
+use crate::list::short;
+use crate::list::told;
+use crate::list::word;
+use crate::rooms::fill16;
+use blocks::shear::hv_get_shear_params;
+use blocks::shear::hv_resolve_divisor_32;
+use blocks::shear::hv_set_affine_mv2d;
+ghost use Prim.Native.Nat.{_≤_};
+
+// A matrix whose first entry is number k.
+fn matrix_at(r: &[u8], k: u8) -> [i32; 6]
+    requires { ⌜ k ≤ 100 ⌝ }
+{
+    [
+        int(r, k),
+        int(r, k + 1),
+        int(r, k + 2),
+        int(r, k + 3),
+        int(r, k + 4),
+        int(r, k + 5),
+    ]
+}
+
+fn same_matrix(m: &[i32; 6], n: [i32; 6]) -> bool {
+    (m[0] == n[0])
+        & (m[1] == n[1])
+        & (m[2] == n[2])
+        & (m[3] == n[3])
+        & (m[4] == n[4])
+        & (m[5] == n[5])
+}
+
+// Four shears whose first is number k.
+fn shears_at(r: &[u8], k: u8) -> [i16; 4]
+    requires { ⌜ k ≤ 100 ⌝ }
+{
+    [
+        short(r, k),
+        short(r, k + 1),
+        short(r, k + 2),
+        short(r, k + 3),
+    ]
+}
+
+fn same_shears(s: &[i16; 4], t: [i16; 4]) -> bool {
+    (s[0] == t[0]) & (s[1] == t[1]) & (s[2] == t[2]) & (s[3] == t[3])
+}
+
+pub fn resolve_divisor_32(r: &[u8]) -> bool {
+    let mut recip = [0u16; ROOM];
+    let mut y = UNSET;
+    let mut shift = UNSET;
+    let n0 = fill16(r, 0, &mut recip);
+    let number = hv_resolve_divisor_32(word(r, 0), &recip[..n0], &mut y, &mut shift);
+    told(r, number) & (y == int(r, 1)) & (shift == int(r, 2))
+}
+
+pub fn get_shear_params(r: &[u8]) -> bool {
+    let mut matrix = matrix_at(r, 0);
+    let mut abcd = shears_at(r, 6);
+    let mut affine = int(r, 10);
+    let mut recip = [0u16; ROOM];
+    let n0 = fill16(r, 0, &mut recip);
+    let number = hv_get_shear_params(&mut matrix, &mut abcd, &mut affine, &recip[..n0]);
+    let record = same_matrix(&matrix, matrix_at(r, 11)) & same_shears(&abcd, shears_at(r, 17));
+    told(r, number) & record & (affine == int(r, 21))
+}
+
+pub fn set_affine_mv2d(r: &[u8]) -> bool {
+    let mut matrix = matrix_at(r, 4);
+    let number = hv_set_affine_mv2d(
+        int(r, 0),
+        int(r, 1),
+        int(r, 2),
+        int(r, 3),
+        &mut matrix,
+        int(r, 10),
+        int(r, 11),
+    );
+    told(r, number) & same_matrix(&matrix, matrix_at(r, 12))
+}

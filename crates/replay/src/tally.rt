@@ -1,0 +1,97 @@
+// Counts of accepted, of refused and of differing calls for each function, and their lines. The counts of function 0 are those of bad records,
+// which have no number and so count as accepted; the last ones are those of all.
+ghost use Prim.Native.Nat.{_≤_};
+
+fn wide(n: u32) -> u64 {
+    n as u64
+}
+
+// One more where it is so.
+fn more(n: u32, so: bool) -> u32 {
+    if !so {
+        return n;
+    }
+    if n < 1000000000 { n + 1 } else { n }
+}
+
+// Where the counts of a function begin.
+fn first(id: u16) -> usize
+    ensures { λ r. ⌜ r ≤ 111 ⌝ }
+{
+    if id < 38 { 3 * (id as usize) } else { 0 }
+}
+
+// Counts a call for its function and for all.
+pub fn count(tally: &mut [u32; 117], id: u16, accepted: bool, same: bool) {
+    let k = first(id);
+    tally[k] = more(tally[k], accepted);
+    tally[k + 1] = more(tally[k + 1], !accepted);
+    tally[k + 2] = more(tally[k + 2], !same);
+    tally[114] = more(tally[114], accepted);
+    tally[115] = more(tally[115], !accepted);
+    tally[116] = more(tally[116], !same);
+}
+
+// The name of a function without prefix and set.
+fn print_name(id: u16) -> bool {
+    match id {
+        1 | 18 => io::write_all(1, b"put"),
+        2 | 19 => io::write_all(1, b"prep"),
+        3 | 20 => io::write_all(1, b"avg"),
+        4 | 21 => io::write_all(1, b"w_avg"),
+        5 | 22 => io::write_all(1, b"mask"),
+        6 | 23 => io::write_all(1, b"blend"),
+        7 | 24 => io::write_all(1, b"morph"),
+        8 | 25 => io::write_all(1, b"w_mask"),
+        9 | 26 => io::write_all(1, b"emu_edge"),
+        10 | 27 => io::write_all(1, b"put_8tap"),
+        11 | 28 => io::write_all(1, b"prep_8tap"),
+        12 | 29 => io::write_all(1, b"put_bilin"),
+        13 | 30 => io::write_all(1, b"prep_bilin"),
+        14 | 31 => io::write_all(1, b"sad_nxn"),
+        15 | 32 => io::write_all(1, b"sad_refine_mv"),
+        16 | 33 => io::write_all(1, b"warp_affine_8x8"),
+        17 | 34 => io::write_all(1, b"warp_affine_8x8t"),
+        35 => io::write_all(1, b"resolve_divisor_32"),
+        36 => io::write_all(1, b"get_shear_params"),
+        37 => io::write_all(1, b"set_affine_mv2d"),
+        _ => io::write_all(1, b"all"),
+    }
+}
+
+fn print_set(id: u16) -> bool {
+    match id {
+        1..=17 => io::write_all(1, b"_8bpc "),
+        18..=34 => io::write_all(1, b"_16bpc "),
+        _ => io::write_all(1, b" "),
+    }
+}
+
+fn print_line(id: u16, accepted: u32, refused: u32, differ: u32) {
+    print_name(id);
+    print_set(id);
+    io::print_decimal(1, accepted as u64 + refused as u64);
+    io::write_all(1, b" calls, ");
+    io::print_decimal(1, wide(accepted));
+    io::write_all(1, b" accepted, ");
+    io::print_decimal(1, wide(refused));
+    io::write_all(1, b" refused, ");
+    io::print_decimal(1, wide(differ));
+    io::write_all(1, b" differ\n");
+}
+
+pub fn print_all(tally: &[u32; 117]) {
+    let mut id = 1;
+    while id < 39 {
+        let k = 3 * (id as usize);
+        print_line(id, tally[k], tally[k + 1], tally[k + 2]);
+        id += 1;
+    }
+}
+
+pub fn print_end(bad: u32, sum: u32) {
+    io::print_decimal(1, wide(bad));
+    io::write_all(1, b" bad records, sum of the list ");
+    io::print_decimal(1, wide(sum));
+    io::write_all(1, b"\n");
+}
