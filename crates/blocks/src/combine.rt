@@ -1,10 +1,10 @@
 // avg, w_avg, mask: two blocks of intermediates combined into pixels.
 ghost use mathlib.Core.Path.{_≡_};
 ghost use mathlib.Core.Bool.{true};
-ghost use Prim.Native.Nat.{_*_, _<_};
+ghost use Prim.Native.Nat.{_+_, _-_, _*_, _<_, _≤_};
 ghost use lib.ListN.{length};
 ghost use lib.Signed.{mag};
-ghost use Rattle.rows.specs.Numbers.{up};
+ghost use Rattle.rows.specs.Numbers.{up, dn};
 ghost use Rattle.rows.specs.Places.{fill, pixel};
 ghost use Rattle.rows.specs.Combine.{avg, weighted, masked, both};
 ghost use Rattle.blocks.specs.Refuse.{lowest, depthOk};
@@ -21,8 +21,6 @@ use rows::combine::avg_row8;
 use rows::combine::avg_row16;
 use rows::combine::mask_row8;
 use rows::combine::mask_row16;
-use rows::combine::w_avg_row8;
-use rows::combine::w_avg_row16;
 
 // The tests of a combination: what else its numbers and its mask must meet comes in as two outcomes.
 fn check_combine(
@@ -139,6 +137,16 @@ pub extern "C" fn hv_avg_16bpc(
     number
 }
 
+// The mask that does the same as the weight k: (4k a + (64 - 4k) b + 4r) >> (n + 2) = (k a + (16 - k) b + r) >> n
+fn mask_of(k: i32) -> u8
+    requires { ⌜ (dn k ≡ 0) × (up k < 64) ⌝ }
+    ensures { λ r. ⌜ r ≡ 4 * up k ⌝ }
+{
+    4 * k as u8
+}
+
+// By one row of such a mask for all rows: bytes that a loop reads are multiplied faster than a number that it is given. A weight below 0 is
+// that of the other block: k a + (16 - k) b = (16 - k) b + (16 - (16 - k)) a.
 fn w_avg_rows8(
     dst: &mut [u8],
     dst_stride: usize,
@@ -151,11 +159,12 @@ fn w_avg_rows8(
     requires { ⌜ Block w h × Rows (length (now dst)) «dst_stride» w h × Rows (length (now tmp1)) w w h × Rows (length (now tmp2)) w w h × (mag weight < 33) ⌝ }
     ensures { λ _. ⌜ now (dst .exit) ≡ fill (now (dst .entry)) «dst_stride» w h (λ i j. both (weighted 255 4 0 weight) (now (tmp1 .entry)) (now (tmp2 .entry)) (j * w) i) ⌝ }
 {
-    let mut y = 0;
-    while y < h {
-        let d = y * dst_stride;
-        w_avg_row8(&mut dst[d..d + w], tmp1, tmp2, y * w, weight);
-        y += 1;
+    if weight < 0 {
+        let m = [mask_of(16 - weight); 64];
+        mask_rows8(dst, dst_stride, tmp2, tmp1, w, h, &m, 0);
+    } else {
+        let m = [mask_of(weight); 64];
+        mask_rows8(dst, dst_stride, tmp1, tmp2, w, h, &m, 0);
     }
 }
 
@@ -174,20 +183,12 @@ fn w_avg_rows16(
     requires { ⌜ Block w h × Rows (length (now dst)) «dst_stride» w h × Rows (length (now tmp1)) w w h × Rows (length (now tmp2)) w w h × (mag weight < 33) × Bits bits bias ⌝ }
     ensures { λ _. ⌜ now (dst .exit) ≡ fill (now (dst .entry)) «dst_stride» w h (λ i j. both (weighted max bits bias weight) (now (tmp1 .entry)) (now (tmp2 .entry)) (j * w) i) ⌝ }
 {
-    let mut y = 0;
-    while y < h {
-        let d = y * dst_stride;
-        w_avg_row16(
-            &mut dst[d..d + w],
-            tmp1,
-            tmp2,
-            y * w,
-            weight,
-            bits,
-            bias,
-            max,
-        );
-        y += 1;
+    if weight < 0 {
+        let m = [mask_of(16 - weight); 64];
+        mask_rows16(dst, dst_stride, tmp2, tmp1, w, h, &m, 0, bits, bias, max);
+    } else {
+        let m = [mask_of(weight); 64];
+        mask_rows16(dst, dst_stride, tmp1, tmp2, w, h, &m, 0, bits, bias, max);
     }
 }
 
@@ -260,6 +261,7 @@ pub extern "C" fn hv_w_avg_16bpc(
     number
 }
 
+// A mask_stride of 0 is one row for all.
 fn mask_rows8(
     dst: &mut [u8],
     dst_stride: usize,
@@ -268,14 +270,15 @@ fn mask_rows8(
     w: usize,
     h: usize,
     mask: &[u8],
+    mask_stride: usize,
 )
-    requires { ⌜ Block w h × Rows (length (now dst)) «dst_stride» w h × Rows (length (now tmp1)) w w h × Rows (length (now tmp2)) w w h × Rows (length (now mask)) w w h ⌝ }
-    ensures { λ _. ⌜ now (dst .exit) ≡ fill (now (dst .entry)) «dst_stride» w h (λ i j. both (masked 255 4 0 (pixel (now (mask .entry)) w i j)) (now (tmp1 .entry)) (now (tmp2 .entry)) (j * w) i) ⌝ }
+    requires { ⌜ Block w h × Rows (length (now dst)) «dst_stride» w h × Rows (length (now tmp1)) w w h × Rows (length (now tmp2)) w w h × ((h - 1) * «mask_stride» + w ≤ length (now mask)) ⌝ }
+    ensures { λ _. ⌜ now (dst .exit) ≡ fill (now (dst .entry)) «dst_stride» w h (λ i j. both (masked 255 4 0 (pixel (now (mask .entry)) «mask_stride» i j)) (now (tmp1 .entry)) (now (tmp2 .entry)) (j * w) i) ⌝ }
 {
     let mut y = 0;
     while y < h {
         let d = y * dst_stride;
-        mask_row8(&mut dst[d..d + w], tmp1, tmp2, y * w, mask, y * w);
+        mask_row8(&mut dst[d..d + w], tmp1, tmp2, y * w, mask, y * mask_stride);
         y += 1;
     }
 }
@@ -288,12 +291,13 @@ fn mask_rows16(
     w: usize,
     h: usize,
     mask: &[u8],
+    mask_stride: usize,
     bits: u32,
     bias: u32,
     max: u16,
 )
-    requires { ⌜ Block w h × Rows (length (now dst)) «dst_stride» w h × Rows (length (now tmp1)) w w h × Rows (length (now tmp2)) w w h × Rows (length (now mask)) w w h × Bits bits bias ⌝ }
-    ensures { λ _. ⌜ now (dst .exit) ≡ fill (now (dst .entry)) «dst_stride» w h (λ i j. both (masked max bits bias (pixel (now (mask .entry)) w i j)) (now (tmp1 .entry)) (now (tmp2 .entry)) (j * w) i) ⌝ }
+    requires { ⌜ Block w h × Rows (length (now dst)) «dst_stride» w h × Rows (length (now tmp1)) w w h × Rows (length (now tmp2)) w w h × ((h - 1) * «mask_stride» + w ≤ length (now mask)) × Bits bits bias ⌝ }
+    ensures { λ _. ⌜ now (dst .exit) ≡ fill (now (dst .entry)) «dst_stride» w h (λ i j. both (masked max bits bias (pixel (now (mask .entry)) «mask_stride» i j)) (now (tmp1 .entry)) (now (tmp2 .entry)) (j * w) i) ⌝ }
 {
     let mut y = 0;
     while y < h {
@@ -304,7 +308,7 @@ fn mask_rows16(
             tmp2,
             y * w,
             mask,
-            y * w,
+            y * mask_stride,
             bits,
             bias,
             max,
@@ -336,7 +340,7 @@ pub extern "C" fn hv_mask_8bpc(
         holds_rows(mask.len(), w, w, h),
     );
     if number == 0 {
-        mask_rows8(dst, dst_stride, tmp1, tmp2, w, h, mask);
+        mask_rows8(dst, dst_stride, tmp1, tmp2, w, h, mask, w);
     }
     number
 }
@@ -374,6 +378,7 @@ pub extern "C" fn hv_mask_16bpc(
             w,
             h,
             mask,
+            w,
             n.bits,
             n.bias,
             n.max,

@@ -15,8 +15,6 @@ use rows::combine::avg_row8;
 use rows::combine::avg_row16;
 use rows::combine::mask_row8;
 use rows::combine::mask_row16;
-use rows::combine::w_avg_row8;
-use rows::combine::w_avg_row16;
 use rows::copy::copy_row8;
 use rows::copy::copy_row16;
 use rows::copy::prep_row8;
@@ -126,15 +124,11 @@ fn run_combine() {
     let mut d8 = [0u8; 2];
     avg_row8(&mut d8, &high, &high, 0);
     row8(b"avg_row8", &d8);
-    w_avg_row8(&mut d8, &high, &low, 0, 32);
-    row8(b"w_avg_row8", &d8);
     mask_row8(&mut d8, &high, &low, 0, &[255u8; 2], 0);
     row8(b"mask_row8", &d8);
     let mut d16 = [0u16; 2];
     avg_row16(&mut d16, &low, &low, 0, 2, 8192, 4095);
     row16(b"avg_row16", &d16);
-    w_avg_row16(&mut d16, &low, &high, 0, -16, 4, 8192, 1023);
-    row16(b"w_avg_row16", &d16);
     mask_row16(&mut d16, &high, &low, 0, &[255u8; 2], 0, 2, 8192, 4095);
     row16(b"mask_row16", &d16);
 }

@@ -1,4 +1,4 @@
-// Two intermediates combined into a pixel: avg, w_avg, mask. A byte is the 16-bit rule at B = 4, P = 0 and the largest pixel 255.
+// Two intermediates combined into a pixel: avg, mask. A byte is the 16-bit rule at B = 4, P = 0 and the largest pixel 255.
 ghost use mathlib.Core.Path.{_≡_};
 ghost use Prim.Native.Nat.{ℕ, _+_, _*_, _^_, _<_, _≤_};
 ghost use lib.IntN.{ℤ, pos, _+ℤ_, _-ℤ_, _*ℤ_};
@@ -6,7 +6,7 @@ ghost use lib.ListN.{length, getD};
 ghost use lib.Signed.{mag, shrZ};
 ghost use Rattle.rows.specs.Numbers.{at};
 ghost use Rattle.rows.specs.Places.{rowOf};
-ghost use Rattle.rows.specs.Combine.{avg, weighted, masked, both};
+ghost use Rattle.rows.specs.Combine.{avg, masked, both};
 use crate::numbers::clip8;
 use crate::numbers::clip16;
 
@@ -33,16 +33,6 @@ pub fn avg_px(a: i16, b: i16, bits: u32, bias: u32, max: u16) -> u16
     clip16(mix(a, b, 1, 2, rounding(1, bits, bias), bits + 1), max)
 }
 
-pub fn w_avg_px(a: i16, b: i16, weight: i32, bits: u32, bias: u32, max: u16) -> u16
-    requires { ⌜ (mag weight < 33) × (bits ≤ 4) × (bias ≤ 8192) ⌝ }
-    ensures { λ r. ⌜ r ≡ weighted max bits bias weight a b ⌝ }
-{
-    clip16(
-        mix(a, b, weight, 16, rounding(8, bits, bias), bits + 4),
-        max,
-    )
-}
-
 pub fn mask_px(a: i16, b: i16, m: u8, bits: u32, bias: u32, max: u16) -> u16
     requires { ⌜ (bits ≤ 4) × (bias ≤ 8192) ⌝ }
     ensures { λ r. ⌜ r ≡ masked max bits bias m a b ⌝ }
@@ -57,13 +47,6 @@ fn avg_px8(a: i16, b: i16) -> u8
     ensures { λ r. ⌜ r ≡ avg 255 4 0 a b ⌝ }
 {
     clip8(mix(a, b, 1, 2, rounding(1, 4, 0), 5))
-}
-
-fn w_avg_px8(a: i16, b: i16, weight: i32) -> u8
-    requires { ⌜ mag weight < 33 ⌝ }
-    ensures { λ r. ⌜ r ≡ weighted 255 4 0 weight a b ⌝ }
-{
-    clip8(mix(a, b, weight, 16, rounding(8, 4, 0), 8))
 }
 
 fn mask_px8(a: i16, b: i16, m: u8) -> u8
@@ -101,39 +84,6 @@ pub fn avg_row16(
     let mut i = 0;
     while i < n {
         dst[i] = avg_px(tmp1[q + i], tmp2[q + i], bits, bias, max);
-        i += 1;
-    }
-}
-
-pub fn w_avg_row8(dst: &mut [u8], tmp1: &[i16], tmp2: &[i16], q: usize, weight: i32)
-    requires { ⌜ (q + length (now dst) ≤ length (now tmp1)) × (q + length (now dst) ≤ length (now tmp2)) × (mag weight < 33) ⌝ }
-    ensures { λ _. ⌜ now (dst .exit) ≡ rowOf (length (now (dst .entry))) (both (weighted 255 4 0 weight) (now (tmp1 .entry)) (now (tmp2 .entry)) q) ⌝ }
-{
-    let n = dst.len();
-    let mut i = 0;
-    while i < n {
-        dst[i] = w_avg_px8(tmp1[q + i], tmp2[q + i], weight);
-        i += 1;
-    }
-}
-
-pub fn w_avg_row16(
-    dst: &mut [u16],
-    tmp1: &[i16],
-    tmp2: &[i16],
-    q: usize,
-    weight: i32,
-    bits: u32,
-    bias: u32,
-    max: u16,
-)
-    requires { ⌜ (q + length (now dst) ≤ length (now tmp1)) × (q + length (now dst) ≤ length (now tmp2)) × (mag weight < 33) × (bits ≤ 4) × (bias ≤ 8192) ⌝ }
-    ensures { λ _. ⌜ now (dst .exit) ≡ rowOf (length (now (dst .entry))) (both (weighted max bits bias weight) (now (tmp1 .entry)) (now (tmp2 .entry)) q) ⌝ }
-{
-    let n = dst.len();
-    let mut i = 0;
-    while i < n {
-        dst[i] = w_avg_px(tmp1[q + i], tmp2[q + i], weight, bits, bias, max);
         i += 1;
     }
 }

@@ -17,6 +17,11 @@ number : (c : tie.After-check-combine) → let a = entry c .args in
     c .check-combine .result ≡ lowest (maskTests true (length (a .dst .now)) (a .dst-stride) t1 t2 (a .w) (a .h) (length (a .mask .now)))
 number c = rw (c .before .holds-rows .ensures) at (c .check-combine .ensures)
 
+mask-rows8-requires : tie.Need-mask-rows8-requires
+mask-rows8-requires c κs =
+    let p = mask-ready _ _ _ _ _ _ _ _ (sym (number (c .before .before)) ∙ c .before .if1 .taken) in
+    (p .1 .0, p .1 .1, p .1 .2, p .1 .3, p .1 .4 .fits)
+
 returns : tie.Need-returns
 returns c =
     let t = c .before .before .before .before in
@@ -28,7 +33,7 @@ hv-mask-8bpc-spec =
     (tie.spec
     (λ c κs. search needs)  -- holds-rows-requires
     (λ c κs. search needs)  -- check-combine-requires
-    (λ c κs. mask-ready _ _ _ _ _ _ _ _ (sym (number (c .before .before)) ∙ c .before .if1 .taken) .1)  -- mask-rows8-requires
+    mask-rows8-requires
     (λ c. search needs)  -- same-length
     returns
     (λ c. (number (c .before), sym (refused _ _ _ (c .if1 .left)))))  -- returns-2

@@ -4,16 +4,17 @@ use lib.ListN.{length}
 use borrow.Author.Needs.{needs}
 use Rattle.rows.specs.Places.{pixel}
 use Rattle.rows.specs.Combine.{masked, both}
+use Rattle.rows.proofs.Laws.Places.{row-fits}
 use Rattle.blocks.proofs.Laws.Rows.{Filled, filled-none, filled-more, filled-all, Turn, turn, row-in}
 use Rattle.blocks.proofs.combine.mask_rows16.Statement.{statement}
 use Rattle.blocks.proofs.combine.mask_rows16.Tie as tie
 
 abbrev Inv-loop : tie.InvT-loop
-Inv-loop dst₀ ds tmp1 tmp2 w h mask bits bias max y₀ dst y =
-    Filled ds w (λ i j. both (masked max bits bias (pixel mask w i j)) tmp1 tmp2 (j * w) i) dst₀ h y dst
+Inv-loop dst₀ ds tmp1 tmp2 w h mask ms bits bias max y₀ dst y =
+    Filled ds w (λ i j. both (masked max bits bias (pixel mask ms i j)) tmp1 tmp2 (j * w) i) dst₀ h y dst
 
 abbrev μ-loop : tie.MeasureT-loop
-μ-loop dst₀ ds tmp1 tmp2 w h mask bits bias max y₀ dst y = h - y
+μ-loop dst₀ ds tmp1 tmp2 w h mask ms bits bias max y₀ dst y = h - y
 
 -- the function's entry, from a turn of the loop
 abbrev entry : tie.In-loop Inv-loop μ-loop → tie.Start Inv-loop μ-loop
@@ -21,10 +22,10 @@ entry c = c .before .before .before .before
 
 row : (c : tie.In-loop Inv-loop μ-loop) → let a = entry c .args in let y = c .before .loop .y in
     Turn (a .dst-stride) (a .w) y (c .before .loop .dst) × (y * a .w + a .w ≤ length (a .tmp1 .now))
-    × (y * a .w + a .w ≤ length (a .tmp2 .now)) × (y * a .w + a .w ≤ length (a .mask .now))
+    × (y * a .w + a .w ≤ length (a .tmp2 .now)) × (y * a .mask-stride + a .w ≤ length (a .mask .now))
 row c =
     let p = entry c .pre in let y = c .before .loop .y in let lt = c .loop-test .taken in
-    (turn 0 (c .before .loop .inv) (p .1) lt, row-in y (p .2) lt, row-in y (p .3) lt, row-in y (p .4) lt)
+    (turn 0 (c .before .loop .inv) (p .1) lt, row-in y (p .2) lt, row-in y (p .3) lt, row-fits _ _ _ _ y (p .4) lt)
 
 loop-again : tie.Need-loop-again Inv-loop μ-loop
 loop-again c =

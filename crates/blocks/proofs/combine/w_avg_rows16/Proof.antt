@@ -1,55 +1,56 @@
-use native.Mathlib.Omega.{arith}
-use Prim.Native.Nat.{_+_, _-_, _*_, _≤_}
-use lib.ListN.{length}
 use borrow.Author.Needs.{needs}
+use native.Mathlib.Omega.{arith}
+use mathlib.Core.Path.{_≡_, _∙_}
+use Prim.Native.Nat.{_<_}
+use lib.IntN.{ℤ, pos, _-ℤ_}
 use mir.Syntax.{w32}
-use mir.Val.{toZ}
-use Rattle.rows.specs.Combine.{weighted, both}
-use Rattle.rows.proofs.Laws.Signed.{back}
-use Rattle.blocks.proofs.Laws.Rows.{Filled, filled-none, filled-more, filled-all, Turn, turn, row-in}
+use mir.Val.{SFits}
+use Rattle.rows.specs.Numbers.{up, dn}
+use Rattle.rows.proofs.Laws.Signed.{back, mag-sub}
+use Rattle.blocks.proofs.Laws.CombineBlocks.{weight-above, weight-below, above-fill, below-fill}
 use Rattle.blocks.proofs.combine.w_avg_rows16.Statement.{statement}
 use Rattle.blocks.proofs.combine.w_avg_rows16.Tie as tie
 
-abbrev Inv-loop : tie.InvT-loop
-Inv-loop dst₀ ds tmp1 tmp2 w h weight bits bias max y₀ dst y =
-    Filled ds w (λ i j. both (weighted max bits bias (toZ w32 weight)) tmp1 tmp2 (j * w) i) dst₀ h y dst
+abbrev partner : tie.Start → ℤ
+partner s = pos 16 -ℤ s .args .weight
 
-abbrev μ-loop : tie.MeasureT-loop
-μ-loop dst₀ ds tmp1 tmp2 w h weight bits bias max y₀ dst y = h - y
+fits : (s : tie.Start) → SFits w32 (partner s)
+fits s = omega (arith, s .pre .4, mag-sub (pos 16) (s .args .weight))
 
--- the function's entry, from a turn of the loop
-abbrev entry : tie.In-loop Inv-loop μ-loop → tie.Start Inv-loop μ-loop
-entry c = c .before .before .before
+below : (c : tie.Then1) → let k = partner (c .before .before) in (dn k ≡ 0) × (up k < 64)
+below c = let s = c .before .before in weight-below (s .args .weight) (rw (back (s .fits .weight)) at (c .if1 .taken)) (s .pre .4)
 
-row : (c : tie.In-loop Inv-loop μ-loop) → let a = entry c .args in let y = c .before .loop .y in
-    Turn (a .dst-stride) (a .w) y (c .before .loop .dst) × (y * a .w + a .w ≤ length (a .tmp1 .now)) × (y * a .w + a .w ≤ length (a .tmp2 .now))
-row c =
-    let p = entry c .pre in let y = c .before .loop .y in let lt = c .loop-test .taken in
-    (turn 0 (c .before .loop .inv) (p .1) lt, row-in y (p .2) lt, row-in y (p .3) lt)
+above : (c : tie.Else1) → let k = c .before .before .args .weight in (dn k ≡ 0) × (up k < 64)
+above c = let s = c .before .before in weight-above (s .args .weight) (rw (back (s .fits .weight)) at (c .if1 .left)) (s .pre .4)
 
-loop-again : tie.Need-loop-again Inv-loop μ-loop
-loop-again c =
-    let t = c .before .before .before .before in
-    let p = entry t .pre in
-    filled-more 0 _ (t .before .loop .inv) (p .0 .w1) (p .1) (t .loop-test .taken) (c .before .before .w-avg-row16 .ensures)
+returns : tie.Need-returns
+returns c =
+    let r = c .before .before in
+    let m = r .before .before .before in
+    let s = m .before .before .before in
+    let v = simp (back (s .fits .weight), back (fits s)) at (m .mask-of .ensures) in
+    r .mask-rows16 .ensures ∙ below-fill _ _ _ _ _ _ _ _ (s .args .tmp1 .now) (s .args .tmp2 .now) (s .args .weight) (omega (arith, s .pre)) (s .pre .0 .w64) v (below (m .before) .0)
+
+returns-2 : tie.Need-returns-2
+returns-2 c =
+    let r = c .before .before in
+    let m = r .before .before .before in
+    let s = m .before .before .before in
+    let v = simp (back (s .fits .weight)) at (m .mask-of2 .ensures) in
+    r .mask-rows162 .ensures ∙ above-fill _ _ _ _ _ _ _ _ (s .args .tmp1 .now) (s .args .tmp2 .now) (s .args .weight) (omega (arith, s .pre)) (s .pre .0 .w64) v (above (m .before) .0)
 
 pub w-avg-rows16-spec : {M : Type 1} → statement M
 w-avg-rows16-spec =
     tie.close
     (tie.spec
-    Inv-loop
-    μ-loop
-    (λ c. filled-none 0 _ _ _ _ _ (omega (arith, c .before .pre)))  -- loop-holds
-    (λ c. omega (arith, row c))  -- mul-d
-    (λ c. omega (arith, row c))  -- add-w-avg-row16
-    (λ c. omega (arith, row c))  -- mul-w-avg-row16
-    (λ c. omega (arith, row c))  -- sub-w-avg-row16
-    (λ c. omega (arith, row c))  -- part-w-avg-row16-start
-    (λ c. omega (arith, row c))  -- part-w-avg-row16-end
-    (λ c. omega (arith, row (c .before)))  -- mul-w-avg-row16-2
-    (λ c κs. rw (back (entry (c .before) .fits .weight)) (omega (arith, row (c .before))))  -- w-avg-row16-requires
-    (λ c. search needs)  -- add-y
-    (λ c. search needs)  -- loop-less
-    loop-again
-    (λ c. c .before .loop .inv .len)  -- same-length
-    (λ c. rw (back (c .before .before .before .fits .weight)) at (filled-all (c .before .loop .inv) (c .loop-test .left))))  -- returns
+    (λ c. let s = c .before .before in simp (back (s .fits .weight)) (fits s))  -- sub-mask-of
+    (λ c κs. let s = c .before .before in simp (back (s .fits .weight), back (fits s)) (below c))  -- mask-of-requires
+    (λ c. search needs)  -- slice-aggregate-mask-rows16
+    (λ c κs. search needs)  -- mask-rows16-requires
+    (λ c κs. let s = c .before .before in simp (back (s .fits .weight)) (above c))  -- mask-of-requires-2
+    (λ c. search needs)  -- slice-aggregate-mask-rows16-2
+    (λ c κs. search needs)  -- mask-rows16-requires-2
+    (λ c. search needs)  -- same-length
+    returns
+    (λ c. search needs)  -- same-length-2
+    returns-2)
