@@ -133,15 +133,8 @@ fn is_near(f: &[i8; 8]) -> bool
     s <= 128
 }
 
-// Whether a row of w numbers goes the near way: one below least isn't worth the test of its taps.
-fn goes_near(f: &[i8; 8], w: usize, least: usize) -> bool
-    ensures { λ b. ⌜ (b ≡ true → Near (now (f .entry))) ⌝ }
-{
-    if w < least { false } else { is_near(f) }
-}
-
-// The same for a row of bytes, whose sums are also rounded in sixteen bits.
-fn goes_near8(f: &[i8; 8], w: usize, least: usize, r: u32, n: u32) -> bool
+// The same for bytes, whose sums are also rounded in sixteen bits.
+fn is_near8(f: &[i8; 8], r: u32, n: u32) -> bool
     ensures { λ b. ⌜ (b ≡ true → Near (now (f .entry)) × (r ≤ 127) × (n ≤ 15)) ⌝ }
 {
     if r > 127 {
@@ -149,7 +142,7 @@ fn goes_near8(f: &[i8; 8], w: usize, least: usize, r: u32, n: u32) -> bool
     } else if n > 15 {
         false
     } else {
-        goes_near(f, w, least)
+        is_near(f)
     }
 }
 
@@ -490,7 +483,9 @@ pub fn tap_row8(dst: &mut [u8], src: &[u8], o: usize, step: usize, f: &[i8; 8], 
     ensures { λ _. ⌜ now (dst .exit) ≡ rowOf (length (now (dst .entry)))
         (λ i. clip 255 (tapped (now (f .entry)) r n (λ t. px (now (src .entry)) (o + i + t * step)))) ⌝ }
 {
-    if goes_near8(f, dst.len(), 8, r, n) {
+    if dst.len() < 8 {
+        tap_row8_by(dst, src, o, step, f, false, r, n);
+    } else if is_near8(f, r, n) {
         near_row8(dst, src, o, step, f, r, n);
     } else {
         tap_row8_by(dst, src, o, step, f, false, r, n);
@@ -535,7 +530,9 @@ pub fn tap_row16(
     ensures { λ _. ⌜ now (dst .exit) ≡ rowOf (length (now (dst .entry)))
         (λ i. clip max (tapped (now (f .entry)) r n (λ t. px (now (src .entry)) (o + i + t * step)))) ⌝ }
 {
-    if goes_near(f, dst.len(), 8) {
+    if dst.len() < 8 {
+        tap_row16_by(dst, src, o, step, f, false, r, n, max);
+    } else if is_near(f) {
         tap_row16_by(dst, src, o, step, f, true, r, n, max);
     } else {
         tap_row16_by(dst, src, o, step, f, false, r, n, max);
@@ -603,7 +600,9 @@ pub fn tap_mid_row8(
     ensures { λ _. ⌜ now (tmp .exit) ≡ rowOf (length (now (tmp .entry)))
         (λ i. minus16 (low16 (tapped (now (f .entry)) r n (λ t. px (now (src .entry)) (o + i + t * step)))) bias) ⌝ }
 {
-    if goes_near8(f, tmp.len(), 8, r, n) {
+    if tmp.len() < 8 {
+        tap_mid_row8_by(tmp, src, o, step, f, false, r, n, bias);
+    } else if is_near8(f, r, n) {
         near_mid_row8(tmp, src, o, step, f, r, n, bias);
     } else {
         tap_mid_row8_by(tmp, src, o, step, f, false, r, n, bias);
@@ -648,7 +647,9 @@ pub fn tap_mid_row16(
     ensures { λ _. ⌜ now (tmp .exit) ≡ rowOf (length (now (tmp .entry)))
         (λ i. minus16 (low16 (tapped (now (f .entry)) r n (λ t. px (now (src .entry)) (o + i + t * step)))) bias) ⌝ }
 {
-    if goes_near(f, tmp.len(), 8) {
+    if tmp.len() < 8 {
+        tap_mid_row16_by(tmp, src, o, step, f, false, r, n, bias);
+    } else if is_near(f) {
         tap_mid_row16_by(tmp, src, o, step, f, true, r, n, bias);
     } else {
         tap_mid_row16_by(tmp, src, o, step, f, false, r, n, bias);
@@ -684,7 +685,9 @@ pub fn mid_row8(dst: &mut [u8], mid: &[i16], o: usize, step: usize, f: &[i8; 8],
     ensures { λ _. ⌜ now (dst .exit) ≡ rowOf (length (now (dst .entry)))
         (λ i. clip 255 (tapped (now (f .entry)) r n (λ t. at (now (mid .entry)) (o + i + t * step)))) ⌝ }
 {
-    if goes_near(f, dst.len(), 8) {
+    if dst.len() < 8 {
+        mid_row8_by(dst, mid, o, step, f, false, r, n);
+    } else if is_near(f) {
         mid_row8_by(dst, mid, o, step, f, true, r, n);
     } else {
         mid_row8_by(dst, mid, o, step, f, false, r, n);
@@ -729,7 +732,9 @@ pub fn mid_row16(
     ensures { λ _. ⌜ now (dst .exit) ≡ rowOf (length (now (dst .entry)))
         (λ i. clip max (tapped (now (f .entry)) r n (λ t. at (now (mid .entry)) (o + i + t * step)))) ⌝ }
 {
-    if goes_near(f, dst.len(), 8) {
+    if dst.len() < 8 {
+        mid_row16_by(dst, mid, o, step, f, false, r, n, max);
+    } else if is_near(f) {
         mid_row16_by(dst, mid, o, step, f, true, r, n, max);
     } else {
         mid_row16_by(dst, mid, o, step, f, false, r, n, max);
@@ -775,7 +780,9 @@ pub fn mid_prep_row(
     ensures { λ _. ⌜ now (tmp .exit) ≡ rowOf (length (now (tmp .entry)))
         (λ i. minus16 (low16 (tapped (now (f .entry)) r n (λ t. at (now (mid .entry)) (o + i + t * step)))) bias) ⌝ }
 {
-    if goes_near(f, tmp.len(), 8) {
+    if tmp.len() < 8 {
+        mid_prep_row_by(tmp, mid, o, step, f, false, r, n, bias);
+    } else if is_near(f) {
         mid_prep_row_by(tmp, mid, o, step, f, true, r, n, bias);
     } else {
         mid_prep_row_by(tmp, mid, o, step, f, false, r, n, bias);

@@ -1,7 +1,8 @@
 use lib.Dec.{T}
-use mathlib.Core.Path.{sym, subst}
+use mathlib.Core.Path.{_∙_, sym, subst}
 use native.Mathlib.Omega.{arith}
 use borrow.Author.Needs.{needs}
+use borrow.Author.Tests.{leb-true}
 use Rattle.rows.proofs.subpel.tap_row16.Statement.{statement}
 use Rattle.rows.proofs.subpel.tap_row16.Tie as tie
 
@@ -9,10 +10,13 @@ pub tap-row16-spec : {M : Type 1} → statement M
 tap-row16-spec =
     tie.close
     (tie.spec
-    (λ c κs. search needs)  -- goes-near-requires
-    (λ c κs. (omega arith, omega arith, omega arith, λ e. c .before .before .goes-near .ensures (c .before .if1 .taken)))  -- tap-row16-by-requires
-    (λ c κs. (omega arith, omega arith, omega arith, λ e. absurd (subst T (sym e) tt)))  -- tap-row16-by-requires-2
+    (λ c κs. (omega arith, omega arith, omega arith, λ e. absurd (subst T (sym e) tt)))  -- tap-row16-by-requires
+    (λ c κs. search needs)  -- is-near-requires
+    (λ c κs. (omega arith, omega arith, omega arith, λ e. leb-true _ _ (sym (c .before .before .is-near .ensures) ∙ c .before .if2 .taken)))  -- tap-row16-by-requires-2
+    (λ c κs. (omega arith, omega arith, omega arith, λ e. absurd (subst T (sym e) tt)))  -- tap-row16-by-requires-3
     (λ c. search needs)  -- same-length
     (λ c. search needs)  -- returns
     (λ c. search needs)  -- same-length
-    (λ c. search needs))  -- returns-2
+    (λ c. search needs)  -- returns-2
+    (λ c. search needs)  -- same-length
+    (λ c. search needs))  -- returns-3
