@@ -2,7 +2,7 @@
 ghost use mathlib.Core.Path.{_≡_};
 ghost use mathlib.Core.Bool.{true};
 ghost use lib.Dec.{leb};
-ghost use Prim.Native.Nat.{_+_, _*_, _^_, _<_, _≤_};
+ghost use Prim.Native.Nat.{_+_, _*_, _/_, _^_, _<_, _≤_};
 ghost use lib.IntN.{pos, natAbs, _+ℤ_, _*ℤ_};
 ghost use lib.ListN.{length, getD};
 ghost use lib.Signed.{mag, shrZ};
@@ -133,13 +133,13 @@ fn is_near(f: &[i8; 8]) -> bool
     s <= 128
 }
 
-// The same for bytes, whose sums are also rounded in sixteen bits.
-fn is_near8(f: &[i8; 8], r: u32, n: u32) -> bool
-    ensures { λ b. ⌜ (b ≡ true → Near (now (f .entry)) × (r ≤ 127) × (n ≤ 15)) ⌝ }
+// The same where sums are also rounded in sixteen bits: r is small, and n most at most.
+fn is_short(f: &[i8; 8], r: u32, n: u32, most: u32) -> bool
+    ensures { λ b. ⌜ (b ≡ true → Near (now (f .entry)) × (r ≤ 127) × (n ≤ most)) ⌝ }
 {
     if r > 127 {
         false
-    } else if n > 15 {
+    } else if n > most {
         false
     } else {
         is_near(f)
@@ -212,36 +212,76 @@ fn near_u8(src: &[u8], o: usize, step: usize, f: &[i8; 8]) -> i16
     s
 }
 
+fn near_highs_u16(src: &[u16], o: usize, step: usize, f: &[i8; 8]) -> i16
+    requires { ⌜ (o + 7 * step < length (now src)) × Near (now f) ⌝ }
+    ensures { λ r. ⌜ (r ≡ S (now (f .entry)) (λ t. shrZ (px (now (src .entry)) (o + t * step)) 256)) × (natAbs r ≤ 32640) ⌝ }
+{
+    let mut s: i16 = 0;
+    let mut j = 0;
+    while j < 8 {
+        s = near_high_u16(s, f[j], src[o + j * step]);
+        j += 1;
+    }
+    s
+}
+
+fn near_lows_u16(src: &[u16], o: usize, step: usize, f: &[i8; 8]) -> i16
+    requires { ⌜ (o + 7 * step < length (now src)) × Near (now f) ⌝ }
+    ensures { λ r. ⌜ (r ≡ S (now (f .entry)) (λ t. pos (modZ (px (now (src .entry)) (o + t * step)) 256))) × (natAbs r ≤ 32640) ⌝ }
+{
+    let mut s: i16 = 0;
+    let mut j = 0;
+    while j < 8 {
+        s = near_low_u16(s, f[j], src[o + j * step]);
+        j += 1;
+    }
+    s
+}
+
+fn near_highs_i16(src: &[i16], o: usize, step: usize, f: &[i8; 8]) -> i16
+    requires { ⌜ (o + 7 * step < length (now src)) × Near (now f) ⌝ }
+    ensures { λ r. ⌜ (r ≡ S (now (f .entry)) (λ t. shrZ (at (now (src .entry)) (o + t * step)) 256)) × (natAbs r ≤ 32640) ⌝ }
+{
+    let mut s: i16 = 0;
+    let mut j = 0;
+    while j < 8 {
+        s = near_high_i16(s, f[j], src[o + j * step]);
+        j += 1;
+    }
+    s
+}
+
+fn near_lows_i16(src: &[i16], o: usize, step: usize, f: &[i8; 8]) -> i16
+    requires { ⌜ (o + 7 * step < length (now src)) × Near (now f) ⌝ }
+    ensures { λ r. ⌜ (r ≡ S (now (f .entry)) (λ t. pos (modZ (at (now (src .entry)) (o + t * step)) 256))) × (natAbs r ≤ 32640) ⌝ }
+{
+    let mut s: i16 = 0;
+    let mut j = 0;
+    while j < 8 {
+        s = near_low_i16(s, f[j], src[o + j * step]);
+        j += 1;
+    }
+    s
+}
+
 fn near_i16(src: &[i16], o: usize, step: usize, f: &[i8; 8]) -> i32
     requires { ⌜ (o + 7 * step < length (now src)) × Near (now f) ⌝ }
     ensures { λ r. ⌜ (r ≡ S (now (f .entry)) (λ t. at (now (src .entry)) (o + t * step))) × (mag r < 2 ^ 30) ⌝ }
 {
-    let mut high: i16 = 0;
-    let mut low: i16 = 0;
-    let mut j = 0;
-    while j < 8 {
-        let x = src[o + j * step];
-        high = near_high_i16(high, f[j], x);
-        low = near_low_i16(low, f[j], x);
-        j += 1;
-    }
-    near_whole(high, low)
+    near_whole(
+        near_highs_i16(src, o, step, f),
+        near_lows_i16(src, o, step, f),
+    )
 }
 
 fn near_u16(src: &[u16], o: usize, step: usize, f: &[i8; 8]) -> i32
     requires { ⌜ (o + 7 * step < length (now src)) × Near (now f) ⌝ }
     ensures { λ r. ⌜ (r ≡ S (now (f .entry)) (λ t. px (now (src .entry)) (o + t * step))) × (mag r < 2 ^ 30) ⌝ }
 {
-    let mut high: i16 = 0;
-    let mut low: i16 = 0;
-    let mut j = 0;
-    while j < 8 {
-        let x = src[o + j * step];
-        high = near_high_u16(high, f[j], x);
-        low = near_low_u16(low, f[j], x);
-        j += 1;
-    }
-    near_whole(high, low)
+    near_whole(
+        near_highs_u16(src, o, step, f),
+        near_lows_u16(src, o, step, f),
+    )
 }
 
 // S, the near way if near says so.
@@ -273,6 +313,23 @@ fn near_rounded(s: i16, r: u32, n: u32) -> i16
     ensures { λ v. ⌜ v ≡ shrZ (s +ℤ pos r) (2 ^ n) ⌝ }
 {
     (s + r as i16) >> n
+}
+
+// 256 high >> n, and part
+fn near_join(high: i16, part: i16, n: u32) -> i32
+    requires { ⌜ (natAbs high ≤ 32640) × (n ≤ 8) ⌝ }
+    ensures { λ v. ⌜ v ≡ high *ℤ pos (256 / 2 ^ n) +ℤ part ⌝ }
+{
+    let up = 256u32 >> n;
+    high as i32 * up as i32 + part as i32
+}
+
+// The low sixteen bits of (256 high + low + r) >> n, minus the bias, wrapping: no step needs more than sixteen bits of the one before.
+fn near_kept(high: i16, low: i16, r: u32, n: u32, bias: i16) -> i16
+    requires { ⌜ (natAbs high ≤ 32640) × (natAbs low ≤ 32640) × (r ≤ 127) × (n ≤ 8) ⌝ }
+    ensures { λ v. ⌜ v ≡ minus16 (low16 (shrZ (high *ℤ pos 256 +ℤ low +ℤ pos r) (2 ^ n))) bias ⌝ }
+{
+    wrapping_sub16(keep16(near_join(high, near_rounded(low, r, n), n)), bias)
 }
 
 // (S + r) >> n of bytes, the near way if near says so.
@@ -336,10 +393,20 @@ fn tap_mid_px16(
     n: u32,
     bias: i16,
 ) -> i16
-    requires { ⌜ (o + 7 * step < length (now src)) × (r < 2 ^ 20) × (n < 32) × (near ≡ true → Near (now f)) ⌝ }
+    requires { ⌜ (o + 7 * step < length (now src)) × (r < 2 ^ 20) × (n < 32) × (near ≡ true → Near (now f) × (r ≤ 127) × (n ≤ 8)) ⌝ }
     ensures { λ v. ⌜ v ≡ minus16 (low16 (tapped (now (f .entry)) r n (λ t. px (now (src .entry)) (o + t * step)))) bias ⌝ }
 {
-    kept(sum_u16(src, o, step, f, near), r, n, bias)
+    if near {
+        near_kept(
+            near_highs_u16(src, o, step, f),
+            near_lows_u16(src, o, step, f),
+            r,
+            n,
+            bias,
+        )
+    } else {
+        kept(taps_u16(src, o, step, f), r, n, bias)
+    }
 }
 
 fn mid_px8(mid: &[i16], o: usize, step: usize, f: &[i8; 8], near: bool, r: u32, n: u32) -> u8
@@ -375,10 +442,20 @@ fn mid_prep_px(
     n: u32,
     bias: i16,
 ) -> i16
-    requires { ⌜ (o + 7 * step < length (now mid)) × (r < 2 ^ 20) × (n < 32) × (near ≡ true → Near (now f)) ⌝ }
+    requires { ⌜ (o + 7 * step < length (now mid)) × (r < 2 ^ 20) × (n < 32) × (near ≡ true → Near (now f) × (r ≤ 127) × (n ≤ 8)) ⌝ }
     ensures { λ v. ⌜ v ≡ minus16 (low16 (tapped (now (f .entry)) r n (λ t. at (now (mid .entry)) (o + t * step)))) bias ⌝ }
 {
-    kept(sum_i16(mid, o, step, f, near), r, n, bias)
+    if near {
+        near_kept(
+            near_highs_i16(mid, o, step, f),
+            near_lows_i16(mid, o, step, f),
+            r,
+            n,
+            bias,
+        )
+    } else {
+        kept(taps_i16(mid, o, step, f), r, n, bias)
+    }
 }
 
 // Eight pixels of a row by near taps, as one: no source can overlap what a function returns, so the compiler tests for nothing.
@@ -485,7 +562,7 @@ pub fn tap_row8(dst: &mut [u8], src: &[u8], o: usize, step: usize, f: &[i8; 8], 
 {
     if dst.len() < 8 {
         tap_row8_by(dst, src, o, step, f, false, r, n);
-    } else if is_near8(f, r, n) {
+    } else if is_short(f, r, n, 15) {
         near_row8(dst, src, o, step, f, r, n);
     } else {
         tap_row8_by(dst, src, o, step, f, false, r, n);
@@ -602,7 +679,7 @@ pub fn tap_mid_row8(
 {
     if tmp.len() < 8 {
         tap_mid_row8_by(tmp, src, o, step, f, false, r, n, bias);
-    } else if is_near8(f, r, n) {
+    } else if is_short(f, r, n, 15) {
         near_mid_row8(tmp, src, o, step, f, r, n, bias);
     } else {
         tap_mid_row8_by(tmp, src, o, step, f, false, r, n, bias);
@@ -620,7 +697,7 @@ fn tap_mid_row16_by(
     n: u32,
     bias: i16,
 )
-    requires { ⌜ (o + length (now tmp) + 7 * step ≤ length (now src)) × (r < 2 ^ 20) × (n < 32) × (near ≡ true → Near (now f)) ⌝ }
+    requires { ⌜ (o + length (now tmp) + 7 * step ≤ length (now src)) × (r < 2 ^ 20) × (n < 32) × (near ≡ true → Near (now f) × (r ≤ 127) × (n ≤ 8)) ⌝ }
     ensures { λ _. ⌜ now (tmp .exit) ≡ rowOf (length (now (tmp .entry)))
         (λ i. minus16 (low16 (tapped (now (f .entry)) r n (λ t. px (now (src .entry)) (o + i + t * step)))) bias) ⌝ }
 {
@@ -649,7 +726,7 @@ pub fn tap_mid_row16(
 {
     if tmp.len() < 8 {
         tap_mid_row16_by(tmp, src, o, step, f, false, r, n, bias);
-    } else if is_near(f) {
+    } else if is_short(f, r, n, 8) {
         tap_mid_row16_by(tmp, src, o, step, f, true, r, n, bias);
     } else {
         tap_mid_row16_by(tmp, src, o, step, f, false, r, n, bias);
@@ -752,7 +829,7 @@ fn mid_prep_row_by(
     n: u32,
     bias: i16,
 )
-    requires { ⌜ (o + length (now tmp) + 7 * step ≤ length (now mid)) × (r < 2 ^ 20) × (n < 32) × (near ≡ true → Near (now f)) ⌝ }
+    requires { ⌜ (o + length (now tmp) + 7 * step ≤ length (now mid)) × (r < 2 ^ 20) × (n < 32) × (near ≡ true → Near (now f) × (r ≤ 127) × (n ≤ 8)) ⌝ }
     ensures { λ _. ⌜ now (tmp .exit) ≡ rowOf (length (now (tmp .entry)))
         (λ i. minus16 (low16 (tapped (now (f .entry)) r n (λ t. at (now (mid .entry)) (o + i + t * step)))) bias) ⌝ }
 {
@@ -782,7 +859,7 @@ pub fn mid_prep_row(
 {
     if tmp.len() < 8 {
         mid_prep_row_by(tmp, mid, o, step, f, false, r, n, bias);
-    } else if is_near(f) {
+    } else if is_short(f, r, n, 8) {
         mid_prep_row_by(tmp, mid, o, step, f, true, r, n, bias);
     } else {
         mid_prep_row_by(tmp, mid, o, step, f, false, r, n, bias);

@@ -1,13 +1,14 @@
 -- Sums by near taps: their sizes sum to 128 at most, so each part of a sum of bytes is within 128 * 255 of 0, which sixteen bits hold.
 -- Assumes nothing.
-use mathlib.Core.Path.{_≡_, refl, ap, ap₂, _∙_}
+use mathlib.Core.Path.{_≡_, refl, sym, ap, ap₂, _∙_}
 use mathlib.Core.List.{List}
 use Prim.Native.Nat.{ℕ, zero, suc, _+_, _-_, _*_, _/_, _%_, _^_, _≤_, _<_}
-use native.Mathlib.Nat.{le-refl, zero-add, suc-add}
+use native.Mathlib.Nat.{le-refl, zero-add, suc-add, div-add-mod', mod-lt, mul-div-cancel}
 use native.Mathlib.Numerals.{add-one}
 use native.Mathlib.Omega.{arith}
-use lib.IntN.{ℤ, pos, negsuc, natAbs, _+ℤ_, _-ℤ_, _*ℤ_}
+use lib.IntN.{ℤ, pos, negsuc, natAbs, _+ℤ_, _-ℤ_, _*ℤ_, +ℤ-assoc}
 use lib.ListN.{getD}
+use lib.Pow.{pow-pos, pow-add}
 use lib.Signed.{shrZ}
 use mir.Syntax.{w8, w16}
 use mir.Val.{SFits, toZ, ofZ}
@@ -16,7 +17,7 @@ use mir.Facts.{sfits-widen}
 use Rattle.rows.specs.Numbers.{at, modZ, sum, sumZ, up, dn}
 use Rattle.rows.specs.Places.{rowOf}
 use Rattle.rows.specs.Subpel.{S, Near}
-use Rattle.rows.proofs.Laws.Places.{row-same, getD-rowOf}
+use Rattle.rows.proofs.Laws.Places.{row-same, row-of, getD-rowOf}
 use Rattle.rows.proofs.Laws.Signed.{abs-add, fit-abs, eq-of, add-parts, mul-up, mul-dn, mul-parts, sub-parts, mag-lt, fit}
 
 -- a tap, widened to sixteen bits
@@ -165,18 +166,69 @@ high-up (negsuc n) f =
     fit w16
     (mag-lt (negsuc (n / 256) *ℤ pos 256) 32768 (omega (arith, mul-up (negsuc (n / 256)) 256)) (omega (arith, f .sfits, mul-dn (negsuc (n / 256)) 256)))
 
--- two locals of sixteen bits, for the high bytes and for the low ones
-pub record NearBoth (f : List ℤ) (x : ℕ → ℤ) (j h l : ℕ) : Type 0 where
-  pub high : NearSum f (highs x) j h
-  pub low : NearSum f (lows x) j l
-
-pub both-none : (f : List ℤ) (x : ℕ → ℤ) → NearBoth f x 0 0 0
-both-none f x = record { high = near-none f (highs x); low = near-none f (lows x) }
-
-pub both-all : {f : List ℤ} {x : ℕ → ℤ} {j h l : ℕ} {r : ℤ} → NearBoth f x j h l → 8 ≤ j → r ≡ toZ w16 h *ℤ pos 256 +ℤ toZ w16 l → r ≡ S f x
-both-all {f} {x} p k e = e ∙ ap₂ (λ (a b : ℤ). a *ℤ pos 256 +ℤ b) (near-all (p .high) k .0) (near-all (p .low) k .0) ∙ whole-sum f x
-
 -- a copy of a row that was made apart
 pub row-copied : {A : Type 0} (z : A) (g : ℕ → A) {n m : ℕ} {l d : List A} → n ≡ m → d ≡ rowOf n (λ k. getD l k z) → l ≡ rowOf m g → d ≡ rowOf n g
 row-copied {A} z g {n} {m} {l} e p q =
     p ∙ row-same z n (λ k. getD l k z) g (λ i h. ap (λ (x : List A). getD x i z) q ∙ getD-rowOf z m g i (omega arith))
+
+-- ---- a shift that rounds down, of a number that is known as q m + r
+quotient : (q : ℤ) (m r : ℕ) → r < m → shrZ (q *ℤ pos m +ℤ pos r) m ≡ q
+quotient (pos a) m r h = ap pos (row-of m r a h)
+quotient (negsuc a) m r h =
+    let e : negsuc a *ℤ pos m +ℤ pos r ≡ negsuc (a * m + (m - 1 - r)) =
+    eq-of (negsuc a *ℤ pos m +ℤ pos r) (negsuc (a * m + (m - 1 - r)))
+    (omega (arith, add-parts (negsuc a *ℤ pos m) (pos r), mul-up (negsuc a) m, mul-dn (negsuc a) m)) in
+    ap (λ (z : ℤ). shrZ z m) e ∙ ap negsuc (row-of m (m - 1 - r) a (omega arith))
+
+-- each number is so
+divided : (z : ℤ) (m : ℕ) → 0 < m → (shrZ z m *ℤ pos m +ℤ pos (modZ z m) ≡ z) × (modZ z m < m)
+divided (pos n) m h = (ap pos (div-add-mod' n m), mod-lt n h)
+divided (negsuc n) m h = (
+  eq-of (negsuc (n / m) *ℤ pos m +ℤ pos (m - 1 - n % m)) (negsuc n)
+      (omega
+      (arith, add-parts (negsuc (n / m) *ℤ pos m) (pos (m - 1 - n % m)), mul-up (negsuc (n / m)) m, mul-dn (negsuc (n / m)) m, div-add-mod' n m, mod-lt n h)),
+  omega (arith, mod-lt n h),
+)
+
+-- h k m + (q m + r) is (h k + q) m + r
+gathered : (h q : ℤ) (k m r : ℕ) → h *ℤ pos (k * m) +ℤ (q *ℤ pos m +ℤ pos r) ≡ (h *ℤ pos k +ℤ q) *ℤ pos m +ℤ pos r
+gathered h q k m r =
+    let a = h *ℤ pos k +ℤ q in
+    let e : up a + dn h * k + dn q ≡ dn a + up h * k + up q = omega (arith, add-parts (h *ℤ pos k) q, mul-up h k, mul-dn h k) in
+    eq-of (h *ℤ pos (k * m) +ℤ (q *ℤ pos m +ℤ pos r)) (a *ℤ pos m +ℤ pos r)
+    (omega (
+      arith,
+      add-parts (h *ℤ pos (k * m)) (q *ℤ pos m +ℤ pos r),
+      add-parts (q *ℤ pos m) (pos r),
+      add-parts (a *ℤ pos m) (pos r),
+      mul-up h (k * m),
+      mul-dn h (k * m),
+      mul-up q m,
+      mul-dn q m,
+      mul-up a m,
+      mul-dn a m,
+      ap (λ (x : ℕ). x * m) e,
+    ))
+
+-- what m divides is shifted apart
+pub shr-apart : (h y : ℤ) (k m : ℕ) → 0 < m → shrZ (h *ℤ pos (k * m) +ℤ y) m ≡ h *ℤ pos k +ℤ shrZ y m
+shr-apart h y k m b =
+    let d = divided y m b in
+    ap (λ (v : ℤ). shrZ (h *ℤ pos (k * m) +ℤ v) m) (sym (d .0))
+    ∙ ap (λ (v : ℤ). shrZ v m) (gathered h (shrZ y m) k m (modZ y m))
+    ∙ quotient (h *ℤ pos k +ℤ shrZ y m) m (modZ y m) (d .1)
+
+-- 2^n divides 256
+halves : (n : ℕ) → n ≤ 8 → (256 / 2 ^ n * 2 ^ n ≡ 256) × (0 < 2 ^ n)
+halves n h =
+    let b : 0 < 2 ^ n = pow-pos n in
+    let k : 8 - n + n ≡ 8 = omega arith in
+    let e : 2 ^ (8 - n) * 2 ^ n ≡ 256 = sym (pow-add 2 (8 - n) n) ∙ ap (λ (x : ℕ). 2 ^ x) k in
+    (ap (λ (x : ℕ). x / 2 ^ n * 2 ^ n) (sym e) ∙ ap (λ (x : ℕ). x * 2 ^ n) (mul-div-cancel (2 ^ (8 - n)) b) ∙ e, b)
+
+pub joined-shr : (h l : ℤ) (r n : ℕ) → n ≤ 8 → shrZ (h *ℤ pos 256 +ℤ l +ℤ pos r) (2 ^ n) ≡ h *ℤ pos (256 / 2 ^ n) +ℤ shrZ (l +ℤ pos r) (2 ^ n)
+joined-shr h l r n b =
+    let p = halves n b in
+    ap (λ (v : ℤ). shrZ v (2 ^ n)) (+ℤ-assoc (h *ℤ pos 256) l (pos r))
+    ∙ ap (λ (k : ℕ). shrZ (h *ℤ pos k +ℤ (l +ℤ pos r)) (2 ^ n)) (sym (p .0))
+    ∙ shr-apart h (l +ℤ pos r) (256 / 2 ^ n) (2 ^ n) (p .1)

@@ -1,73 +1,33 @@
+use mathlib.Core.Path.{_∙_}
 use native.Mathlib.Omega.{arith}
-use Prim.Native.Nat.{_+_, _*_, _-_, _≤_}
-use mir.Syntax.{w8, w16, w32}
+use mir.Syntax.{w16, w32}
 use mir.Val.{SFits}
-use Rattle.rows.specs.Numbers.{at}
-use Rattle.rows.proofs.Laws.Signed.{back, fit}
-use Rattle.rows.proofs.Laws.Sum.{within}
-use Rattle.rows.proofs.Laws.Near.{NearBoth, both-none, both-all, near-room, near-more, near-all}
+use borrow.Author.Needs.{needs}
+use Rattle.rows.proofs.Laws.Signed.{back}
+use Rattle.rows.proofs.Laws.Near.{whole-sum}
 use Rattle.rows.proofs.subpel.near_i16.Statement.{statement}
 use Rattle.rows.proofs.subpel.near_i16.Tie as tie
 
--- high and low hold the bits of the sums of the first j taps
-abbrev Inv-loop : tie.InvT-loop
-Inv-loop src o step f high₀ low₀ j₀ high low j = NearBoth f (λ k. at src (o + k * step)) j high low
+whole-requires : tie.Need-near-whole-requires
+whole-requires c κs =
+    let fh : SFits w16 (c .before .near-highs-i16 .result) = omega arith in
+    let fl : SFits w16 (c .near-lows-i16 .result) = omega arith in
+    rw (back fh, back fl) (c .before .near-highs-i16 .ensures .1, c .near-lows-i16 .ensures .1)
 
-abbrev μ-loop : tie.MeasureT-loop
-μ-loop src o step f high₀ low₀ j₀ high low j = 8 - j
-
--- place j is within src
-place : (c : tie.In-loop Inv-loop μ-loop) → c .before .loop .j * c .before .before .args .step ≤ 7 * c .before .before .args .step
-place c = within (c .before .loop .j) (c .before .before .args .step) (c .loop-test .taken)
-
-high-requires : tie.Need-near-high-i16-requires Inv-loop μ-loop
-high-requires c κs =
-    let h = c .before .before .before in
-    let a = h .before in
-    let ff = back (fit w8 {z = at (a .args .f .now) (h .loop .j)} (c .near-high-i16-arg .given)) in
-    rw ff (near-room (h .loop .inv .high) (omega arith) (a .pre .1))
-
-low-requires : tie.Need-near-low-i16-requires Inv-loop μ-loop
-low-requires c κs =
-    let h = c .before .before .before .before .before in
-    let a = h .before in
-    let ff = back (fit w8 {z = at (a .args .f .now) (h .loop .j)} (c .near-low-i16-arg .given)) in
-    rw ff (near-room (h .loop .inv .low) (omega arith) (a .pre .1))
-
-loop-again : tie.Need-loop-again Inv-loop μ-loop
-loop-again c =
-    let g = c .before .before in
-    let h = g .before .before .before .before in
-    let a = h .before in
-    let fh = back (fit w8 {z = at (a .args .f .now) (h .loop .j)} (g .before .near-high-i16-arg .given)) in
-    let fl = back (fit w8 {z = at (a .args .f .now) (h .loop .j)} (c .before .near-low-i16-arg .given)) in
-    let fx = back (fit w16 {z = at (a .args .src .now) (a .args .o + h .loop .j * a .args .step)} (c .before .before .before .before .x .given)) in
-    record {
-      high = near-more (h .loop .inv .high) (omega arith) (a .pre .1) (rw (fh, fx) at (g .near-high-i16 .ensures));
-      low = near-more (h .loop .inv .low) (omega arith) (a .pre .1) (rw (fl, fx) at (c .near-low-i16 .ensures));
-    }
-
-returns : tie.Need-returns Inv-loop μ-loop
+returns : tie.Need-returns
 returns c =
+    let l = c .before in
+    let fh : SFits w16 (l .before .near-highs-i16 .result) = omega arith in
+    let fl : SFits w16 (l .near-lows-i16 .result) = omega arith in
     let fr : SFits w32 (c .near-whole .result) = omega arith in
-    rw (back fr) (both-all (c .before .before .loop .inv) (omega arith) (c .near-whole .ensures .0), c .near-whole .ensures .1)
+    let e = rw (back fh, back fl, l .before .near-highs-i16 .ensures .0, l .near-lows-i16 .ensures .0) at (c .near-whole .ensures) in
+    rw (back fr) (e .0 ∙ whole-sum _ _, e .1)
 
 pub near-i16-spec : {M : Type 1} → statement M
 near-i16-spec =
     tie.close
     (tie.spec
-    Inv-loop
-    μ-loop
-    (λ c. both-none _ _)  -- loop-holds
-    (λ c. omega (arith, place c))  -- j * step
-    (λ c. omega (arith, place c))  -- o + j * step
-    (λ c. omega (arith, place c)) (λ c. omega (arith, place c))  -- src[..]
-    (λ c. omega arith)  -- f[j]
-    high-requires
-    (λ c. omega arith)  -- f[j]
-    low-requires
-    (λ c. omega arith)  -- j += 1
-    (λ c. omega arith)  -- loop-less
-    loop-again
-    (λ c κs. let h = c .before .loop .inv in (near-all (h .high) (omega arith) .1, near-all (h .low) (omega arith) .1))  -- near-whole-requires
+    (λ c κs. search needs)  -- near-highs-i16-requires
+    (λ c κs. search needs)  -- near-lows-i16-requires
+    whole-requires
     returns)

@@ -11,8 +11,8 @@ tap-mid-row8-spec =
     tie.close
     (tie.spec
     (λ c κs. (omega arith, omega arith, omega arith, λ e. absurd (subst T (sym e) tt)))  -- tap-mid-row8-by-requires
-    (λ c κs. search needs)  -- is-near8-requires
-    (λ c κs. let p = c .before .before .is-near8 .ensures (c .before .if2 .taken) in (omega arith, p .0, p .1, p .2))  -- near-mid-row8-requires
+    (λ c κs. search needs)  -- is-short-requires
+    (λ c κs. let p = c .before .before .is-short .ensures (c .before .if2 .taken) in (omega arith, p .0, p .1, p .2))  -- near-mid-row8-requires
     (λ c κs. (omega arith, omega arith, omega arith, λ e. absurd (subst T (sym e) tt)))  -- tap-mid-row8-by-requires-2
     (λ c. search needs)  -- same-length
     (λ c. rw (back (c .before .before .before .before .before .fits .bias)) at (c .before .tap-mid-row8-by .ensures))  -- returns

@@ -10,8 +10,8 @@ tap-row8-spec =
     tie.close
     (tie.spec
     (λ c κs. (omega arith, omega arith, omega arith, λ e. absurd (subst T (sym e) tt)))  -- tap-row8-by-requires
-    (λ c κs. search needs)  -- is-near8-requires
-    (λ c κs. let p = c .before .before .is-near8 .ensures (c .before .if2 .taken) in (omega arith, p .0, p .1, p .2))  -- near-row8-requires
+    (λ c κs. search needs)  -- is-short-requires
+    (λ c κs. let p = c .before .before .is-short .ensures (c .before .if2 .taken) in (omega arith, p .0, p .1, p .2))  -- near-row8-requires
     (λ c κs. (omega arith, omega arith, omega arith, λ e. absurd (subst T (sym e) tt)))  -- tap-row8-by-requires-2
     (λ c. search needs)  -- same-length
     (λ c. search needs)  -- returns

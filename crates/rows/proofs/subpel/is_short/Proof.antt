@@ -3,11 +3,11 @@ use mathlib.Core.Path.{_∙_, sym, subst}
 use native.Mathlib.Omega.{arith}
 use borrow.Author.Needs.{needs}
 use borrow.Author.Tests.{leb-true}
-use Rattle.rows.proofs.subpel.is_near8.Statement.{statement}
-use Rattle.rows.proofs.subpel.is_near8.Tie as tie
+use Rattle.rows.proofs.subpel.is_short.Statement.{statement}
+use Rattle.rows.proofs.subpel.is_short.Tie as tie
 
-pub is-near8-spec : {M : Type 1} → statement M
-is-near8-spec =
+pub is-short-spec : {M : Type 1} → statement M
+is-short-spec =
     tie.close
     (tie.spec
     (λ c κs. search needs)  -- is-near-requires
