@@ -243,14 +243,16 @@ uint32_t hv_set_affine_mv2d(int32_t bw4, int32_t bh4, int32_t mv_x, int32_t mv_y
 
 /*
  * Frames. A frame has luma sides of 1 to 16384 and two flags; a chroma plane's side is luma's divided by two, rounded
- * down, where its flag is set. ss_ver needs ss_hor. plane is the plane that plane_no names, whole.
+ * down, where its flag is set; a side of 0 (luma 1 with the flag) is HV_SIZE where that plane is named. ss_ver without
+ * ss_hor is HV_NUMBER, for luma too. plane is the plane that plane_no names, whole; any other name is HV_NUMBER.
  */
 enum hv_plane_no { HV_LUMA = 0, HV_CHROMA = 1 };
 
 /* How a block is predicted. Any other kind is HV_NUMBER. */
 enum hv_kind { HV_COPY = 0, HV_8TAP = 1, HV_BILINEAR = 2, HV_WARP = 3 };
 
-/* Where a window is taken from: from the plane if it lies inside, else from scratch; or always from scratch. */
+/* Where a window is taken from: from the plane if it lies inside, else from scratch; or always from scratch. Any other
+ * mode is HV_NUMBER. */
 enum hv_mode { HV_PLANE_IF_INSIDE = 0, HV_ALWAYS_SCRATCH = 1 };
 
 /* The buffer that holds an answer. */

@@ -3,13 +3,13 @@
 -- "if depth, tables, fraction and filter type stay the same": they are fields of the one `Same`, and of the block's kind, which is each rectangle's.
 -- Depth and the outcome of its test are any there, so bytes and 16-bit pixels have the same laws. Assumes nothing.
 use mathlib.Core.Path.{_≡_, refl, sym, ap, _∙_}
-use mathlib.Core.Logic.{_⊎_}
+use mathlib.Core.Logic.{_⊎_, inr}
 use mathlib.Core.Bool.{true}
 use mathlib.Core.List.{List}
 use Prim.Native.Nat.{ℕ, _+_, _-_, _*_, _/_, _%_, _≤_, _<_}
 use native.Mathlib.Nat.{add-mul}
 use native.Mathlib.Omega.{arith}
-use lib.IntN.{ℤ}
+use lib.IntN.{ℤ, pos}
 use lib.ListN.{length, getD}
 use Rattle.rows.specs.Numbers.{at}
 use Rattle.rows.specs.Places.{pixel, fill}
@@ -19,7 +19,7 @@ use Rattle.rows.proofs.Laws.Fill.{length-fill, fill-in}
 use Rattle.rows.proofs.Laws.Cut.{each-map, each-both, in-one, beside-fill}
 use Rattle.blocks.specs.Cut.{Same, unwarped, cutOrder, callNumber, callDst, callTmp, putRects, putNumber, endlessPut, endlessPrep}
 use Rattle.blocks.specs.declared.order.Order.{Order}
-use Rattle.blocks.proofs.Laws.DemandCalls.{prep-moved, call-met, call-dst, call-tmp-at, begun, puts, drawn-block}
+use Rattle.blocks.proofs.Laws.DemandCalls.{prep-moved, call-met, call-dst, call-tmp, call-tmp-at, begun, puts, drawn-block}
 
 -- what is asked of the block and of the rectangles
 pub record CutBlock (o : Order) (rs : List Rect) : Type 0 where
@@ -93,6 +93,17 @@ module _ (c : Same) (o : Order) (rs : List Rect) (p : CutBlock o rs) where
   cut-prep =
       each-map _ _ rs (λ r side tmp e i j a b.
       call-tmp-at c (cutOrder o r) tmp e i j a b ∙ prep-moved (c .depth) (c .subpel) (c .ext) (c .warp) o (p .kind) _ r side i j) (p .sides)
+
+  -- each other place of an intermediate is as it was, and so is its length
+  pub prep-outside : (r : Rect) (tmp : List ℤ) → prepNumber c o r tmp ≡ 0 → (k : ℕ) → k < length tmp → r .h ≤ k / r .w
+      → at (callTmp c (cutOrder o r) (r .w) tmp) k ≡ at tmp k
+  prep-outside r tmp e k b out =
+      ap (λ (d : List ℤ). at d k) (call-tmp c (cutOrder o r) (r .w) tmp e)
+      ∙ beside-fill (pos 0) tmp (r .w) (r .w) (r .h) (endlessPrep c (cutOrder o r)) k b (inr out)
+
+  pub prep-length : (r : Rect) (tmp : List ℤ) → prepNumber c o r tmp ≡ 0 → length (callTmp c (cutOrder o r) (r .w) tmp) ≡ length tmp
+  prep-length r tmp e =
+      ap length (call-tmp c (cutOrder o r) (r .w) tmp e) ∙ length-fill tmp (r .w) (r .w) (r .h) (endlessPrep c (cutOrder o r))
 
   -- where the block's own call isn't refused, its intermediate has the same
   pub prep-at-once : (whole : List ℤ) → callNumber c o (length whole) (o .w) ≡ 0
