@@ -14,7 +14,7 @@ use blocks::bilinear::hv_prep_bilin_16bpc;
 use blocks::bilinear::hv_put_bilin_8bpc;
 use blocks::bilinear::hv_put_bilin_16bpc;
 
-pub fn put_bilin_8bpc(r: &[u8]) -> bool {
+pub(crate) fn put_bilin_8bpc(r: &[u8]) -> bool {
     let mut dst = [0u8; ROOM];
     let mut src = [0u8; ROOM];
     let n0 = fill8(r, 0, &mut dst);
@@ -32,7 +32,7 @@ pub fn put_bilin_8bpc(r: &[u8]) -> bool {
     told(r, number) & same8(r, 0, &dst)
 }
 
-pub fn put_bilin_16bpc(r: &[u8]) -> bool {
+pub(crate) fn put_bilin_16bpc(r: &[u8]) -> bool {
     let mut dst = [0u16; ROOM];
     let mut src = [0u16; ROOM];
     let n0 = fill16(r, 0, &mut dst);
@@ -51,7 +51,7 @@ pub fn put_bilin_16bpc(r: &[u8]) -> bool {
     told(r, number) & same16(r, 0, &dst)
 }
 
-pub fn prep_bilin_8bpc(r: &[u8]) -> bool {
+pub(crate) fn prep_bilin_8bpc(r: &[u8]) -> bool {
     let mut tmp = [0i16; ROOM];
     let mut src = [0u8; ROOM];
     let n0 = fill_mids(r, 0, &mut tmp);
@@ -69,7 +69,7 @@ pub fn prep_bilin_8bpc(r: &[u8]) -> bool {
     told(r, number) & same_mids(r, 0, &tmp)
 }
 
-pub fn prep_bilin_16bpc(r: &[u8]) -> bool {
+pub(crate) fn prep_bilin_16bpc(r: &[u8]) -> bool {
     let mut tmp = [0i16; ROOM];
     let mut src = [0u16; ROOM];
     let n0 = fill_mids(r, 0, &mut tmp);

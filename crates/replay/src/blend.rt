@@ -13,7 +13,7 @@ use blocks::blend::hv_blend_16bpc;
 use blocks::blend::hv_morph_8bpc;
 use blocks::blend::hv_morph_16bpc;
 
-pub fn blend_8bpc(r: &[u8]) -> bool {
+pub(crate) fn blend_8bpc(r: &[u8]) -> bool {
     let mut dst = [0u8; ROOM];
     let mut tmp = [0u8; ROOM];
     let mut mask = [0u8; ROOM];
@@ -35,7 +35,7 @@ pub fn blend_8bpc(r: &[u8]) -> bool {
     told(r, number) & same8(r, 0, &dst) & (row == size(r, 3)) & (col == size(r, 4))
 }
 
-pub fn blend_16bpc(r: &[u8]) -> bool {
+pub(crate) fn blend_16bpc(r: &[u8]) -> bool {
     let mut dst = [0u16; ROOM];
     let mut tmp = [0u16; ROOM];
     let mut mask = [0u8; ROOM];
@@ -57,7 +57,7 @@ pub fn blend_16bpc(r: &[u8]) -> bool {
     told(r, number) & same16(r, 0, &dst) & (row == size(r, 3)) & (col == size(r, 4))
 }
 
-pub fn morph_8bpc(r: &[u8]) -> bool {
+pub(crate) fn morph_8bpc(r: &[u8]) -> bool {
     let mut dst = [0u8; ROOM];
     let n0 = fill8(r, 0, &mut dst);
     let number = hv_morph_8bpc(
@@ -71,7 +71,7 @@ pub fn morph_8bpc(r: &[u8]) -> bool {
     told(r, number) & same8(r, 0, &dst)
 }
 
-pub fn morph_16bpc(r: &[u8]) -> bool {
+pub(crate) fn morph_16bpc(r: &[u8]) -> bool {
     let mut dst = [0u16; ROOM];
     let n0 = fill16(r, 0, &mut dst);
     let number = hv_morph_16bpc(

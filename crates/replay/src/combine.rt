@@ -15,7 +15,7 @@ use blocks::combine::hv_mask_16bpc;
 use blocks::combine::hv_w_avg_8bpc;
 use blocks::combine::hv_w_avg_16bpc;
 
-pub fn avg_8bpc(r: &[u8]) -> bool {
+pub(crate) fn avg_8bpc(r: &[u8]) -> bool {
     let mut dst = [0u8; ROOM];
     let mut tmp1 = [0i16; ROOM];
     let mut tmp2 = [0i16; ROOM];
@@ -33,7 +33,7 @@ pub fn avg_8bpc(r: &[u8]) -> bool {
     told(r, number) & same8(r, 0, &dst)
 }
 
-pub fn avg_16bpc(r: &[u8]) -> bool {
+pub(crate) fn avg_16bpc(r: &[u8]) -> bool {
     let mut dst = [0u16; ROOM];
     let mut tmp1 = [0i16; ROOM];
     let mut tmp2 = [0i16; ROOM];
@@ -52,7 +52,7 @@ pub fn avg_16bpc(r: &[u8]) -> bool {
     told(r, number) & same16(r, 0, &dst)
 }
 
-pub fn w_avg_8bpc(r: &[u8]) -> bool {
+pub(crate) fn w_avg_8bpc(r: &[u8]) -> bool {
     let mut dst = [0u8; ROOM];
     let mut tmp1 = [0i16; ROOM];
     let mut tmp2 = [0i16; ROOM];
@@ -71,7 +71,7 @@ pub fn w_avg_8bpc(r: &[u8]) -> bool {
     told(r, number) & same8(r, 0, &dst)
 }
 
-pub fn w_avg_16bpc(r: &[u8]) -> bool {
+pub(crate) fn w_avg_16bpc(r: &[u8]) -> bool {
     let mut dst = [0u16; ROOM];
     let mut tmp1 = [0i16; ROOM];
     let mut tmp2 = [0i16; ROOM];
@@ -91,7 +91,7 @@ pub fn w_avg_16bpc(r: &[u8]) -> bool {
     told(r, number) & same16(r, 0, &dst)
 }
 
-pub fn mask_8bpc(r: &[u8]) -> bool {
+pub(crate) fn mask_8bpc(r: &[u8]) -> bool {
     let mut dst = [0u8; ROOM];
     let mut tmp1 = [0i16; ROOM];
     let mut tmp2 = [0i16; ROOM];
@@ -112,7 +112,7 @@ pub fn mask_8bpc(r: &[u8]) -> bool {
     told(r, number) & same8(r, 0, &dst)
 }
 
-pub fn mask_16bpc(r: &[u8]) -> bool {
+pub(crate) fn mask_16bpc(r: &[u8]) -> bool {
     let mut dst = [0u16; ROOM];
     let mut tmp1 = [0i16; ROOM];
     let mut tmp2 = [0i16; ROOM];

@@ -14,7 +14,7 @@ use blocks::copy::hv_prep_16bpc;
 use blocks::copy::hv_put_8bpc;
 use blocks::copy::hv_put_16bpc;
 
-pub fn put_8bpc(r: &[u8]) -> bool {
+pub(crate) fn put_8bpc(r: &[u8]) -> bool {
     let mut dst = [0u8; ROOM];
     let mut src = [0u8; ROOM];
     let n0 = fill8(r, 0, &mut dst);
@@ -30,7 +30,7 @@ pub fn put_8bpc(r: &[u8]) -> bool {
     told(r, number) & same8(r, 0, &dst)
 }
 
-pub fn put_16bpc(r: &[u8]) -> bool {
+pub(crate) fn put_16bpc(r: &[u8]) -> bool {
     let mut dst = [0u16; ROOM];
     let mut src = [0u16; ROOM];
     let n0 = fill16(r, 0, &mut dst);
@@ -46,7 +46,7 @@ pub fn put_16bpc(r: &[u8]) -> bool {
     told(r, number) & same16(r, 0, &dst)
 }
 
-pub fn prep_8bpc(r: &[u8]) -> bool {
+pub(crate) fn prep_8bpc(r: &[u8]) -> bool {
     let mut tmp = [0i16; ROOM];
     let mut src = [0u8; ROOM];
     let n0 = fill_mids(r, 0, &mut tmp);
@@ -62,7 +62,7 @@ pub fn prep_8bpc(r: &[u8]) -> bool {
     told(r, number) & same_mids(r, 0, &tmp)
 }
 
-pub fn prep_16bpc(r: &[u8]) -> bool {
+pub(crate) fn prep_16bpc(r: &[u8]) -> bool {
     let mut tmp = [0i16; ROOM];
     let mut src = [0u16; ROOM];
     let n0 = fill_mids(r, 0, &mut tmp);

@@ -10,7 +10,7 @@ use crate::rooms::same16;
 use blocks::edge::hv_emu_edge_8bpc;
 use blocks::edge::hv_emu_edge_16bpc;
 
-pub fn emu_edge_8bpc(r: &[u8]) -> bool {
+pub(crate) fn emu_edge_8bpc(r: &[u8]) -> bool {
     let mut dst = [0u8; ROOM];
     let mut plane = [0u8; ROOM];
     let n0 = fill8(r, 0, &mut dst);
@@ -30,7 +30,7 @@ pub fn emu_edge_8bpc(r: &[u8]) -> bool {
     told(r, number) & same8(r, 0, &dst)
 }
 
-pub fn emu_edge_16bpc(r: &[u8]) -> bool {
+pub(crate) fn emu_edge_16bpc(r: &[u8]) -> bool {
     let mut dst = [0u16; ROOM];
     let mut plane = [0u16; ROOM];
     let n0 = fill16(r, 0, &mut dst);

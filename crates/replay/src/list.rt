@@ -11,7 +11,7 @@ pub const UNSET: i32 = 1515870810;
 pub const UNSET_PLACE: usize = 1515870810;
 
 // A buffer of the record: how many places it has, where the values stand that it comes with, and where those stand that it is left with.
-pub struct Layout {
+pub(crate) struct Layout {
     pub len: u16,
     pub period: u16,
     pub came: u16,
@@ -22,17 +22,17 @@ pub struct Layout {
 }
 
 // Value k of those that begin at a place.
-pub struct Value {
+pub(crate) struct Value {
     pub first: u16,
     pub k: u32,
 }
 
-pub fn byte(r: &[u8], p: usize) -> u8 {
+pub(crate) fn byte(r: &[u8], p: usize) -> u8 {
     if p < r.len() { r[p] } else { 0 }
 }
 
 // The number of two bytes.
-pub fn joined(low: u8, high: u8) -> u16 {
+pub(crate) fn joined(low: u8, high: u8) -> u16 {
     low as u16 + 256 * (high as u16)
 }
 
@@ -45,51 +45,51 @@ fn half(r: &[u8], p: usize) -> u16 {
 }
 
 // Number k of the record, without sign and with it.
-pub fn size(r: &[u8], k: u8) -> usize {
+pub(crate) fn size(r: &[u8], k: u8) -> usize {
     let p = 60 + 8 * (k as usize);
     let low = half(r, p) as usize | (half(r, p + 2) as usize) << 16;
     low | (half(r, p + 4) as usize) << 32 | (half(r, p + 6) as usize) << 48
 }
 
-pub fn wide(r: &[u8], k: u8) -> i64 {
+pub(crate) fn wide(r: &[u8], k: u8) -> i64 {
     let p = 60 + 8 * (k as usize);
     let low = half(r, p) as i64 | (half(r, p + 2) as i64) << 16;
     low | (half(r, p + 4) as i64) << 32 | (half(r, p + 6) as i64) << 48
 }
 
-pub fn int(r: &[u8], k: u8) -> i32 {
+pub(crate) fn int(r: &[u8], k: u8) -> i32 {
     keep32(wide(r, k))
 }
 
-pub fn short(r: &[u8], k: u8) -> i16 {
+pub(crate) fn short(r: &[u8], k: u8) -> i16 {
     keep16(int(r, k))
 }
 
-pub fn flag(r: &[u8], k: u8) -> bool {
+pub(crate) fn flag(r: &[u8], k: u8) -> bool {
     size(r, k) != 0
 }
 
-pub fn word(r: &[u8], k: u8) -> u32 {
+pub(crate) fn word(r: &[u8], k: u8) -> u32 {
     let p = 60 + 8 * (k as usize);
     half(r, p) as u32 | (half(r, p + 2) as u32) << 16
 }
 
 // Which function the record calls, and the number that it is to answer.
-pub fn called(r: &[u8]) -> u16 {
+pub(crate) fn called(r: &[u8]) -> u16 {
     half(r, 0)
 }
 
-pub fn due(r: &[u8]) -> u16 {
+pub(crate) fn due(r: &[u8]) -> u16 {
     half(r, 2)
 }
 
 // Whether a call answered the number that is due.
-pub fn told(r: &[u8], number: u32) -> bool {
+pub(crate) fn told(r: &[u8], number: u32) -> bool {
     number == due(r) as u32
 }
 
 // The record's buffer b.
-pub fn layout_of(r: &[u8], b: u8) -> Layout {
+pub(crate) fn layout_of(r: &[u8], b: u8) -> Layout {
     let p = 4 + 14 * (b as usize);
     Layout {
         len: half(r, p),
@@ -103,7 +103,7 @@ pub fn layout_of(r: &[u8], b: u8) -> Layout {
 }
 
 // What place i comes with: the values repeat.
-pub fn came(c: Layout, i: u16) -> Value {
+pub(crate) fn came(c: Layout, i: u16) -> Value {
     let n = c.period;
     let k = if n == 0 { 0 } else { i % n };
     Value {
@@ -118,7 +118,7 @@ fn nth(row: u16, x: u16, y: u16) -> u32 {
 }
 
 // What place i is left with: values of their own in the first columns of the first rows, else what it came with.
-pub fn left(c: Layout, i: u16) -> Value {
+pub(crate) fn left(c: Layout, i: u16) -> Value {
     let n = c.stride;
     if n == 0 {
         return came(c, i);
@@ -136,19 +136,19 @@ pub fn left(c: Layout, i: u16) -> Value {
 }
 
 // The value as each type has it.
-pub fn value8(r: &[u8], v: Value) -> u8 {
+pub(crate) fn value8(r: &[u8], v: Value) -> u8 {
     byte(r, v.first as usize + v.k as usize)
 }
 
-pub fn value16(r: &[u8], v: Value) -> u16 {
+pub(crate) fn value16(r: &[u8], v: Value) -> u16 {
     half(r, v.first as usize + 2 * (v.k as usize))
 }
 
-pub fn mid(r: &[u8], v: Value) -> i16 {
+pub(crate) fn mid(r: &[u8], v: Value) -> i16 {
     keep16(value16(r, v) as i32)
 }
 
-pub fn tap(r: &[u8], v: Value) -> i8 {
+pub(crate) fn tap(r: &[u8], v: Value) -> i8 {
     let b = value8(r, v);
     ((b / 2) as i8) << 1 | (b % 2) as i8
 }

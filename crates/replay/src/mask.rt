@@ -12,7 +12,7 @@ use crate::rooms::same16;
 use blocks::mask::hv_w_mask_8bpc;
 use blocks::mask::hv_w_mask_16bpc;
 
-pub fn w_mask_8bpc(r: &[u8]) -> bool {
+pub(crate) fn w_mask_8bpc(r: &[u8]) -> bool {
     let mut dst = [0u8; ROOM];
     let mut tmp1 = [0i16; ROOM];
     let mut tmp2 = [0i16; ROOM];
@@ -37,7 +37,7 @@ pub fn w_mask_8bpc(r: &[u8]) -> bool {
     told(r, number) & same8(r, 0, &dst) & same8(r, 3, &mask)
 }
 
-pub fn w_mask_16bpc(r: &[u8]) -> bool {
+pub(crate) fn w_mask_16bpc(r: &[u8]) -> bool {
     let mut dst = [0u16; ROOM];
     let mut tmp1 = [0i16; ROOM];
     let mut tmp2 = [0i16; ROOM];

@@ -19,7 +19,7 @@ fn places(len: u16, room: usize) -> u16
 }
 
 // Fills the first places with what buffer b comes with, and answers how many.
-pub fn fill8(r: &[u8], b: u8, d: &mut [u8]) -> usize
+pub(crate) fn fill8(r: &[u8], b: u8, d: &mut [u8]) -> usize
     ensures { λ r. ⌜ (r ≤ length (now (d .exit))) × (r ≡ length (take r (now (d .exit)))) ⌝ }
 {
     let c = layout_of(r, b);
@@ -32,7 +32,7 @@ pub fn fill8(r: &[u8], b: u8, d: &mut [u8]) -> usize
     n as usize
 }
 
-pub fn fill16(r: &[u8], b: u8, d: &mut [u16]) -> usize
+pub(crate) fn fill16(r: &[u8], b: u8, d: &mut [u16]) -> usize
     ensures { λ r. ⌜ (r ≤ length (now (d .exit))) × (r ≡ length (take r (now (d .exit)))) ⌝ }
 {
     let c = layout_of(r, b);
@@ -45,7 +45,7 @@ pub fn fill16(r: &[u8], b: u8, d: &mut [u16]) -> usize
     n as usize
 }
 
-pub fn fill_mids(r: &[u8], b: u8, d: &mut [i16]) -> usize
+pub(crate) fn fill_mids(r: &[u8], b: u8, d: &mut [i16]) -> usize
     ensures { λ r. ⌜ (r ≤ length (now (d .exit))) × (r ≡ length (take r (now (d .exit)))) ⌝ }
 {
     let c = layout_of(r, b);
@@ -58,7 +58,7 @@ pub fn fill_mids(r: &[u8], b: u8, d: &mut [i16]) -> usize
     n as usize
 }
 
-pub fn fill_taps(r: &[u8], b: u8, d: &mut [i8]) -> usize
+pub(crate) fn fill_taps(r: &[u8], b: u8, d: &mut [i8]) -> usize
     ensures { λ r. ⌜ (r ≤ length (now (d .exit))) × (r ≡ length (take r (now (d .exit)))) ⌝ }
 {
     let c = layout_of(r, b);
@@ -72,7 +72,7 @@ pub fn fill_taps(r: &[u8], b: u8, d: &mut [i8]) -> usize
 }
 
 // Whether each place is left as the record says.
-pub fn same8(r: &[u8], b: u8, d: &[u8; ROOM]) -> bool {
+pub(crate) fn same8(r: &[u8], b: u8, d: &[u8; ROOM]) -> bool {
     let c = layout_of(r, b);
     let n = places(c.len, d.len());
     let mut same = true;
@@ -84,7 +84,7 @@ pub fn same8(r: &[u8], b: u8, d: &[u8; ROOM]) -> bool {
     same
 }
 
-pub fn same16(r: &[u8], b: u8, d: &[u16; ROOM]) -> bool {
+pub(crate) fn same16(r: &[u8], b: u8, d: &[u16; ROOM]) -> bool {
     let c = layout_of(r, b);
     let n = places(c.len, d.len());
     let mut same = true;
@@ -96,7 +96,7 @@ pub fn same16(r: &[u8], b: u8, d: &[u16; ROOM]) -> bool {
     same
 }
 
-pub fn same_mids(r: &[u8], b: u8, d: &[i16; ROOM]) -> bool {
+pub(crate) fn same_mids(r: &[u8], b: u8, d: &[i16; ROOM]) -> bool {
     let c = layout_of(r, b);
     let n = places(c.len, d.len());
     let mut same = true;

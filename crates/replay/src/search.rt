@@ -12,7 +12,7 @@ use blocks::search::hv_sad_nxn_16bpc;
 use blocks::search::hv_sad_refine_mv_8bpc;
 use blocks::search::hv_sad_refine_mv_16bpc;
 
-pub fn sad_nxn_8bpc(r: &[u8]) -> bool {
+pub(crate) fn sad_nxn_8bpc(r: &[u8]) -> bool {
     let mut p0 = [0u8; ROOM];
     let mut p1 = [0u8; ROOM];
     let mut sum = UNSET;
@@ -30,7 +30,7 @@ pub fn sad_nxn_8bpc(r: &[u8]) -> bool {
     told(r, number) & (sum == int(r, 4))
 }
 
-pub fn sad_nxn_16bpc(r: &[u8]) -> bool {
+pub(crate) fn sad_nxn_16bpc(r: &[u8]) -> bool {
     let mut p0 = [0u16; ROOM];
     let mut p1 = [0u16; ROOM];
     let mut sum = UNSET;
@@ -49,7 +49,7 @@ pub fn sad_nxn_16bpc(r: &[u8]) -> bool {
     told(r, number) & (sum == int(r, 5))
 }
 
-pub fn sad_refine_mv_8bpc(r: &[u8]) -> bool {
+pub(crate) fn sad_refine_mv_8bpc(r: &[u8]) -> bool {
     let mut p0 = [0u8; ROOM];
     let mut p1 = [0u8; ROOM];
     let mut dx = UNSET;
@@ -70,7 +70,7 @@ pub fn sad_refine_mv_8bpc(r: &[u8]) -> bool {
     told(r, number) & (dx == int(r, 5)) & (dy == int(r, 6))
 }
 
-pub fn sad_refine_mv_16bpc(r: &[u8]) -> bool {
+pub(crate) fn sad_refine_mv_16bpc(r: &[u8]) -> bool {
     let mut p0 = [0u16; ROOM];
     let mut p1 = [0u16; ROOM];
     let mut dx = UNSET;

@@ -50,7 +50,7 @@ fn same_shears(s: &[i16; 4], t: [i16; 4]) -> bool {
     (s[0] == t[0]) & (s[1] == t[1]) & (s[2] == t[2]) & (s[3] == t[3])
 }
 
-pub fn resolve_divisor_32(r: &[u8]) -> bool {
+pub(crate) fn resolve_divisor_32(r: &[u8]) -> bool {
     let mut recip = [0u16; ROOM];
     let mut y = UNSET;
     let mut shift = UNSET;
@@ -59,7 +59,7 @@ pub fn resolve_divisor_32(r: &[u8]) -> bool {
     told(r, number) & (y == int(r, 1)) & (shift == int(r, 2))
 }
 
-pub fn get_shear_params(r: &[u8]) -> bool {
+pub(crate) fn get_shear_params(r: &[u8]) -> bool {
     let mut matrix = matrix_at(r, 0);
     let mut abcd = shears_at(r, 6);
     let mut affine = int(r, 10);
@@ -70,7 +70,7 @@ pub fn get_shear_params(r: &[u8]) -> bool {
     told(r, number) & record & (affine == int(r, 21))
 }
 
-pub fn set_affine_mv2d(r: &[u8]) -> bool {
+pub(crate) fn set_affine_mv2d(r: &[u8]) -> bool {
     let mut matrix = matrix_at(r, 4);
     let number = hv_set_affine_mv2d(
         int(r, 0),

@@ -15,7 +15,7 @@ use blocks::subpel::hv_prep_8tap_16bpc;
 use blocks::subpel::hv_put_8tap_8bpc;
 use blocks::subpel::hv_put_8tap_16bpc;
 
-pub fn put_8tap_8bpc(r: &[u8]) -> bool {
+pub(crate) fn put_8tap_8bpc(r: &[u8]) -> bool {
     let mut dst = [0u8; ROOM];
     let mut src = [0u8; ROOM];
     let mut subpel = [0i8; ROOM];
@@ -41,7 +41,7 @@ pub fn put_8tap_8bpc(r: &[u8]) -> bool {
     told(r, number) & same8(r, 0, &dst)
 }
 
-pub fn put_8tap_16bpc(r: &[u8]) -> bool {
+pub(crate) fn put_8tap_16bpc(r: &[u8]) -> bool {
     let mut dst = [0u16; ROOM];
     let mut src = [0u16; ROOM];
     let mut subpel = [0i8; ROOM];
@@ -68,7 +68,7 @@ pub fn put_8tap_16bpc(r: &[u8]) -> bool {
     told(r, number) & same16(r, 0, &dst)
 }
 
-pub fn prep_8tap_8bpc(r: &[u8]) -> bool {
+pub(crate) fn prep_8tap_8bpc(r: &[u8]) -> bool {
     let mut tmp = [0i16; ROOM];
     let mut src = [0u8; ROOM];
     let mut subpel = [0i8; ROOM];
@@ -94,7 +94,7 @@ pub fn prep_8tap_8bpc(r: &[u8]) -> bool {
     told(r, number) & same_mids(r, 0, &tmp)
 }
 
-pub fn prep_8tap_16bpc(r: &[u8]) -> bool {
+pub(crate) fn prep_8tap_16bpc(r: &[u8]) -> bool {
     let mut tmp = [0i16; ROOM];
     let mut src = [0u16; ROOM];
     let mut subpel = [0i8; ROOM];

@@ -22,7 +22,7 @@ fn first(id: u16) -> usize
 }
 
 // Counts a call for its function and for all.
-pub fn count(tally: &mut [u32; 117], id: u16, accepted: bool, same: bool) {
+pub(crate) fn count(tally: &mut [u32; 117], id: u16, accepted: bool, same: bool) {
     let k = first(id);
     tally[k] = more(tally[k], accepted);
     tally[k + 1] = more(tally[k + 1], !accepted);
@@ -80,7 +80,7 @@ fn print_line(id: u16, accepted: u32, refused: u32, differ: u32) {
     io::write_all(1, b" differ\n");
 }
 
-pub fn print_all(tally: &[u32; 117]) {
+pub(crate) fn print_all(tally: &[u32; 117]) {
     let mut id = 1;
     while id < 39 {
         let k = 3 * (id as usize);
@@ -89,7 +89,7 @@ pub fn print_all(tally: &[u32; 117]) {
     }
 }
 
-pub fn print_end(bad: u32, sum: u32) {
+pub(crate) fn print_end(bad: u32, sum: u32) {
     io::print_decimal(1, wide(bad));
     io::write_all(1, b" bad records, sum of the list ");
     io::print_decimal(1, wide(sum));

@@ -16,7 +16,7 @@ use blocks::warp::hv_warp_affine_8x8_16bpc;
 use blocks::warp::hv_warp_affine_8x8t_8bpc;
 use blocks::warp::hv_warp_affine_8x8t_16bpc;
 
-pub fn warp_affine_8x8_8bpc(r: &[u8]) -> bool {
+pub(crate) fn warp_affine_8x8_8bpc(r: &[u8]) -> bool {
     let mut dst = [0u8; ROOM];
     let mut src = [0u8; ROOM];
     let mut warp = [0i8; ROOM];
@@ -40,7 +40,7 @@ pub fn warp_affine_8x8_8bpc(r: &[u8]) -> bool {
     told(r, number) & same8(r, 0, &dst)
 }
 
-pub fn warp_affine_8x8_16bpc(r: &[u8]) -> bool {
+pub(crate) fn warp_affine_8x8_16bpc(r: &[u8]) -> bool {
     let mut dst = [0u16; ROOM];
     let mut src = [0u16; ROOM];
     let mut warp = [0i8; ROOM];
@@ -65,7 +65,7 @@ pub fn warp_affine_8x8_16bpc(r: &[u8]) -> bool {
     told(r, number) & same16(r, 0, &dst)
 }
 
-pub fn warp_affine_8x8t_8bpc(r: &[u8]) -> bool {
+pub(crate) fn warp_affine_8x8t_8bpc(r: &[u8]) -> bool {
     let mut tmp = [0i16; ROOM];
     let mut src = [0u8; ROOM];
     let mut warp = [0i8; ROOM];
@@ -89,7 +89,7 @@ pub fn warp_affine_8x8t_8bpc(r: &[u8]) -> bool {
     told(r, number) & same_mids(r, 0, &tmp)
 }
 
-pub fn warp_affine_8x8t_16bpc(r: &[u8]) -> bool {
+pub(crate) fn warp_affine_8x8t_16bpc(r: &[u8]) -> bool {
     let mut tmp = [0i16; ROOM];
     let mut src = [0u16; ROOM];
     let mut warp = [0i8; ROOM];
