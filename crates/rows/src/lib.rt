@@ -6,6 +6,7 @@ pub mod copy;
 pub mod depth;
 pub mod edge;
 pub mod mask;
+pub mod near;
 pub mod numbers;
 pub mod search;
 pub mod subpel;

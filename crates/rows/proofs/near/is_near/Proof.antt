@@ -1,0 +1,37 @@
+use Prim.Native.Nat.{_-_}
+use native.Mathlib.Omega.{arith}
+use borrow.Author.Needs.{needs}
+use lib.IntN.{natAbs}
+use mir.Syntax.{w8}
+use Rattle.rows.specs.Numbers.{at}
+use Rattle.rows.proofs.Laws.Added.{Added, added-none, added-more, added-all}
+use Rattle.rows.proofs.Laws.Signed.{back, fit}
+use Rattle.rows.proofs.near.is_near.Statement.{statement}
+use Rattle.rows.proofs.near.is_near.Tie as tie
+
+abbrev Inv-loop : tie.InvT-loop
+Inv-loop f s₀ j₀ s j = Added (λ t. natAbs (at f t)) 128 8 j s
+
+abbrev μ-loop : tie.MeasureT-loop
+μ-loop f s₀ j₀ s j = 8 - j
+
+loop-again : tie.Need-loop-again Inv-loop μ-loop
+loop-again c =
+    let h = c .before .before .before in
+    let e = back (fit w8 {z = at (h .before .args .f .now) (h .loop .j)} (c .before .tap-size-arg .given)) in
+    added-more (h .loop .inv) (omega arith) (rw e at (c .tap-size .ensures .0)) (omega arith)
+
+pub is-near-spec : {M : Type 1} → statement M
+is-near-spec =
+    tie.close
+    (tie.spec
+    Inv-loop
+    μ-loop
+    (λ c. added-none _ _ _)  -- loop-holds
+    (λ c. omega arith)  -- f[j]
+    (λ c κs. search needs)  -- tap-size-requires
+    (λ c. omega arith)  -- s +=
+    (λ c. omega arith)  -- j += 1
+    (λ c. omega arith)  -- loop-less
+    loop-again
+    (λ c. rw (added-all (c .before .loop .inv) (omega arith) .0)))  -- returns

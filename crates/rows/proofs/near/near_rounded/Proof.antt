@@ -1,0 +1,26 @@
+use native.Mathlib.Omega.{arith}
+use Prim.Native.Nat.{_^_}
+use lib.IntN.{pos, _+ℤ_}
+use lib.Signed.{shrZ, mag-shr}
+use mir.Syntax.{w16}
+use mir.Val.{SFits}
+use Rattle.rows.proofs.Laws.Signed.{back, backn, abs-add, fit-abs}
+use borrow.Author.Needs.{needs}
+use Rattle.rows.proofs.near.near_rounded.Statement.{statement}
+use Rattle.rows.proofs.near.near_rounded.Tie as tie
+
+sum : (c : tie.Start) → SFits w16 (c .args .s +ℤ pos (c .args .r))
+sum c = fit-abs w16 (c .args .s +ℤ pos (c .args .r)) (omega (arith, abs-add (c .args .s) (pos (c .args .r))))
+
+shifted : (c : tie.Start) → SFits w16 (shrZ (c .args .s +ℤ pos (c .args .r)) (2 ^ c .args .n))
+shifted c = omega (arith, sum c, mag-shr (c .args .s +ℤ pos (c .args .r)) (2 ^ c .args .n))
+
+pub near-rounded-spec : {M : Type 1} → statement M
+near-rounded-spec =
+    tie.close
+    (tie.spec
+    (λ c. search needs)  -- cast-result
+    (λ c. simp (back (c .fits .s), backn w16 (c .args .r) (omega arith)) (sum c))  -- add-result
+    (λ c. search needs)  -- cast-result-2
+    (λ c. search needs)  -- shr-result
+    (λ c. simp (back (c .fits .s), backn w16 (c .args .r) (omega arith), back (sum c), back (shifted c))))  -- returns
