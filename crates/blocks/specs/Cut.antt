@@ -7,7 +7,7 @@ use mathlib.Core.List.{List, [], _∷_}
 use Rattle.rows.specs.Places.{lentFrom}
 use Rattle.rows.specs.Cut.{Rect, begins}
 use Rattle.blocks.specs.Order.{planeOf, putPicture, prepPicture, orderNumber, orderDst, orderTmp}
-use Rattle.blocks.specs.declared.window.Frame.{Frame}
+use Rattle.blocks.specs.declared.frame.Frame.{Frame}
 use Rattle.blocks.specs.declared.order.Order.{Order}
 use Rattle.blocks.specs.declared.order.Kind.{Kind}
 use Rattle.blocks.specs.declared.order.Kind.the-variants.{Copy, Subpel, Bilinear, Warp}

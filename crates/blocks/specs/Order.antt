@@ -18,7 +18,7 @@ use Rattle.blocks.specs.Edge.{placeOk}
 use Rattle.blocks.specs.Subpel.{typeOk, sixteenthOk, fractionOk, subpelOk, filterIn, put8Rule, prep8Rule}
 use Rattle.blocks.specs.Warp.{warpPlaceOk}
 use Rattle.blocks.specs.Window.{planeW, planeH, frameSizesOk, frameNamesOk, before, windowSide, scratchOf}
-use Rattle.blocks.specs.declared.window.Frame.{Frame}
+use Rattle.blocks.specs.declared.frame.Frame.{Frame}
 use Rattle.blocks.specs.declared.order.Order.{Order}
 use Rattle.blocks.specs.declared.order.Kind.{Kind}
 use Rattle.blocks.specs.declared.order.Kind.the-variants.{Copy, Subpel, Bilinear, Warp}

@@ -1,34 +1,28 @@
-// Frames, windows and rows of planes: where a block's pixels with its margins lie, in the plane or in scratch.
+// Windows: where a block's pixels with its margins lie, in the plane or in scratch.
 ghost use mathlib.Core.Path.{_≡_};
 ghost use Prim.Native.Nat.{_+_, _^_, _≤_};
 ghost use lib.Dec.{leb};
-ghost use lib.IntN.{pos, natAbs};
+ghost use lib.IntN.{natAbs};
 ghost use lib.ListN.{length};
-ghost use lib.Signed.{leZ, ltZ};
-ghost use mathlib.Core.Bool.{_&&_};
-ghost use mathlib.Core.List.{[]};
 ghost use Rattle.rows.specs.Numbers.{up};
 ghost use Rattle.blocks.specs.Refuse.{need, lowest, sizeOk, blockSide, strideOk, partLen, holds, holdsAll};
 ghost use Rattle.blocks.specs.Ready.{PartIn};
 ghost use Rattle.blocks.specs.Edge.{placeOk};
-ghost use Rattle.blocks.specs.Window.{planeSide, planeW, planeH, frameSizesOk, frameNamesOk, before, after, windowSide, windowStart, windowTests, inside, isPlanes, windowAt, noPart, windowOf, scratchOf, partOf, rowTests, rowAt, PartAnswer, WindowAnswer};
+ghost use Rattle.blocks.specs.Window.{planeW, planeH, frameSizesOk, frameNamesOk, windowSide, windowTests, inside, isPlanes, windowAt, noPart, windowOf, scratchOf, partOf, WindowAnswer};
 use crate::edge::edge_rows8;
 use crate::edge::edge_rows16;
 use crate::edge::places;
-use crate::mask::flags_ok;
+use crate::frame::Frame;
+use crate::frame::area_of;
+use crate::frame::frame_names_ok;
+use crate::frame::frame_sizes_ok;
+use crate::frame::plane_h;
+use crate::frame::plane_w;
+use crate::frame::window_side;
 use crate::refuse::held;
 use crate::refuse::needed;
-use crate::refuse::size_ok;
 use crate::refuse::sizes;
 use crate::refuse::stride;
-
-// Luma's sides and the subsampling flags.
-pub struct Frame {
-    pub luma_w: usize,
-    pub luma_h: usize,
-    pub ss_hor: bool,
-    pub ss_ver: bool,
-}
 
 // A part of a buffer: 1 the plane, 2 scratch; its first place, its stride and its length. Refused: the number and zeros.
 pub struct Part {
@@ -37,107 +31,6 @@ pub struct Part {
     pub place: usize,
     pub stride: usize,
     pub len: usize,
-}
-
-// A window of ww columns and wh rows, from column `left` and row `top` of a plane of iw columns and ih rows on.
-pub struct Area {
-    pub ww: usize,
-    pub wh: usize,
-    pub iw: usize,
-    pub ih: usize,
-    pub left: i64,
-    pub top: i64,
-}
-
-// A side of the named plane: chroma has half of luma's where the flag is set.
-fn plane_side(plane_no: u32, flag: bool, luma: usize) -> usize
-    ensures { λ r. ⌜ r ≡ planeSide «plane_no» flag luma ⌝ }
-{
-    if (plane_no == 1) & flag {
-        luma / 2
-    } else {
-        luma
-    }
-}
-
-pub fn plane_w(f: Frame, plane_no: u32) -> usize
-    ensures { λ r. ⌜ r ≡ planeW f «plane_no» ⌝ }
-{
-    plane_side(plane_no, f.ss_hor, f.luma_w)
-}
-
-pub fn plane_h(f: Frame, plane_no: u32) -> usize
-    ensures { λ r. ⌜ r ≡ planeH f «plane_no» ⌝ }
-{
-    plane_side(plane_no, f.ss_ver, f.luma_h)
-}
-
-pub fn frame_sizes_ok(f: Frame, plane_no: u32) -> bool
-    ensures { λ r. ⌜ r ≡ frameSizesOk f «plane_no» ⌝ }
-{
-    (size_ok(16384, f.luma_w) & size_ok(16384, f.luma_h))
-        & ((1 <= plane_w(f, plane_no)) & (1 <= plane_h(f, plane_no)))
-}
-
-pub fn frame_names_ok(f: Frame, plane_no: u32) -> bool
-    ensures { λ r. ⌜ r ≡ frameNamesOk f «plane_no» ⌝ }
-{
-    flags_ok(f.ss_hor, f.ss_ver) & (plane_no <= 1)
-}
-
-// The margins of a kind's window.
-pub fn before(kind: u32) -> usize
-    ensures { λ r. ⌜ r ≡ before kind ⌝ }
-{
-    if (kind == 1) | (kind == 3) { 3 } else { 0 }
-}
-
-pub fn after(kind: u32) -> usize
-    ensures { λ r. ⌜ r ≡ after kind ⌝ }
-{
-    if (kind == 1) | (kind == 3) {
-        4
-    } else if kind == 2 {
-        1
-    } else {
-        0
-    }
-}
-
-// A window's side, and its first column or row.
-pub fn window_side(kind: u32, side: usize) -> usize
-    requires { ⌜ side ≤ 64 ⌝ }
-    ensures { λ r. ⌜ r ≡ windowSide kind side ⌝ }
-{
-    before(kind) + side + after(kind)
-}
-
-pub fn window_start(kind: u32, x: i64) -> i64
-    requires { ⌜ natAbs x ≤ 2 ^ 30 ⌝ }
-    ensures { λ r. ⌜ r ≡ windowStart kind x ⌝ }
-{
-    x - before(kind) as i64
-}
-
-// The window of a block.
-pub fn area_of(f: Frame, plane_no: u32, kind: u32, w: usize, h: usize, x: i64, y: i64) -> Area
-    requires { ⌜ (w ≤ 64) × (h ≤ 64) × (natAbs x ≤ 2 ^ 30) × (natAbs y ≤ 2 ^ 30) ⌝ }
-    ensures { λ r. ⌜ r ≡ record { ww = windowSide kind w; wh = windowSide kind h; iw = planeW f «plane_no»; ih = planeH f «plane_no»; left = windowStart kind x; top = windowStart kind y } ⌝ }
-{
-    let ww = window_side(kind, w);
-    let wh = window_side(kind, h);
-    let iw = plane_w(f, plane_no);
-    let ih = plane_h(f, plane_no);
-    let left = window_start(kind, x);
-    let top = window_start(kind, y);
-    Area {
-        ww,
-        wh,
-        iw,
-        ih,
-        left,
-        top,
-    }
 }
 
 // The links of a window's tests: the sizes and the stride, on which the later ones rely; the other numbers; the buffers.
@@ -223,7 +116,7 @@ fn is_planes(mode: u32, ww: usize, wh: usize, iw: usize, ih: usize, x: i64, y: i
 }
 
 // The number, or 0 where it is below 0.
-fn above64(v: i64) -> usize
+pub fn above64(v: i64) -> usize
     ensures { λ r. ⌜ r ≡ up v ⌝ }
 {
     if v < 0 { 0 } else { v as usize }
@@ -264,7 +157,7 @@ fn window_at(planes: bool, plane_stride: usize, ww: usize, wh: usize, x: i64, y:
 }
 
 // Refused: the number and zeros.
-fn no_part(number: u32) -> Part
+pub fn no_part(number: u32) -> Part
     ensures { λ r. ⌜ r ≡ noPart number ⌝ }
 {
     Part {
@@ -490,65 +383,6 @@ pub fn window_part16<'a>(
     pick16(part, plane, scratch)
 }
 
-// A row of a plane of h rows.
-fn row_ok(row: i64, h: usize) -> bool
-    ensures { λ r. ⌜ r ≡ leZ (pos 0) row && ltZ row (pos h) ⌝ }
-{
-    if row < 0 { false } else { above64(row) < h }
-}
-
-fn check_row(f: Frame, plane_no: u32, pl: usize, plane_stride: usize, row: i64) -> u32
-    ensures { λ r. ⌜ r ≡ lowest (rowTests f «plane_no» pl «plane_stride» row) ⌝ }
-{
-    let iw = plane_w(f, plane_no);
-    let ih = plane_h(f, plane_no);
-    let plane = held(pl, plane_stride, iw, ih, 5, 0);
-    let numbers = needed(
-        frame_names_ok(f, plane_no),
-        3,
-        needed(row_ok(row, ih), 3, plane),
-    );
-    needed(
-        frame_sizes_ok(f, plane_no),
-        1,
-        stride(iw, plane_stride, numbers),
-    )
-}
-
-// Where a row of a plane lies.
-pub fn row_at(f: Frame, plane_no: u32, pl: usize, plane_stride: usize, row: i64) -> Part
-    ensures { λ r. ⌜ r ≡ rowAt f «plane_no» pl «plane_stride» row ⌝ }
-{
-    let number = check_row(f, plane_no, pl, plane_stride, row);
-    if number != 0 {
-        return no_part(number);
-    }
-    let place = above64(row) * plane_stride;
-    let len = plane_w(f, plane_no);
-    Part {
-        number: 0,
-        buffer: 1,
-        place,
-        stride: plane_stride,
-        len,
-    }
-}
-
-// The row itself.
-pub fn row_part8(f: Frame, plane_no: u32, plane: &[u8], plane_stride: usize, row: i64) -> &[u8]
-    ensures { λ r. ⌜ now r ≡ partOf (rowAt f «plane_no» (length (now (plane .entry))) «plane_stride» row) (now (plane .entry)) [] ⌝ }
-{
-    let part = row_at(f, plane_no, plane.len(), plane_stride, row);
-    pick8(part, plane, &plane[0..0])
-}
-
-pub fn row_part16(f: Frame, plane_no: u32, plane: &[u16], plane_stride: usize, row: i64) -> &[u16]
-    ensures { λ r. ⌜ now r ≡ partOf (rowAt f «plane_no» (length (now (plane .entry))) «plane_stride» row) (now (plane .entry)) [] ⌝ }
-{
-    let part = row_at(f, plane_no, plane.len(), plane_stride, row);
-    pick16(part, plane, &plane[0..0])
-}
-
 #[no_mangle]
 pub extern "C" fn hv_window_8bpc(
     luma_w: usize,
@@ -640,68 +474,6 @@ pub extern "C" fn hv_window_16bpc(
         mode,
         scratch,
     );
-    *buffer = part.buffer;
-    *place = part.place;
-    *stride = part.stride;
-    *len = part.len;
-    part.number
-}
-
-#[no_mangle]
-pub extern "C" fn hv_row_8bpc(
-    luma_w: usize,
-    luma_h: usize,
-    ss_hor: bool,
-    ss_ver: bool,
-    plane_no: u32,
-    plane: &[u8],
-    plane_stride: usize,
-    row: i64,
-    buffer: &mut u32,
-    place: &mut usize,
-    stride: &mut usize,
-    len: &mut usize,
-) -> u32
-    ensures { λ r. ⌜ PartAnswer (rowAt (record { «luma_w» = «luma_w»; «luma_h» = «luma_h»; «ss_hor» = «ss_hor»; «ss_ver» = «ss_ver» }) «plane_no» (length (now (plane .entry))) «plane_stride» row) r (now (buffer .exit)) (now (place .exit)) (now (stride .exit)) (now (len .exit)) ⌝ }
-{
-    let f = Frame {
-        luma_w,
-        luma_h,
-        ss_hor,
-        ss_ver,
-    };
-    let part = row_at(f, plane_no, plane.len(), plane_stride, row);
-    *buffer = part.buffer;
-    *place = part.place;
-    *stride = part.stride;
-    *len = part.len;
-    part.number
-}
-
-#[no_mangle]
-pub extern "C" fn hv_row_16bpc(
-    luma_w: usize,
-    luma_h: usize,
-    ss_hor: bool,
-    ss_ver: bool,
-    plane_no: u32,
-    plane: &[u16],
-    plane_stride: usize,
-    row: i64,
-    buffer: &mut u32,
-    place: &mut usize,
-    stride: &mut usize,
-    len: &mut usize,
-) -> u32
-    ensures { λ r. ⌜ PartAnswer (rowAt (record { «luma_w» = «luma_w»; «luma_h» = «luma_h»; «ss_hor» = «ss_hor»; «ss_ver» = «ss_ver» }) «plane_no» (length (now (plane .entry))) «plane_stride» row) r (now (buffer .exit)) (now (place .exit)) (now (stride .exit)) (now (len .exit)) ⌝ }
-{
-    let f = Frame {
-        luma_w,
-        luma_h,
-        ss_hor,
-        ss_ver,
-    };
-    let part = row_at(f, plane_no, plane.len(), plane_stride, row);
     *buffer = part.buffer;
     *place = part.place;
     *stride = part.stride;

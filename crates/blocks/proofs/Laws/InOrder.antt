@@ -17,7 +17,7 @@ use Rattle.blocks.specs.Warp.{warpTests}
 use Rattle.blocks.specs.Shear.{divisorTests, shearTests, affineMvTests}
 use Rattle.blocks.specs.Window.{windowTests, rowTests}
 use Rattle.blocks.specs.Order.{orderTests}
-use Rattle.blocks.specs.declared.window.Frame.{Frame}
+use Rattle.blocks.specs.declared.frame.Frame.{Frame}
 use Rattle.blocks.specs.declared.order.Order.{Order}
 
 put-order : (dl dstStride sl srcStride w h : ℕ) → inOrder 1 (putTests dl dstStride sl srcStride w h) ≡ true

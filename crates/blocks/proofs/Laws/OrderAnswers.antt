@@ -16,7 +16,7 @@ use Rattle.blocks.specs.Warp.{warpPlaceOk}
 use Rattle.blocks.specs.Window.{planeSide, frameSizesOk, frameNamesOk, before, after}
 use Rattle.blocks.specs.Order.{kindOf, kindSizeOk, motionOk, filtersOk, orderTests, orderScratch, orderDst, orderTmp, putRule, putPicture, OrderPutAnswer, OrderPrepAnswer}
 use Rattle.blocks.proofs.Laws.Answer.{unique-of}
-use Rattle.blocks.specs.declared.window.Frame.{Frame}
+use Rattle.blocks.specs.declared.frame.Frame.{Frame}
 use Rattle.blocks.specs.declared.order.Order.{Order}
 use Rattle.blocks.specs.declared.order.Kind.{Kind}
 use Rattle.blocks.specs.declared.order.Kind.the-variants.{Copy, Subpel, Bilinear, Warp}

@@ -17,7 +17,7 @@ use Rattle.blocks.specs.Order.{kindNumber, kindSizeOk, motionOk, filters
 use Rattle.blocks.specs.Ready.{Block, Rows, Windowed}
 use Rattle.blocks.proofs.Laws.Refuse.{all-met, met-all, then, later, sooner}
 use Rattle.blocks.proofs.Laws.Ready.{block-met, rows-met}
-use Rattle.blocks.specs.declared.window.Frame.{Frame}
+use Rattle.blocks.specs.declared.frame.Frame.{Frame}
 use Rattle.blocks.specs.declared.order.Order.{Order}
 use Rattle.blocks.specs.declared.order.Shears.{Shears}
 use Rattle.blocks.specs.declared.order.Kind.{Kind}

@@ -18,7 +18,7 @@ use Rattle.blocks.proofs.Laws.WindowReady.{window-number}
 use Rattle.blocks.proofs.Laws.Window.{picked-in, Picked, picked}
 use Rattle.blocks.proofs.Laws.Local.{putRule-local, prepRule-local}
 use Rattle.blocks.proofs.Laws.OrderReady.{order-window, order-dst, order-windowed}
-use Rattle.blocks.specs.declared.window.Frame.{Frame}
+use Rattle.blocks.specs.declared.frame.Frame.{Frame}
 use Rattle.blocks.specs.declared.window.Part.{Part}
 use Rattle.blocks.specs.declared.order.Order.{Order}
 use Rattle.blocks.specs.declared.order.Kind.{Kind}

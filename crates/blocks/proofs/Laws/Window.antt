@@ -19,7 +19,7 @@ use Rattle.blocks.specs.Refuse.{lowest, orSame, partLen}
 use Rattle.blocks.specs.Ready.{Rows, Fetch, PartIn}
 use Rattle.blocks.specs.Window.{planeW, planeH, before, windowSide, windowStart, windowTests, inside, isPlanes, ownPlane, windowAt, noPart, windowOf, fetched, scratchOf, partOf, aroundPart}
 use Rattle.blocks.proofs.Laws.WindowReady.{WindowFetch, window-ready, window-number}
-use Rattle.blocks.specs.declared.window.Frame.{Frame}
+use Rattle.blocks.specs.declared.frame.Frame.{Frame}
 use Rattle.blocks.specs.declared.window.Part.{Part}
 
 -- ---- a window inside its plane

@@ -21,8 +21,8 @@ use Rattle.blocks.specs.Window.{planeW, planeH, planeSide, frameSizesOk,
 use Rattle.blocks.proofs.Laws.Refuse.{all-met, later, sooner, size-met, holds-met, done, refused}
 use Rattle.blocks.proofs.Laws.Ready.{rows-met}
 use Rattle.blocks.proofs.Laws.EdgeReady.{place-met}
-use Rattle.blocks.specs.declared.window.Area.{Area}
-use Rattle.blocks.specs.declared.window.Frame.{Frame}
+use Rattle.blocks.specs.declared.frame.Area.{Area}
+use Rattle.blocks.specs.declared.frame.Frame.{Frame}
 use Rattle.blocks.specs.declared.window.Part.{Part}
 
 -- ---- margins

@@ -15,7 +15,7 @@ use Rattle.blocks.specs.Refuse.{lowest, orSame}
 use Rattle.blocks.specs.Ready.{PartIn}
 use Rattle.blocks.specs.Window.{planeW, planeH, rowTests, noPart, rowAt}
 use Rattle.blocks.proofs.Laws.Refuse.{all-met, holds-met}
-use Rattle.blocks.specs.declared.window.Frame.{Frame}
+use Rattle.blocks.specs.declared.frame.Frame.{Frame}
 
 -- ---- a row below 0 is none of h rows, and another is where it is below h
 pub below-none : (row : ℤ) (h : ℕ) → ltZ row (pos 0) ≡ true → false ≡ leZ (pos 0) row && ltZ row (pos h)

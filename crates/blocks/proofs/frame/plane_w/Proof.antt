@@ -1,0 +1,10 @@
+use borrow.Author.Needs.{needs}
+use Rattle.blocks.proofs.frame.plane_w.Statement.{statement}
+use Rattle.blocks.proofs.frame.plane_w.Tie as tie
+
+pub plane-w-spec : {M : Type 1} → statement M
+plane-w-spec =
+    tie.close
+    (tie.spec
+    (λ c κs. search needs)  -- plane-side-requires
+    (λ c. c .plane-side .ensures))  -- returns
