@@ -77,7 +77,7 @@ fn bilin_px8(s: i32, n: u32, r: u32, k: u32) -> u8
 }
 
 fn bilin_px16(s: i32, n: u32, r: u32, k: u32, max: u16) -> u16
-    requires { ⌜ (mag s < 2 ^ 22) × (n ≤ 8) × (r ≤ 8) × (k ≤ 4) ⌝ }
+    requires { ⌜ (mag s < 2 ^ 22) × (n ≤ 8) × (r ≤ 8) × (k ≤ 4) × (max < 2 ^ 15) ⌝ }
     ensures { λ v. ⌜ v ≡ clip max (shrZ (R n s +ℤ pos r) (2 ^ k)) ⌝ }
 {
     clip16(rounded(bilin_rnd(s, n), r, k), max)
@@ -126,7 +126,7 @@ pub fn put_bilin_row16(
     k: u32,
     max: u16,
 )
-    requires { ⌜ (o + length (now dst) + step ≤ length (now src)) × (f ≤ 15) × (n ≤ 8) × (r ≤ 8) × (k ≤ 4) ⌝ }
+    requires { ⌜ (o + length (now dst) + step ≤ length (now src)) × (f ≤ 15) × (n ≤ 8) × (r ≤ 8) × (k ≤ 4) × (max < 2 ^ 15) ⌝ }
     ensures { λ _. ⌜ now (dst .exit) ≡ rowOf (length (now (dst .entry)))
         (λ i. clip max (shrZ (R n (bilinAt (px (now (src .entry))) (o + i) step f) +ℤ pos r) (2 ^ k))) ⌝ }
 {
@@ -207,7 +207,7 @@ pub fn mid_bilin_row16(
     n: u32,
     max: u16,
 )
-    requires { ⌜ (o + length (now dst) + step ≤ length (now mid)) × (f ≤ 15) × (n ≤ 8) ⌝ }
+    requires { ⌜ (o + length (now dst) + step ≤ length (now mid)) × (f ≤ 15) × (n ≤ 8) × (max < 2 ^ 15) ⌝ }
     ensures { λ _. ⌜ now (dst .exit) ≡ rowOf (length (now (dst .entry))) (λ i. clip max (R n (bilinAt (at (now (mid .entry))) (o + i) step f))) ⌝ }
 {
     let w = dst.len();

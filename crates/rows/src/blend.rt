@@ -60,7 +60,7 @@ fn scaled(alpha: i32, beta: i32, d: i32) -> i32
 }
 
 pub fn morph_px(alpha: i32, beta: i32, d: u16, max: u16) -> u16
-    requires { ⌜ (natAbs alpha ≤ 2 ^ 14) × (natAbs beta ≤ 2 ^ 22) ⌝ }
+    requires { ⌜ (natAbs alpha ≤ 2 ^ 14) × (natAbs beta ≤ 2 ^ 22) × (max < 2 ^ 15) ⌝ }
     ensures { λ r. ⌜ r ≡ morph max alpha beta d ⌝ }
 {
     clip16(scaled(alpha, beta, d as i32), max)
@@ -86,7 +86,7 @@ pub fn morph_row8(dst: &mut [u8], alpha: i32, beta: i32)
 }
 
 pub fn morph_row16(dst: &mut [u16], alpha: i32, beta: i32, max: u16)
-    requires { ⌜ (natAbs alpha ≤ 2 ^ 14) × (natAbs beta ≤ 2 ^ 22) ⌝ }
+    requires { ⌜ (natAbs alpha ≤ 2 ^ 14) × (natAbs beta ≤ 2 ^ 22) × (max < 2 ^ 15) ⌝ }
     ensures { λ _. ⌜ now (dst .exit) ≡ rowOf (length (now (dst .entry))) (λ i. morph max alpha beta (getD (now (dst .entry)) i 0)) ⌝ }
 {
     let n = dst.len();

@@ -27,14 +27,14 @@ fn rounding(h: u32, bits: u32, bias: u32) -> u32
 }
 
 pub fn avg_px(a: i16, b: i16, bits: u32, bias: u32, max: u16) -> u16
-    requires { ⌜ (bits ≤ 4) × (bias ≤ 8192) ⌝ }
+    requires { ⌜ (bits ≤ 4) × (bias ≤ 8192) × (max < 2 ^ 15) ⌝ }
     ensures { λ r. ⌜ r ≡ avg max bits bias a b ⌝ }
 {
     clip16(mix(a, b, 1, 2, rounding(1, bits, bias), bits + 1), max)
 }
 
 pub fn mask_px(a: i16, b: i16, m: u8, bits: u32, bias: u32, max: u16) -> u16
-    requires { ⌜ (bits ≤ 4) × (bias ≤ 8192) ⌝ }
+    requires { ⌜ (bits ≤ 4) × (bias ≤ 8192) × (max < 2 ^ 15) ⌝ }
     ensures { λ r. ⌜ r ≡ masked max bits bias m a b ⌝ }
 {
     clip16(
@@ -77,7 +77,7 @@ pub fn avg_row16(
     bias: u32,
     max: u16,
 )
-    requires { ⌜ (q + length (now dst) ≤ length (now tmp1)) × (q + length (now dst) ≤ length (now tmp2)) × (bits ≤ 4) × (bias ≤ 8192) ⌝ }
+    requires { ⌜ (q + length (now dst) ≤ length (now tmp1)) × (q + length (now dst) ≤ length (now tmp2)) × (bits ≤ 4) × (bias ≤ 8192) × (max < 2 ^ 15) ⌝ }
     ensures { λ _. ⌜ now (dst .exit) ≡ rowOf (length (now (dst .entry))) (both (avg max bits bias) (now (tmp1 .entry)) (now (tmp2 .entry)) q) ⌝ }
 {
     let n = dst.len();
@@ -113,7 +113,7 @@ pub fn mask_row16(
     max: u16,
 )
     requires { ⌜ (q + length (now dst) ≤ length (now tmp1)) × (q + length (now dst) ≤ length (now tmp2)) × (o + length (now dst) ≤ length (now mask)) ⌝ }
-    requires { ⌜ (bits ≤ 4) × (bias ≤ 8192) ⌝ }
+    requires { ⌜ (bits ≤ 4) × (bias ≤ 8192) × (max < 2 ^ 15) ⌝ }
     ensures { λ _. ⌜ now (dst .exit) ≡ rowOf (length (now (dst .entry))) (λ i. both (masked max bits bias (getD (now (mask .entry)) (o + i) 0)) (now (tmp1 .entry)) (now (tmp2 .entry)) q i) ⌝ }
 {
     let n = dst.len();

@@ -1,8 +1,8 @@
 // Clips, cuts and wrapping steps of signed numbers.
 ghost use mathlib.Core.Path.{_≡_};
-ghost use Prim.Native.Nat.{_<_};
-ghost use lib.IntN.{ℤ, pos};
-ghost use Rattle.rows.specs.Numbers.{clip, low16, low32, minus16, minus32};
+ghost use Prim.Native.Nat.{_^_, _<_};
+ghost use lib.IntN.{ℤ, pos, negsuc};
+ghost use Rattle.rows.specs.Numbers.{clip, clipTo, low16, low32, minus16, minus32};
 
 // The number clamped to 0..255.
 pub fn clip8(v: i32) -> u8
@@ -13,18 +13,25 @@ pub fn clip8(v: i32) -> u8
     kept as u8
 }
 
-// The number clamped to 0..max.
+// The number clamped to what sixteen bits hold: as vectors pack it.
+fn pack16(v: i32) -> i16
+    ensures { λ r. ⌜ r ≡ clipTo (negsuc 32767) (pos 32767) v ⌝ }
+{
+    let low = if v > 32767 { 32767 } else { v };
+    let kept = if low < -32768 { -32768 } else { low };
+    kept as i16
+}
+
+// The number clamped to 0..max, by comparisons in sixteen bits.
 pub fn clip16(v: i32, max: u16) -> u16
+    requires { ⌜ max < 2 ^ 15 ⌝ }
     ensures { λ r. ⌜ r ≡ clip max v ⌝ }
 {
-    let m = max as i32;
-    if v < 0 {
-        0
-    } else if v > m {
-        max
-    } else {
-        v as u16
-    }
+    let short = pack16(v);
+    let m = max as i16;
+    let above = if short < 0 { 0 } else { short };
+    let kept = if above > m { m } else { above };
+    kept as u16
 }
 
 // A number that a byte holds.

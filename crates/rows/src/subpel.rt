@@ -175,7 +175,7 @@ fn tap_px16(
     n: u32,
     max: u16,
 ) -> u16
-    requires { ⌜ (o + 7 * step < length (now src)) × (r < 2 ^ 20) × (n < 32) × (near ≡ true → Near (now f)) ⌝ }
+    requires { ⌜ (o + 7 * step < length (now src)) × (r < 2 ^ 20) × (n < 32) × (near ≡ true → Near (now f)) × (max < 2 ^ 15) ⌝ }
     ensures { λ v. ⌜ v ≡ clip max (tapped (now (f .entry)) r n (λ t. px (now (src .entry)) (o + t * step))) ⌝ }
 {
     clip16(rounded(sum_u16(src, o, step, f, near), r, n), max)
@@ -240,7 +240,7 @@ fn mid_px16(
     n: u32,
     max: u16,
 ) -> u16
-    requires { ⌜ (o + 7 * step < length (now mid)) × (r < 2 ^ 20) × (n < 32) × (near ≡ true → Near (now f)) ⌝ }
+    requires { ⌜ (o + 7 * step < length (now mid)) × (r < 2 ^ 20) × (n < 32) × (near ≡ true → Near (now f)) × (max < 2 ^ 15) ⌝ }
     ensures { λ v. ⌜ v ≡ clip max (tapped (now (f .entry)) r n (λ t. at (now (mid .entry)) (o + t * step))) ⌝ }
 {
     clip16(rounded(sum_i16(mid, o, step, f, near), r, n), max)
@@ -394,7 +394,7 @@ fn tap_row16_by(
     n: u32,
     max: u16,
 )
-    requires { ⌜ (o + length (now dst) + 7 * step ≤ length (now src)) × (r < 2 ^ 20) × (n < 32) × (near ≡ true → Near (now f)) ⌝ }
+    requires { ⌜ (o + length (now dst) + 7 * step ≤ length (now src)) × (r < 2 ^ 20) × (n < 32) × (near ≡ true → Near (now f)) × (max < 2 ^ 15) ⌝ }
     ensures { λ _. ⌜ now (dst .exit) ≡ rowOf (length (now (dst .entry)))
         (λ i. clip max (tapped (now (f .entry)) r n (λ t. px (now (src .entry)) (o + i + t * step)))) ⌝ }
 {
@@ -417,7 +417,7 @@ pub fn tap_row16(
     n: u32,
     max: u16,
 )
-    requires { ⌜ (o + length (now dst) + 7 * step ≤ length (now src)) × (r < 2 ^ 20) × (n < 32) ⌝ }
+    requires { ⌜ (o + length (now dst) + 7 * step ≤ length (now src)) × (r < 2 ^ 20) × (n < 32) × (max < 2 ^ 15) ⌝ }
     ensures { λ _. ⌜ now (dst .exit) ≡ rowOf (length (now (dst .entry)))
         (λ i. clip max (tapped (now (f .entry)) r n (λ t. px (now (src .entry)) (o + i + t * step)))) ⌝ }
 {
@@ -596,7 +596,7 @@ fn mid_row16_by(
     n: u32,
     max: u16,
 )
-    requires { ⌜ (o + length (now dst) + 7 * step ≤ length (now mid)) × (r < 2 ^ 20) × (n < 32) × (near ≡ true → Near (now f)) ⌝ }
+    requires { ⌜ (o + length (now dst) + 7 * step ≤ length (now mid)) × (r < 2 ^ 20) × (n < 32) × (near ≡ true → Near (now f)) × (max < 2 ^ 15) ⌝ }
     ensures { λ _. ⌜ now (dst .exit) ≡ rowOf (length (now (dst .entry)))
         (λ i. clip max (tapped (now (f .entry)) r n (λ t. at (now (mid .entry)) (o + i + t * step)))) ⌝ }
 {
@@ -619,7 +619,7 @@ pub fn mid_row16(
     n: u32,
     max: u16,
 )
-    requires { ⌜ (o + length (now dst) + 7 * step ≤ length (now mid)) × (r < 2 ^ 20) × (n < 32) ⌝ }
+    requires { ⌜ (o + length (now dst) + 7 * step ≤ length (now mid)) × (r < 2 ^ 20) × (n < 32) × (max < 2 ^ 15) ⌝ }
     ensures { λ _. ⌜ now (dst .exit) ≡ rowOf (length (now (dst .entry)))
         (λ i. clip max (tapped (now (f .entry)) r n (λ t. at (now (mid .entry)) (o + i + t * step)))) ⌝ }
 {

@@ -196,7 +196,7 @@ pub fn warp_put_row16(
     n: u32,
     max: u16,
 )
-    requires { ⌜ (length (now dst) ≡ 8) × (o + 64 ≤ length (now mid)) × (natAbs m ≤ 2 ^ 20) × (r ≤ 14) × (1 ≤ n) × (n ≤ 11) ⌝ }
+    requires { ⌜ (length (now dst) ≡ 8) × (o + 64 ≤ length (now mid)) × (natAbs m ≤ 2 ^ 20) × (r ≤ 14) × (1 ≤ n) × (n ≤ 11) × (max < 2 ^ 15) ⌝ }
     requires { ⌜ RowThere (length (now table) / 8) m a b r ⌝ }
     ensures { λ _. ⌜ now (dst .exit) ≡ rowOf 8
         (λ c. clip max (low16 (warped (now (table .entry)) m a b n r c (λ t. at (now (mid .entry)) (o + c + t * 8))))) ⌝ }

@@ -16,7 +16,7 @@ use mir.Syntax.{Width, w8, w16, w32, w64}
 use mir.Val.{SFits, Fits, toZ, ofZ, bits, hbits}
 use mir.ValLaws.{toZ-ofZ, toZ-pos}
 use mir.Facts.{sfits-widen}
-use Rattle.rows.specs.Numbers.{clip, up, dn}
+use Rattle.rows.specs.Numbers.{clip, clipTo, up, dn}
 
 -- ---- parts
 pub sub-ind : (a b : ℕ) (P : ℤ → Type 0) → (a < b → P (negsuc (b - suc a))) → (b ≤ a → P (pos (a - b))) → P (subℕ a b)
@@ -295,6 +295,22 @@ nonNeg-of (negsuc n) e = absurd (omega arith)
 pub clip-up : (m : ℕ) (z : ℤ) → clip m z ≡ min (up z) m
 clip-up m (pos n) = refl
 clip-up m (negsuc n) = omega arith
+
+-- a number clamped to -(l + 1) to h, by its parts
+abbrev pub Clamped : ℕ → ℕ → ℤ → ℤ → Type 0
+Clamped l h z r = (up r ≡ min (up z) h) × (dn r ≡ min (dn z) (suc l))
+
+pub clipTo-parts : (l h : ℕ) (z : ℤ) → Clamped l h z (clipTo (negsuc l) (pos h) z)
+clipTo-parts l h (pos n) = over (ltb h n) (λ t. ltb→lt h n t) (λ t. nltb→le h n t)
+  where
+    over : (b : Bool) → (T b → h < n) → (T (not b) → n ≤ h) → Clamped l h (pos n) (cond b (pos h) (pos n))
+    over true f g = omega (arith, f tt)
+    over false f g = omega (arith, g tt)
+clipTo-parts l h (negsuc n) = under (ltb l n) (λ t. ltb→lt l n t) (λ t. nltb→le l n t)
+  where
+    under : (b : Bool) → (T b → l < n) → (T (not b) → n ≤ l) → Clamped l h (negsuc n) (cond b (negsuc l) (negsuc n))
+    under true f g = omega (arith, f tt)
+    under false f g = omega (arith, g tt)
 
 -- what omega reads of the signed numbers that a need is handed
 pub ruleset signed = (arith, lt-yes, lt-no, le-yes, le-no, nonNeg-of)

@@ -22,7 +22,7 @@ mid-row16-by-spec =
     μ-loop
     (λ c. upto-none _ _ _)  -- loop-holds
     (λ c. omega arith)  -- o + i
-    (λ c κs. (omega arith, omega arith, omega arith, c .before .before .before .pre .3))  -- mid-px16-requires
+    (λ c κs. (omega arith, omega arith, omega arith, c .before .before .before .pre .3, omega arith))  -- mid-px16-requires
     (λ c. omega arith) (λ c. omega arith)  -- dst[i] =
     (λ c. omega arith)  -- i += 1
     (λ c. omega arith)  -- loop-less

@@ -10,10 +10,10 @@ pub tap-row16-spec : {M : Type 1} → statement M
 tap-row16-spec =
     tie.close
     (tie.spec
-    (λ c κs. (omega arith, omega arith, omega arith, λ e. absurd (subst T (sym e) tt)))  -- tap-row16-by-requires
+    (λ c κs. (omega arith, omega arith, omega arith, λ e. absurd (subst T (sym e) tt), omega arith))  -- tap-row16-by-requires
     (λ c κs. search needs)  -- is-near-requires
-    (λ c κs. (omega arith, omega arith, omega arith, λ e. leb-true _ _ (sym (c .before .before .is-near .ensures) ∙ c .before .if2 .taken)))  -- tap-row16-by-requires-2
-    (λ c κs. (omega arith, omega arith, omega arith, λ e. absurd (subst T (sym e) tt)))  -- tap-row16-by-requires-3
+    (λ c κs. (omega arith, omega arith, omega arith, λ e. leb-true _ _ (sym (c .before .before .is-near .ensures) ∙ c .before .if2 .taken), omega arith))  -- tap-row16-by-requires-2
+    (λ c κs. (omega arith, omega arith, omega arith, λ e. absurd (subst T (sym e) tt), omega arith))  -- tap-row16-by-requires-3
     (λ c. search needs)  -- same-length
     (λ c. search needs)  -- returns
     (λ c. search needs)  -- same-length
