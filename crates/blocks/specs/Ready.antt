@@ -152,12 +152,13 @@ pub record Lines (dl ds sl o s step w h : ℕ) : Type 0 where
   pub src : o + (h - 1) * s + w + 7 * step ≤ sl
 
 -- and the depth, with what depends on it
-pub record Depths (depth bits bias : ℕ) : Type 0 where
+pub record Depths (depth bits bias max : ℕ) : Type 0 where
   pub depth8 : 8 ≤ depth
   pub depth12 : depth ≤ 12
   pub bits2 : 2 ≤ bits
   pub bits4 : bits ≤ 4
   pub bias13 : bias ≤ 8192
+  pub max15 : max < 2 ^ 15
 
 -- a block of a kind, from a source that begins at its window's first pixel: the window's rows at the stride s in sl places; its numbers, and its filters in
 -- tables of tl, el and wl numbers

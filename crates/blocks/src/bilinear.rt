@@ -1,7 +1,7 @@
 // put_bilin and prep_bilin: blocks between whole places, at fractions in sixteenths.
 ghost use mathlib.Core.Path.{_≡_};
 ghost use mathlib.Core.Bool.{true};
-ghost use Prim.Native.Nat.{_+_, _*_, _^_, _≤_};
+ghost use Prim.Native.Nat.{_+_, _*_, _^_, _<_, _≤_};
 ghost use lib.IntN.{pos, _+ℤ_};
 ghost use lib.ListN.{length};
 ghost use lib.Signed.{shrZ};
@@ -326,7 +326,7 @@ fn put_bilin_axis16(
     k: u32,
     max: u16,
 )
-    requires { ⌜ Pairs (length (now dst)) ds (length (now src)) ss step w h f n × (r ≤ 8) × (k ≤ 4) ⌝ }
+    requires { ⌜ Pairs (length (now dst)) ds (length (now src)) ss step w h f n × (r ≤ 8) × (k ≤ 4) × (max < 2 ^ 15) ⌝ }
     ensures { λ _. ⌜ now (dst .exit) ≡ fill (now (dst .entry)) ds w h (λ i j. clip max (shrZ (R n (bilinAt (px (now (src .entry))) (j * ss + i) step f) +ℤ pos r) (2 ^ k))) ⌝ }
 {
     let mut y = 0;
@@ -370,7 +370,7 @@ fn mid_bilin_rows16(
     n: u32,
     max: u16,
 )
-    requires { ⌜ Pairs (length (now dst)) ds (length (now mid)) 64 64 w h f n ⌝ }
+    requires { ⌜ Pairs (length (now dst)) ds (length (now mid)) 64 64 w h f n × (max < 2 ^ 15) ⌝ }
     ensures { λ _. ⌜ now (dst .exit) ≡ fill (now (dst .entry)) ds w h (λ i j. clip max (R n (bilinAt (at (now (mid .entry))) (j * 64 + i) 64 f))) ⌝ }
 {
     let mut y = 0;
@@ -393,7 +393,7 @@ fn put_bilin_both16(
     bits: u32,
     max: u16,
 )
-    requires { ⌜ Bilin (length (now dst)) ds (length (now src)) ss w h f g × (1 ≤ f) × (1 ≤ g) × (bits ≤ 4) ⌝ }
+    requires { ⌜ Bilin (length (now dst)) ds (length (now src)) ss w h f g × (1 ≤ f) × (1 ≤ g) × (bits ≤ 4) × (max < 2 ^ 15) ⌝ }
     ensures { λ _. ⌜ now (dst .exit) ≡ fill (now (dst .entry)) ds w h (λ i j. putBilin max bits f g (around 0 (now (src .entry)) 0 ss i j)) ⌝ }
 {
     let mut mid = [0i16; 4160];
@@ -433,7 +433,7 @@ pub fn put_bilin_rows16(
     bits: u32,
     max: u16,
 )
-    requires { ⌜ Bilin (length (now dst)) ds (length (now src)) ss w h f g × (1 ≤ bits) × (bits ≤ 4) ⌝ }
+    requires { ⌜ Bilin (length (now dst)) ds (length (now src)) ss w h f g × (1 ≤ bits) × (bits ≤ 4) × (max < 2 ^ 15) ⌝ }
     ensures { λ _. ⌜ now (dst .exit) ≡ fill (now (dst .entry)) ds w h (λ i j. putBilin max bits f g (around 0 (now (src .entry)) 0 ss i j)) ⌝ }
 {
     if f != 0 {

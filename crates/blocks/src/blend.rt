@@ -1,7 +1,7 @@
 // blend and morph: pixels changed in place.
 ghost use mathlib.Core.Path.{_≡_};
 ghost use mathlib.Core.Bool.{true};
-ghost use Prim.Native.Nat.{_*_, _^_, _≤_};
+ghost use Prim.Native.Nat.{_*_, _^_, _<_, _≤_};
 ghost use lib.IntN.{natAbs};
 ghost use lib.ListN.{length};
 ghost use Rattle.rows.specs.Numbers.{up};
@@ -227,7 +227,7 @@ fn morph_rows16(
     h: usize,
     max: u16,
 )
-    requires { ⌜ Block w h × Rows (length (now dst)) «dst_stride» w h × (natAbs alpha ≤ 2 ^ 14) × (natAbs beta ≤ 2 ^ 22) ⌝ }
+    requires { ⌜ Block w h × Rows (length (now dst)) «dst_stride» w h × (natAbs alpha ≤ 2 ^ 14) × (natAbs beta ≤ 2 ^ 22) × (max < 2 ^ 15) ⌝ }
     ensures { λ _. ⌜ now (dst .exit) ≡ fill (now (dst .entry)) «dst_stride» w h (λ i j. morph max alpha beta (pixel (now (dst .entry)) «dst_stride» i j)) ⌝ }
 {
     let mut y = 0;

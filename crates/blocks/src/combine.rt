@@ -1,7 +1,7 @@
 // avg, w_avg, mask: two blocks of intermediates combined into pixels.
 ghost use mathlib.Core.Path.{_≡_};
 ghost use mathlib.Core.Bool.{true};
-ghost use Prim.Native.Nat.{_+_, _-_, _*_, _<_, _≤_};
+ghost use Prim.Native.Nat.{_+_, _-_, _*_, _^_, _<_, _≤_};
 ghost use lib.ListN.{length};
 ghost use lib.Signed.{mag};
 ghost use Rattle.rows.specs.Numbers.{up, dn};
@@ -70,7 +70,7 @@ fn avg_rows16(
     bias: u32,
     max: u16,
 )
-    requires { ⌜ Block w h × Rows (length (now dst)) «dst_stride» w h × Rows (length (now tmp1)) w w h × Rows (length (now tmp2)) w w h × Bits bits bias ⌝ }
+    requires { ⌜ Block w h × Rows (length (now dst)) «dst_stride» w h × Rows (length (now tmp1)) w w h × Rows (length (now tmp2)) w w h × Bits bits bias × (max < 2 ^ 15) ⌝ }
     ensures { λ _. ⌜ now (dst .exit) ≡ fill (now (dst .entry)) «dst_stride» w h (λ i j. both (avg max bits bias) (now (tmp1 .entry)) (now (tmp2 .entry)) (j * w) i) ⌝ }
 {
     let mut y = 0;
@@ -180,7 +180,7 @@ fn w_avg_rows16(
     bias: u32,
     max: u16,
 )
-    requires { ⌜ Block w h × Rows (length (now dst)) «dst_stride» w h × Rows (length (now tmp1)) w w h × Rows (length (now tmp2)) w w h × (mag weight < 33) × Bits bits bias ⌝ }
+    requires { ⌜ Block w h × Rows (length (now dst)) «dst_stride» w h × Rows (length (now tmp1)) w w h × Rows (length (now tmp2)) w w h × (mag weight < 33) × Bits bits bias × (max < 2 ^ 15) ⌝ }
     ensures { λ _. ⌜ now (dst .exit) ≡ fill (now (dst .entry)) «dst_stride» w h (λ i j. both (weighted max bits bias weight) (now (tmp1 .entry)) (now (tmp2 .entry)) (j * w) i) ⌝ }
 {
     if weight < 0 {
@@ -296,7 +296,7 @@ fn mask_rows16(
     bias: u32,
     max: u16,
 )
-    requires { ⌜ Block w h × Rows (length (now dst)) «dst_stride» w h × Rows (length (now tmp1)) w w h × Rows (length (now tmp2)) w w h × ((h - 1) * «mask_stride» + w ≤ length (now mask)) × Bits bits bias ⌝ }
+    requires { ⌜ Block w h × Rows (length (now dst)) «dst_stride» w h × Rows (length (now tmp1)) w w h × Rows (length (now tmp2)) w w h × ((h - 1) * «mask_stride» + w ≤ length (now mask)) × Bits bits bias × (max < 2 ^ 15) ⌝ }
     ensures { λ _. ⌜ now (dst .exit) ≡ fill (now (dst .entry)) «dst_stride» w h (λ i j. both (masked max bits bias (pixel (now (mask .entry)) «mask_stride» i j)) (now (tmp1 .entry)) (now (tmp2 .entry)) (j * w) i) ⌝ }
 {
     let mut y = 0;

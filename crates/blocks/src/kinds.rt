@@ -1,6 +1,6 @@
 // A block of each kind, from a source that begins at its window's first pixel.
 ghost use mathlib.Core.Path.{_≡_};
-ghost use Prim.Native.Nat.{_≤_};
+ghost use Prim.Native.Nat.{_^_, _<_, _≤_};
 ghost use lib.ListN.{length};
 ghost use Rattle.rows.specs.Places.{fill};
 ghost use Rattle.blocks.specs.Ready.{Rows, Bits, Windowed};
@@ -102,7 +102,7 @@ pub fn put_kind16(
     dst_stride: usize,
 )
     requires { ⌜ Windowed k (length (now src)) s w h (length (now subpel)) (length (now ext)) (length (now warp))
-        × Rows (length (now dst)) «dst_stride» w h × (1 ≤ d .bits) × Bits (d .bits) (d .bias) ⌝ }
+        × Rows (length (now dst)) «dst_stride» w h × (1 ≤ d .bits) × Bits (d .bits) (d .bias) × (d .max < 2 ^ 15) ⌝ }
     ensures { λ _. ⌜ now (dst .exit) ≡ fill (now (dst .entry)) «dst_stride» w h (λ i j. putRule (d .max) (d .bits)
         (now (subpel .entry)) (now (ext .entry)) (now (warp .entry)) k w h i j (aroundPart (kindNumber k) (now (src .entry)) s i j)) ⌝ }
 {

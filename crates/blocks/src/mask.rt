@@ -285,7 +285,7 @@ fn weigh_row16(
     bias: u32,
     max: u16,
 )
-    requires { ⌜ (length (now m) ≡ length (now dst)) × (q + length (now dst) ≤ length (now tmp1)) × (q + length (now dst) ≤ length (now tmp2)) × Depths depth bits bias ⌝ }
+    requires { ⌜ (length (now m) ≡ length (now dst)) × (q + length (now dst) ≤ length (now tmp1)) × (q + length (now dst) ≤ length (now tmp2)) × Depths depth bits bias max ⌝ }
     ensures { λ _. ⌜ (now (m .exit) ≡ rowOf (length (now (m .entry))) (both (weightOf depth bits) (now (tmp1 .entry)) (now (tmp2 .entry)) q)) × (now (dst .exit) ≡ rowOf (length (now (dst .entry))) (λ i. both (masked max bits bias (both (weightOf depth bits) (now (tmp1 .entry)) (now (tmp2 .entry)) q i)) (now (tmp1 .entry)) (now (tmp2 .entry)) q i)) ⌝ }
 {
     weight_row(m, tmp1, tmp2, q, depth, bits);
@@ -306,7 +306,7 @@ fn w_mask_each16(
     bias: u32,
     max: u16,
 )
-    requires { ⌜ Weighing (length (now dst)) «dst_stride» (length (now tmp1)) (length (now tmp2)) w h (length (now mask)) «mask_stride» w h × Depths depth bits bias ⌝ }
+    requires { ⌜ Weighing (length (now dst)) «dst_stride» (length (now tmp1)) (length (now tmp2)) w h (length (now mask)) «mask_stride» w h × Depths depth bits bias max ⌝ }
     ensures { λ _. ⌜ (now (dst .exit) ≡ fill (now (dst .entry)) «dst_stride» w h (λ i j. both (masked max bits bias (both (weightOf depth bits) (now (tmp1 .entry)) (now (tmp2 .entry)) (j * w) i)) (now (tmp1 .entry)) (now (tmp2 .entry)) (j * w) i)) × (now (mask .exit) ≡ fill (now (mask .entry)) «mask_stride» w h (λ i j. both (weightOf depth bits) (now (tmp1 .entry)) (now (tmp2 .entry)) (j * w) i)) ⌝ }
 {
     let mut y = 0;
@@ -343,7 +343,7 @@ fn w_mask_pairs16(
     bias: u32,
     max: u16,
 )
-    requires { ⌜ Weighing (length (now dst)) «dst_stride» (length (now tmp1)) (length (now tmp2)) w h (length (now mask)) «mask_stride» (w / 2) h × (sign ≤ 1) × Depths depth bits bias ⌝ }
+    requires { ⌜ Weighing (length (now dst)) «dst_stride» (length (now tmp1)) (length (now tmp2)) w h (length (now mask)) «mask_stride» (w / 2) h × (sign ≤ 1) × Depths depth bits bias max ⌝ }
     ensures { λ _. ⌜ (now (dst .exit) ≡ fill (now (dst .entry)) «dst_stride» w h (λ i j. both (masked max bits bias (both (weightOf depth bits) (now (tmp1 .entry)) (now (tmp2 .entry)) (j * w) i)) (now (tmp1 .entry)) (now (tmp2 .entry)) (j * w) i)) × (now (mask .exit) ≡ fill (now (mask .entry)) «mask_stride» (w / 2) h (maskAt sign true false (λ i j. both (weightOf depth bits) (now (tmp1 .entry)) (now (tmp2 .entry)) (j * w) i))) ⌝ }
 {
     let mut m = [0u8; 64];
@@ -382,7 +382,7 @@ fn w_mask_fours16(
     bias: u32,
     max: u16,
 )
-    requires { ⌜ Weighing (length (now dst)) «dst_stride» (length (now tmp1)) (length (now tmp2)) w h (length (now mask)) «mask_stride» (w / 2) (h / 2) × (h % 2 ≡ 0) × (sign ≤ 1) × Depths depth bits bias ⌝ }
+    requires { ⌜ Weighing (length (now dst)) «dst_stride» (length (now tmp1)) (length (now tmp2)) w h (length (now mask)) «mask_stride» (w / 2) (h / 2) × (h % 2 ≡ 0) × (sign ≤ 1) × Depths depth bits bias max ⌝ }
     ensures { λ _. ⌜ (now (dst .exit) ≡ fill (now (dst .entry)) «dst_stride» w h (λ i j. both (masked max bits bias (both (weightOf depth bits) (now (tmp1 .entry)) (now (tmp2 .entry)) (j * w) i)) (now (tmp1 .entry)) (now (tmp2 .entry)) (j * w) i)) × (now (mask .exit) ≡ fill (now (mask .entry)) «mask_stride» (w / 2) (h / 2) (maskAt sign true true (λ i j. both (weightOf depth bits) (now (tmp1 .entry)) (now (tmp2 .entry)) (j * w) i))) ⌝ }
 {
     let mut m = [0u8; 64];
@@ -437,7 +437,7 @@ fn w_mask_rows16(
     bias: u32,
     max: u16,
 )
-    requires { ⌜ Weighing (length (now dst)) «dst_stride» (length (now tmp1)) (length (now tmp2)) w h (length (now mask)) «mask_stride» (maskSide «ss_hor» w) (maskSide «ss_ver» h) × (evenOk «ss_ver» h ≡ true) × (flagsOk «ss_hor» «ss_ver» ≡ true) × (sign ≤ 1) × Depths depth bits bias ⌝ }
+    requires { ⌜ Weighing (length (now dst)) «dst_stride» (length (now tmp1)) (length (now tmp2)) w h (length (now mask)) «mask_stride» (maskSide «ss_hor» w) (maskSide «ss_ver» h) × (evenOk «ss_ver» h ≡ true) × (flagsOk «ss_hor» «ss_ver» ≡ true) × (sign ≤ 1) × Depths depth bits bias max ⌝ }
     ensures { λ _. ⌜ (now (dst .exit) ≡ fill (now (dst .entry)) «dst_stride» w h (λ i j. both (masked max bits bias (both (weightOf depth bits) (now (tmp1 .entry)) (now (tmp2 .entry)) (j * w) i)) (now (tmp1 .entry)) (now (tmp2 .entry)) (j * w) i)) × (now (mask .exit) ≡ fill (now (mask .entry)) «mask_stride» (maskSide «ss_hor» w) (maskSide «ss_ver» h) (maskAt sign «ss_hor» «ss_ver» (λ i j. both (weightOf depth bits) (now (tmp1 .entry)) (now (tmp2 .entry)) (j * w) i))) ⌝ }
 {
     if ss_ver {

@@ -315,7 +315,7 @@ fn put_line_row16(
     n: u32,
     max: u16,
 )
-    requires { ⌜ (o + length (now dst) + 7 * step ≤ length (now src)) × (r < 2 ^ 20) × (n < 32) ⌝ }
+    requires { ⌜ (o + length (now dst) + 7 * step ≤ length (now src)) × (r < 2 ^ 20) × (n < 32) × (max < 2 ^ 15) ⌝ }
     ensures { λ _. ⌜ now (dst .exit) ≡ rowOf (length (now (dst .entry))) (λ i. putLine max (now (f .entry)) r n step (λ t. getD (now (src .entry)) (o + i + t * step) 0)) ⌝ }
 {
     if step == 0 {
@@ -356,7 +356,7 @@ fn put_lines16(
     w: usize,
     h: usize,
 )
-    requires { ⌜ Lines (length (now dst)) «dst_stride» (length (now src)) (p .start) «src_stride» (p .step) w h × (p .round < 2 ^ 20) × (6 ≤ p .bits) × (p .bits ≤ 7) ⌝ }
+    requires { ⌜ Lines (length (now dst)) «dst_stride» (length (now src)) (p .start) «src_stride» (p .step) w h × (p .round < 2 ^ 20) × (6 ≤ p .bits) × (p .bits ≤ 7) × (max < 2 ^ 15) ⌝ }
     ensures { λ _. ⌜ now (dst .exit) ≡ fill (now (dst .entry)) «dst_stride» w h (λ i j. putLine max (p .first) (p .round) (p .bits) (p .step) (along (now (src .entry)) (p .start) «src_stride» (p .step) i j)) ⌝ }
 {
     let f = p.first;
@@ -405,7 +405,7 @@ fn mid_lines16(
     w: usize,
     h: usize,
 )
-    requires { ⌜ Lines (length (now dst)) «dst_stride» (length (now mid)) 0 64 64 w h × (1 ≤ n) × (n ≤ 11) ⌝ }
+    requires { ⌜ Lines (length (now dst)) «dst_stride» (length (now mid)) 0 64 64 w h × (1 ≤ n) × (n ≤ 11) × (max < 2 ^ 15) ⌝ }
     ensures { λ _. ⌜ now (dst .exit) ≡ fill (now (dst .entry)) «dst_stride» w h (λ i j. clip max (tapped (now (f .entry)) (half n) n (λ t. at (now (mid .entry)) (j * 64 + i + t * 64)))) ⌝ }
 {
     let r = half_power(n);
@@ -433,7 +433,7 @@ pub fn put_8tap_rows16(
     subpel: &[i8],
     ext: &[i8],
 )
-    requires { ⌜ Bits (d .bits) (d .bias) × Block w h × Rows (length (now dst)) «dst_stride» w h × Taps (length (now src)) o s w h mx my «filter_type» (length (now subpel)) (length (now ext)) ⌝ }
+    requires { ⌜ Bits (d .bits) (d .bias) × Block w h × Rows (length (now dst)) «dst_stride» w h × Taps (length (now src)) o s w h mx my «filter_type» (length (now subpel)) (length (now ext)) × (d .max < 2 ^ 15) ⌝ }
     ensures { λ _. ⌜ now (dst .exit) ≡ fill (now (dst .entry)) «dst_stride» w h (λ i j. put8Rule (d .max) (d .bits) (now (subpel .entry)) (now (ext .entry)) mx my «filter_type» w h (around 3 (now (src .entry)) o s i j)) ⌝ }
 {
     let bits = d.bits;

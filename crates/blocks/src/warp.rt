@@ -1,7 +1,7 @@
 // warp_affine_8x8 and 8x8t: blocks of eight by eight, each pixel with filters of its own.
 ghost use mathlib.Core.Path.{_≡_};
 ghost use mathlib.Core.Bool.{true};
-ghost use Prim.Native.Nat.{suc, _+_, _-_, _*_, _/_, _^_, _≤_};
+ghost use Prim.Native.Nat.{suc, _+_, _-_, _*_, _/_, _^_, _<_, _≤_};
 ghost use lib.IntN.{pos, natAbs};
 ghost use lib.ListN.{length};
 ghost use Rattle.rows.specs.Numbers.{at, px, clip, low16, minus16, up};
@@ -262,7 +262,7 @@ fn warp_put_rows16(
     bits: u32,
     max: u16,
 )
-    requires { ⌜ Rows (length (now dst)) «dst_stride» 8 8 × (length (now mid) ≡ 120) × Pass (length (now table) / 8) m a b 8 × (bits ≤ 4) ⌝ }
+    requires { ⌜ Rows (length (now dst)) «dst_stride» 8 8 × (length (now mid) ≡ 120) × Pass (length (now table) / 8) m a b 8 × (bits ≤ 4) × (max < 2 ^ 15) ⌝ }
     ensures { λ _. ⌜ now (dst .exit) ≡ fill (now (dst .entry)) «dst_stride» 8 8
         (λ i j. clip max (low16 (warped (now (table .entry)) m a b (7 + bits) j i (λ v. at (now (mid .entry)) (j * 8 + i + v * 8))))) ⌝ }
 {
@@ -368,7 +368,7 @@ pub fn warp_put16(
     bits: u32,
     max: u16,
 )
-    requires { ⌜ Warps (length (now dst)) «dst_stride» (length (now src)) «src_off» «src_stride» (length (now warp) / 8) a b c d mx my × (bits ≤ 4) ⌝ }
+    requires { ⌜ Warps (length (now dst)) «dst_stride» (length (now src)) «src_off» «src_stride» (length (now warp) / 8) a b c d mx my × (bits ≤ 4) × (max < 2 ^ 15) ⌝ }
     ensures { λ _. ⌜ now (dst .exit) ≡ fill (now (dst .entry)) «dst_stride» 8 8
         (λ i j. warpPut max bits (now (warp .entry)) mx my a b c d i j (around 3 (now (src .entry)) «src_off» «src_stride» i j)) ⌝ }
 {

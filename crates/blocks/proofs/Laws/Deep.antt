@@ -2,13 +2,13 @@
 use mathlib.Core.Path.{_≡_, refl}
 use mathlib.Core.Bool.{Bool, true, false, _||_}
 use mathlib.Core.Logic.{_⊎_, inl, inr}
-use Prim.Native.Nat.{ℕ, _≤_}
+use Prim.Native.Nat.{ℕ, _^_, _<_, _≤_}
 use native.Mathlib.Omega.{arith}
 use borrow.Author.Tests.{eqb-true}
 use lib.Dec.{eqb}
 use lib.IntN.{ℤ}
 use Rattle.rows.specs.Numbers.{up}
-use Rattle.rows.specs.Depth.{High, bitsOf, biasOf}
+use Rattle.rows.specs.Depth.{High, bitsOf, biasOf, maxOf}
 use Rattle.rows.proofs.Laws.Depth.{high}
 use Rattle.blocks.specs.Refuse.{depthOk}
 use Rattle.blocks.specs.Ready.{Bits}
@@ -29,6 +29,10 @@ deep-bits depth e =
     high (λ (n : ℕ). Bits (bitsOf n) (biasOf n)) (deep-high depth e)
     (record { bits4 = omega arith; bias13 = omega arith })
     (record { bits4 = omega arith; bias13 = omega arith })
+
+-- and a largest pixel that sixteen bits hold with their sign
+pub deep-max : (depth : ℤ) → depthOk depth ≡ true → maxOf (up depth) < 2 ^ 15
+deep-max depth e = high (λ (n : ℕ). maxOf n < 2 ^ 15) (deep-high depth e) (omega arith) (omega arith)
 
 -- and put's second shift is by something
 pub deep-some : (depth : ℤ) → depthOk depth ≡ true → 1 ≤ bitsOf (up depth)

@@ -7,7 +7,7 @@ use borrow.Author.Tests.{eqb-true}
 use lib.IntN.{ℤ, pos}
 use lib.Signed.{leZ}
 use Rattle.rows.specs.Numbers.{up}
-use Rattle.rows.specs.Depth.{bitsOf, biasOf}
+use Rattle.rows.specs.Depth.{bitsOf, biasOf, maxOf}
 use Rattle.rows.proofs.Laws.Depth.{high}
 use Rattle.rows.proofs.Laws.Signed.{le-yes, one-part}
 use Rattle.rows.proofs.Laws.Fill.{and-true}
@@ -66,11 +66,11 @@ w-mask-ready deep dl ds l1 l2 w h ml ms sign ssHor ssVer e =
     )
 
 -- a depth that passed its test gives the 16-bit rows what they rely on
-depths : (depth : ℤ) → depthOk depth ≡ true → Depths (up depth) (bitsOf (up depth)) (biasOf (up depth))
+depths : (depth : ℤ) → depthOk depth ≡ true → Depths (up depth) (bitsOf (up depth)) (biasOf (up depth)) (maxOf (up depth))
 depths depth e =
-    high (λ (n : ℕ). Depths n (bitsOf n) (biasOf n)) (deep-high depth e)
-    (record { depth8 = omega arith; depth12 = omega arith; bits2 = omega arith; bits4 = omega arith; bias13 = omega arith })
-    (record { depth8 = omega arith; depth12 = omega arith; bits2 = omega arith; bits4 = omega arith; bias13 = omega arith })
+    high (λ (n : ℕ). Depths n (bitsOf n) (biasOf n) (maxOf n)) (deep-high depth e)
+    (record { depth8 = omega arith; depth12 = omega arith; bits2 = omega arith; bits4 = omega arith; bias13 = omega arith; max15 = omega arith })
+    (record { depth8 = omega arith; depth12 = omega arith; bits2 = omega arith; bits4 = omega arith; bias13 = omega arith; max15 = omega arith })
 
-pub depths-met : (depth : ℤ) (d : ℕ) (n : DepthNumbers) → d ≡ up depth → n ≡ numbersOf (up depth) → depthOk depth ≡ true → Depths d (n .bits) (n .bias)
+pub depths-met : (depth : ℤ) (d : ℕ) (n : DepthNumbers) → d ≡ up depth → n ≡ numbersOf (up depth) → depthOk depth ≡ true → Depths d (n .bits) (n .bias) (n .max)
 depths-met depth d n a b e = rw (a, b) (depths depth e)

@@ -7,7 +7,7 @@ use Rattle.blocks.specs.Refuse.{depthOk, lowest}
 use Rattle.blocks.specs.Bilinear.{bilinTests}
 use Rattle.blocks.proofs.Laws.Refuse.{done, refused}
 use Rattle.blocks.specs.Ready.{numbersOf}
-use Rattle.blocks.proofs.Laws.Deep.{deep-bits, deep-some}
+use Rattle.blocks.proofs.Laws.Deep.{deep-bits, deep-max, deep-some}
 use Rattle.blocks.proofs.Laws.BilinReady.{bilin-ready}
 use Rattle.blocks.proofs.bilinear.hv_put_bilin_16bpc.Statement.{statement}
 use Rattle.blocks.proofs.bilinear.hv_put_bilin_16bpc.Tie as tie
@@ -38,7 +38,7 @@ rows-requires : tie.Need-put-bilin-rows16-requires
 rows-requires c κs =
     let a = c .before in let t = a .before .before .before in let e = fractions a in
     let q = bilin-ready _ _ _ _ _ _ _ _ _ (sym (number (t .before)) ∙ t .if1 .taken) in let d = entry (t .before) .args .depth in
-    rw (e .0, e .1, numbers (a .before .before)) (q .1, deep-some d (q .0), deep-bits d (q .0) .bits4)
+    rw (e .0, e .1, numbers (a .before .before)) (q .1, deep-some d (q .0), deep-bits d (q .0) .bits4, deep-max d (q .0))
 
 returns : tie.Need-returns
 returns c =

@@ -13,7 +13,7 @@ entry c = c .before .before .before
 second-requires : tie.Need-mid-bilin-rows16-requires
 second-requires c κs =
     let m = c .before .before .before in let s = entry (m .before) in
-    second (s .pre .0) _ (omega (arith, s .pre .3)) _ (omega (arith, m .prep-bilin-axis16 .kept .0))
+    (second (s .pre .0) _ (omega (arith, s .pre .3)) _ (omega (arith, m .prep-bilin-axis16 .kept .0)), s .pre .4)
 
 returns : tie.Need-returns
 returns c =

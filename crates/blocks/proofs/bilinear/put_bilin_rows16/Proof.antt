@@ -14,17 +14,17 @@ entry c = c .before .before
 both-requires : tie.Need-put-bilin-both16-requires
 both-requires c κs =
     let t = c .before in let s = entry (t .before .before) in
-    (s .pre .0, omega (arith, t .before .if1), omega (arith, t .if2), s .pre .2)
+    (s .pre .0, omega (arith, t .before .if1), omega (arith, t .if2), s .pre .2, s .pre .3)
 
 across-requires : tie.Need-put-bilin-axis16-requires
 across-requires c κs =
     let t = c .before .before in let s = entry (t .before .before) in
-    (across (s .pre .0) _ (omega (arith, s .pre)) (omega (arith, t .before .if1)) (t .if2 .left), half-small (c .before .half-power .ensures .0) (s .pre .2), s .pre .2)
+    (across (s .pre .0) _ (omega (arith, s .pre)) (omega (arith, t .before .if1)) (t .if2 .left), half-small (c .before .half-power .ensures .0) (s .pre .2), s .pre .2, s .pre .3)
 
 downward-requires : tie.Need-put-bilin-axis16-requires-2
 downward-requires c κs =
     let t = c .before in let s = entry (t .before .before) in
-    (downward (s .pre .0) _ (omega arith) (t .before .if1 .left) (omega (arith, t .if3)), omega arith, omega arith)
+    (downward (s .pre .0) _ (omega arith) (t .before .if1 .left) (omega (arith, t .if3)), omega arith, omega arith, s .pre .3)
 
 copied-requires : tie.Need-put-rows16-requires
 copied-requires c κs =

@@ -5,6 +5,7 @@ use Rattle.rows.proofs.Laws.Signed.{back}
 use Rattle.blocks.specs.Refuse.{lowest, depthOk}
 use Rattle.blocks.specs.Blend.{morphTests}
 use Rattle.blocks.proofs.Laws.Refuse.{done, refused}
+use Rattle.blocks.proofs.Laws.Deep.{deep-max}
 use Rattle.blocks.proofs.Laws.BlendReady.{morph-ready}
 use Rattle.blocks.proofs.blend.hv_morph_16bpc.Statement.{statement}
 use Rattle.blocks.proofs.blend.hv_morph_16bpc.Tie as tie
@@ -28,7 +29,7 @@ morph-rows16-requires : tie.Need-morph-rows16-requires
 morph-rows16-requires c κs =
     let i = c .before .before in let t = entry (i .before) in
     let p = morph-ready _ _ _ (t .args .alpha) (t .args .beta) _ _ (sym (number (i .before)) ∙ i .if1 .taken) in
-    rw (back (t .fits .alpha), back (t .fits .beta)) (p .1, p .2, p .3, p .4)
+    rw (c .before .depth-numbers .ensures, back (t .fits .depth), back (t .fits .alpha), back (t .fits .beta)) (p .1, p .2, p .3, p .4, deep-max _ (p .0))
 
 returns : tie.Need-returns
 returns c =

@@ -8,7 +8,7 @@ use Rattle.blocks.specs.Refuse.{lowest, depthOk}
 use Rattle.blocks.specs.Ready.{numbersOf}
 use Rattle.blocks.specs.Combine.{maskTests}
 use Rattle.blocks.proofs.Laws.Refuse.{done, refused}
-use Rattle.blocks.proofs.Laws.Deep.{deep-bits}
+use Rattle.blocks.proofs.Laws.Deep.{deep-bits, deep-max}
 use Rattle.blocks.proofs.Laws.CombineReady.{mask-ready}
 use Rattle.blocks.proofs.combine.hv_mask_16bpc.Statement.{statement}
 use Rattle.blocks.proofs.combine.hv_mask_16bpc.Tie as tie
@@ -31,7 +31,7 @@ mask-rows16-requires : tie.Need-mask-rows16-requires
 mask-rows16-requires c κs =
     let t = c .before .before in
     let p = mask-ready _ _ _ _ _ _ _ _ (sym (number (t .before)) ∙ t .if1 .taken) in
-    (p .1 .0, p .1 .1, p .1 .2, p .1 .3, p .1 .4 .fits, rw (depth (c .before)) (deep-bits _ (p .0)))
+    (p .1 .0, p .1 .1, p .1 .2, p .1 .3, p .1 .4 .fits, rw (depth (c .before)) (deep-bits _ (p .0)), rw (depth (c .before)) (deep-max _ (p .0)))
 
 returns : tie.Need-returns
 returns c =

@@ -18,7 +18,7 @@ subpel-requires c κs =
     let k = c .before .before .before .before .before in
     let p = k .before .before .before .before .pre in
     let r = subpel-ready (p .0) (p .1) (subpel-passed (k .k .given .1) (c .struct-told3 .given)) in
-    (p .3, r .0, r .1, r .2)
+    (p .3, r .0, r .1, r .2, p .4)
 
 bilin-requires : tie.Need-put-bilin-rows16-requires
 bilin-requires c κs =
@@ -26,13 +26,13 @@ bilin-requires c κs =
     let a = b .before in
     let k = a .before .before .before .before in
     let p = k .before .before .before .before .pre in
-    rw (a .above .ensures, c .above2 .ensures) (bilin-ready (p .0) (p .1) (bilin-passed (k .k2 .given .1) (b .struct-told5 .given)), p .2, p .3 .bits4)
+    rw (a .above .ensures, c .above2 .ensures) (bilin-ready (p .0) (p .1) (bilin-passed (k .k2 .given .1) (b .struct-told5 .given)), p .2, p .3 .bits4, p .4)
 
 warp-requires : tie.Need-warp-put16-requires
 warp-requires c κs =
     let k = c .before .before .before .before .before .before .before .before in
     let p = k .before .before .before .before .pre in
-    (warp-ready (p .0) (p .1) (warp-passed (k .k3 .given .1) (c .struct-told11 .given)), p .3 .bits4)
+    (warp-ready (p .0) (p .1) (warp-passed (k .k3 .given .1) (c .struct-told11 .given)), p .3 .bits4, p .4)
 
 copy-returns : tie.Need-returns
 unfolding putRule

@@ -7,7 +7,7 @@ use Rattle.rows.proofs.Laws.Signed.{back}
 use Rattle.blocks.specs.Refuse.{depthOk}
 use Rattle.blocks.specs.Ready.{numbersOf}
 use Rattle.blocks.specs.Order.{orderNumber}
-use Rattle.blocks.proofs.Laws.Deep.{deep-bits, deep-some}
+use Rattle.blocks.proofs.Laws.Deep.{deep-bits, deep-max, deep-some}
 use Rattle.blocks.proofs.Laws.OrderReady.{order-deep}
 use Rattle.blocks.proofs.Laws.Orders.{Ordered, order-part, order-rows, put-done, put-refused}
 use Rattle.blocks.proofs.predict.order_put16.Statement.{statement}
@@ -40,7 +40,7 @@ put-kind16-requires : tie.Need-put-kind16-requires
 put-kind16-requires c κs =
     let s = c .before in let w = s .before .before .before .before in let d = w .before .before in
     let r = order-rows (ordered w) (s .pick16 .ensures) in
-    rw (numbers d) (r .0, r .1, deep-some _ (deep (d .before)), deep-bits _ (deep (d .before)))
+    rw (numbers d) (r .0, r .1, deep-some _ (deep (d .before)), deep-bits _ (deep (d .before)), deep-max _ (deep (d .before)))
 
 returns : tie.Need-returns
 returns c =

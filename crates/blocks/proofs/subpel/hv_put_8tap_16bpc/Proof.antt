@@ -7,7 +7,7 @@ use Rattle.rows.proofs.Laws.Signed.{back}
 use Rattle.blocks.specs.Refuse.{lowest, depthOk}
 use Rattle.blocks.specs.Ready.{numbersOf}
 use Rattle.blocks.specs.Subpel.{subpelTests}
-use Rattle.blocks.proofs.Laws.Deep.{deep-bits}
+use Rattle.blocks.proofs.Laws.Deep.{deep-bits, deep-max}
 use Rattle.blocks.proofs.Laws.Refuse.{done, refused}
 use Rattle.blocks.proofs.Laws.SubpelReady.{subpel-deep, subpel-ready}
 use Rattle.blocks.proofs.subpel.hv_put_8tap_16bpc.Statement.{statement}
@@ -45,7 +45,7 @@ put-8tap-rows16-requires c κs =
     let t = d .before in
     let f = begin (t .before) .fits in
     let r = subpel-ready _ _ _ _ _ _ _ _ _ _ _ _ _ (sym (number (t .before)) ∙ t .if1 .taken) in
-    rw (numbers d, back (f .mx), back (f .my), back (f .filter-type)) (deep-bits _ (deep t), r .0, r .1, r .2)
+    rw (numbers d, back (f .mx), back (f .my), back (f .filter-type)) (deep-bits _ (deep t), r .0, r .1, r .2, deep-max _ (deep t))
 
 pub hv-put-8tap-16bpc-spec : {M : Type 1} → statement M
 hv-put-8tap-16bpc-spec =

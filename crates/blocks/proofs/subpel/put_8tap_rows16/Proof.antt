@@ -32,7 +32,7 @@ mid-lines16-requires c κs =
     let d = m .before .before .before .before in
     let s = begin d in
     let n = bits-in (planned d) in
-    (second-ready (planned d) (s .pre .1) (s .pre .3) (s .pre .2) (m .prep-lines16 .kept .0), omega (arith, s .pre .0), omega (arith, s .pre .0))
+    (second-ready (planned d) (s .pre .1) (s .pre .3) (s .pre .2) (m .prep-lines16 .kept .0), omega (arith, s .pre .0), omega (arith, s .pre .0), s .pre .4)
 
 returns : tie.Need-returns
 returns c =
@@ -51,7 +51,7 @@ put-lines16-requires-last c κs =
     let s = begin d in
     let n = bits-in (planned d) in
     let r = one-ready (planned d) (s .pre .1) (s .pre .3) (s .pre .2) (t .if1 .left) in
-    (r .0, r .1, n .0, n .1)
+    (r .0, r .1, n .0, n .1, s .pre .4)
 
 returns-2 : tie.Need-returns-2
 returns-2 c =

@@ -7,7 +7,7 @@ use Rattle.rows.proofs.Laws.Signed.{back}
 use Rattle.blocks.specs.Refuse.{lowest, depthOk}
 use Rattle.blocks.specs.Ready.{Warps}
 use Rattle.blocks.specs.Warp.{warpTests}
-use Rattle.blocks.proofs.Laws.Deep.{deep-bits}
+use Rattle.blocks.proofs.Laws.Deep.{deep-bits, deep-max}
 use Rattle.blocks.proofs.Laws.Refuse.{done, refused}
 use Rattle.blocks.proofs.Laws.WarpReady.{warp-ready}
 use Rattle.blocks.proofs.warp.hv_warp_affine_8x8_16bpc.Statement.{statement}
@@ -35,7 +35,7 @@ warp-put16-requires : tie.Need-warp-put16-requires
 warp-put16-requires c κs =
     let t = c .before .before in let f = begin (t .before) .fits in let r = ready t in
     rw (c .before .depth-numbers .ensures, back (f .depth), back (f .mx), back (f .my), back (f .a), back (f .b), back (f .c), back (f .d))
-    (r .1, deep-bits _ (r .0) .bits4)
+    (r .1, deep-bits _ (r .0) .bits4, deep-max _ (r .0))
 
 returns : tie.Need-returns
 returns c =

@@ -11,6 +11,12 @@ warp-mid16-requires c κs =
     let s = c .before .before .before in let f = s .fits in
     rw (back (f .mx), back (f .a), back (f .b)) (refl, taps-in (s .pre .0 .src), s .pre .0 .first, s .pre .1)
 
+warp-put-rows16-requires : tie.Need-warp-put-rows16-requires
+warp-put-rows16-requires c κs =
+    let one = c .before .before .before in
+    let s = one .before .before .before .before in let f = s .fits in
+    rw (back (f .my), back (f .c), back (f .d)) (s .pre .0 .dst, omega (arith, one .warp-mid16 .kept .0), s .pre .0 .second, s .pre .1, s .pre .2)
+
 returns : tie.Need-returns
 returns c =
     let two = c .before .before in
@@ -30,6 +36,6 @@ warp-put16-spec =
     (λ c. search needs)  -- src_off - ..
     warp-mid16-requires
     (λ c. search needs)  -- mid's length again
-    (λ c κs. search needs)  -- warp-put-rows16-requires
+    warp-put-rows16-requires
     (λ c. search needs)  -- same-length
     returns)
