@@ -68,8 +68,8 @@ pub fn eight(table: &[i8], n: usize) -> [i8; 8]
 }
 
 // The filter sum S, of bytes, of 16-bit pixels and of intermediates.
-pub fn taps_u8(src: &[u8], o: usize, step: usize, f: &[i8; 8]) -> i32
-    requires { ⌜ o + 7 * step < length (now src) ⌝ }
+pub fn taps_u8(src: &[u8], o: usize, step: usize, f: &[i8]) -> i32
+    requires { ⌜ (o + 7 * step < length (now src)) × (8 ≤ length (now f)) ⌝ }
     ensures { λ r. ⌜ (r ≡ S (now (f .entry)) (λ t. px (now (src .entry)) (o + t * step))) × (mag r < 2 ^ 30) ⌝ }
 {
     let mut s: i32 = 0;
@@ -81,8 +81,8 @@ pub fn taps_u8(src: &[u8], o: usize, step: usize, f: &[i8; 8]) -> i32
     s
 }
 
-pub fn taps_u16(src: &[u16], o: usize, step: usize, f: &[i8; 8]) -> i32
-    requires { ⌜ o + 7 * step < length (now src) ⌝ }
+pub fn taps_u16(src: &[u16], o: usize, step: usize, f: &[i8]) -> i32
+    requires { ⌜ (o + 7 * step < length (now src)) × (8 ≤ length (now f)) ⌝ }
     ensures { λ r. ⌜ (r ≡ S (now (f .entry)) (λ t. px (now (src .entry)) (o + t * step))) × (mag r < 2 ^ 30) ⌝ }
 {
     let mut s: i32 = 0;
@@ -94,8 +94,8 @@ pub fn taps_u16(src: &[u16], o: usize, step: usize, f: &[i8; 8]) -> i32
     s
 }
 
-pub fn taps_i16(src: &[i16], o: usize, step: usize, f: &[i8; 8]) -> i32
-    requires { ⌜ o + 7 * step < length (now src) ⌝ }
+pub fn taps_i16(src: &[i16], o: usize, step: usize, f: &[i8]) -> i32
+    requires { ⌜ (o + 7 * step < length (now src)) × (8 ≤ length (now f)) ⌝ }
     ensures { λ r. ⌜ (r ≡ S (now (f .entry)) (λ t. at (now (src .entry)) (o + t * step))) × (mag r < 2 ^ 30) ⌝ }
 {
     let mut s: i32 = 0;

@@ -1,4 +1,4 @@
-// Warp's rows: eight pixels or intermediates, each with a filter of its own.
+// Warp's rows of eight pixels and columns of fifteen intermediates, each with a filter of its own.
 ghost use mathlib.Core.Path.{_≡_};
 ghost use mathlib.Core.Bool.{true};
 ghost use Prim.Native.Nat.{ℕ, _+_, _*_, _/_, _^_, _<_, _≤_};
@@ -13,7 +13,6 @@ use crate::numbers::clip8;
 use crate::numbers::clip16;
 use crate::numbers::keep16;
 use crate::numbers::wrapping_sub16;
-use crate::subpel::eight;
 use crate::subpel::rounded;
 use crate::subpel::taps_i16;
 use crate::subpel::taps_u8;
@@ -28,11 +27,12 @@ pub fn filter_no(m: i32, a: i16, b: i16, r: u32, c: u32) -> i32
 }
 
 // The filter of column c of row r, which is in the table.
-fn filter_for(table: &[i8], m: i32, a: i16, b: i16, r: u32, c: u32) -> [i8; 8]
+fn filter_for<'a>(table: &'a [i8], m: i32, a: i16, b: i16, r: u32, c: u32) -> &'a [i8]
     requires { ⌜ (natAbs m ≤ 2 ^ 20) × (r ≤ 14) × (c ≤ 7) × (isThere (length (now table) / 8) (filterNo m a b r c) ≡ true) ⌝ }
-    ensures { λ f. ⌜ f ≡ filter (now (table .entry)) (natAbs (filterNo m a b r c)) ⌝ }
+    ensures { λ f. ⌜ now f ≡ filter (now (table .entry)) (natAbs (filterNo m a b r c)) ⌝ }
 {
-    eight(table, filter_no(m, a, b, r, c) as usize)
+    let q = 8 * filter_no(m, a, b, r, c) as usize;
+    &table[q..q + 8]
 }
 
 // Half of 2^n, for the shifts of both passes.
@@ -68,7 +68,7 @@ fn warp_px8(
     ensures { λ v. ⌜ v ≡ low16 (warped (now (table .entry)) m a b n r c (λ t. px (now (src .entry)) (o + t))) ⌝ }
 {
     let f = filter_for(table, m, a, b, r, c);
-    warp_kept(taps_u8(src, o, 1, &f), n)
+    warp_kept(taps_u8(src, o, 1, f), n)
 }
 
 fn warp_px16(
@@ -87,10 +87,10 @@ fn warp_px16(
     ensures { λ v. ⌜ v ≡ low16 (warped (now (table .entry)) m a b n r c (λ t. px (now (src .entry)) (o + t))) ⌝ }
 {
     let f = filter_for(table, m, a, b, r, c);
-    warp_kept(taps_u16(src, o, 1, &f), n)
+    warp_kept(taps_u16(src, o, 1, f), n)
 }
 
-// Column c of row r of the second pass, over rows of eight intermediates.
+// Column c of row r of the second pass, over a column of intermediates.
 fn warp_mid_px(
     mid: &[i16],
     o: usize,
@@ -102,64 +102,66 @@ fn warp_mid_px(
     c: u32,
     n: u32,
 ) -> i16
-    requires { ⌜ (o + 56 < length (now mid)) × (natAbs m ≤ 2 ^ 20) × (r ≤ 14) × (c ≤ 7) × (1 ≤ n) × (n ≤ 11) ⌝ }
+    requires { ⌜ (o + 7 < length (now mid)) × (natAbs m ≤ 2 ^ 20) × (r ≤ 14) × (c ≤ 7) × (1 ≤ n) × (n ≤ 11) ⌝ }
     requires { ⌜ isThere (length (now table) / 8) (filterNo m a b r c) ≡ true ⌝ }
-    ensures { λ v. ⌜ v ≡ low16 (warped (now (table .entry)) m a b n r c (λ t. at (now (mid .entry)) (o + t * 8))) ⌝ }
+    ensures { λ v. ⌜ v ≡ low16 (warped (now (table .entry)) m a b n r c (λ t. at (now (mid .entry)) (o + t))) ⌝ }
 {
     let f = filter_for(table, m, a, b, r, c);
-    warp_kept(taps_i16(mid, o, 8, &f), n)
+    warp_kept(taps_i16(mid, o, 1, f), n)
 }
 
-// The first pass: row r of 15, the first tap of its first column at place o.
-pub fn warp_row8(
+// The first pass: the fifteen rows of column c, side by side, as the second pass reads them; the first tap of the first stands at place o.
+pub fn warp_column8(
     mid: &mut [i16],
     src: &[u8],
     o: usize,
+    s: usize,
     table: &[i8],
     m: i32,
     a: i16,
     b: i16,
-    r: u32,
+    c: u32,
     n: u32,
 )
-    requires { ⌜ (length (now mid) ≡ 8) × (o + 15 ≤ length (now src)) × (natAbs m ≤ 2 ^ 20) × (r ≤ 14) × (1 ≤ n) × (n ≤ 11) ⌝ }
-    requires { ⌜ RowThere (length (now table) / 8) m a b r ⌝ }
-    ensures { λ _. ⌜ now (mid .exit) ≡ rowOf 8
-        (λ c. low16 (warped (now (table .entry)) m a b n r c (λ t. px (now (src .entry)) (o + c + t)))) ⌝ }
+    requires { ⌜ (length (now mid) ≡ 15) × (o + 14 * s + 8 ≤ length (now src)) × (natAbs m ≤ 2 ^ 20) × (c ≤ 7) × (1 ≤ n) × (n ≤ 11) ⌝ }
+    requires { ⌜ ((r : ℕ) → r < 15 → isThere (length (now table) / 8) (filterNo m a b r c) ≡ true) ⌝ }
+    ensures { λ _. ⌜ now (mid .exit) ≡ rowOf 15
+        (λ r. low16 (warped (now (table .entry)) m a b n r c (λ t. px (now (src .entry)) (o + r * s + t)))) ⌝ }
 {
-    let mut c = 0;
-    while c < 8 {
-        let v = warp_px8(src, o + c, table, m, a, b, r, c as u32, n);
-        mid[c] = v;
-        c += 1;
+    let mut r = 0;
+    while r < 15 {
+        let v = warp_px8(src, o + r * s, table, m, a, b, r as u32, c, n);
+        mid[r] = v;
+        r += 1;
     }
 }
 
-pub fn warp_row16(
+pub fn warp_column16(
     mid: &mut [i16],
     src: &[u16],
     o: usize,
+    s: usize,
     table: &[i8],
     m: i32,
     a: i16,
     b: i16,
-    r: u32,
+    c: u32,
     n: u32,
 )
-    requires { ⌜ (length (now mid) ≡ 8) × (o + 15 ≤ length (now src)) × (natAbs m ≤ 2 ^ 20) × (r ≤ 14) × (1 ≤ n) × (n ≤ 11) ⌝ }
-    requires { ⌜ RowThere (length (now table) / 8) m a b r ⌝ }
-    ensures { λ _. ⌜ now (mid .exit) ≡ rowOf 8
-        (λ c. low16 (warped (now (table .entry)) m a b n r c (λ t. px (now (src .entry)) (o + c + t)))) ⌝ }
+    requires { ⌜ (length (now mid) ≡ 15) × (o + 14 * s + 8 ≤ length (now src)) × (natAbs m ≤ 2 ^ 20) × (c ≤ 7) × (1 ≤ n) × (n ≤ 11) ⌝ }
+    requires { ⌜ ((r : ℕ) → r < 15 → isThere (length (now table) / 8) (filterNo m a b r c) ≡ true) ⌝ }
+    ensures { λ _. ⌜ now (mid .exit) ≡ rowOf 15
+        (λ r. low16 (warped (now (table .entry)) m a b n r c (λ t. px (now (src .entry)) (o + r * s + t)))) ⌝ }
 {
-    let mut c = 0;
-    while c < 8 {
-        let v = warp_px16(src, o + c, table, m, a, b, r, c as u32, n);
-        mid[c] = v;
-        c += 1;
+    let mut r = 0;
+    while r < 15 {
+        let v = warp_px16(src, o + r * s, table, m, a, b, r as u32, c, n);
+        mid[r] = v;
+        r += 1;
     }
 }
 
-// The second pass: row r of 8, over rows of eight intermediates; the first tap of its first column at place o. "low16, then clip".
+// The second pass: row r of 8, over columns of fifteen intermediates; the first tap of its first column at place o. "low16, then clip".
 pub fn warp_put_row8(
     dst: &mut [u8],
     mid: &[i16],
@@ -171,14 +173,14 @@ pub fn warp_put_row8(
     r: u32,
     n: u32,
 )
-    requires { ⌜ (length (now dst) ≡ 8) × (o + 64 ≤ length (now mid)) × (natAbs m ≤ 2 ^ 20) × (r ≤ 14) × (1 ≤ n) × (n ≤ 11) ⌝ }
+    requires { ⌜ (length (now dst) ≡ 8) × (o + 7 * 15 + 8 ≤ length (now mid)) × (natAbs m ≤ 2 ^ 20) × (r ≤ 14) × (1 ≤ n) × (n ≤ 11) ⌝ }
     requires { ⌜ RowThere (length (now table) / 8) m a b r ⌝ }
     ensures { λ _. ⌜ now (dst .exit) ≡ rowOf 8
-        (λ c. clip 255 (low16 (warped (now (table .entry)) m a b n r c (λ t. at (now (mid .entry)) (o + c + t * 8))))) ⌝ }
+        (λ c. clip 255 (low16 (warped (now (table .entry)) m a b n r c (λ t. at (now (mid .entry)) (o + c * 15 + t))))) ⌝ }
 {
     let mut c = 0;
     while c < 8 {
-        let v = clip8(warp_mid_px(mid, o + c, table, m, a, b, r, c as u32, n) as i32);
+        let v = clip8(warp_mid_px(mid, o + c * 15, table, m, a, b, r, c as u32, n) as i32);
         dst[c] = v;
         c += 1;
     }
@@ -196,15 +198,15 @@ pub fn warp_put_row16(
     n: u32,
     max: u16,
 )
-    requires { ⌜ (length (now dst) ≡ 8) × (o + 64 ≤ length (now mid)) × (natAbs m ≤ 2 ^ 20) × (r ≤ 14) × (1 ≤ n) × (n ≤ 11) × (max < 2 ^ 15) ⌝ }
+    requires { ⌜ (length (now dst) ≡ 8) × (o + 7 * 15 + 8 ≤ length (now mid)) × (natAbs m ≤ 2 ^ 20) × (r ≤ 14) × (1 ≤ n) × (n ≤ 11) × (max < 2 ^ 15) ⌝ }
     requires { ⌜ RowThere (length (now table) / 8) m a b r ⌝ }
     ensures { λ _. ⌜ now (dst .exit) ≡ rowOf 8
-        (λ c. clip max (low16 (warped (now (table .entry)) m a b n r c (λ t. at (now (mid .entry)) (o + c + t * 8))))) ⌝ }
+        (λ c. clip max (low16 (warped (now (table .entry)) m a b n r c (λ t. at (now (mid .entry)) (o + c * 15 + t))))) ⌝ }
 {
     let mut c = 0;
     while c < 8 {
         let v = clip16(
-            warp_mid_px(mid, o + c, table, m, a, b, r, c as u32, n) as i32,
+            warp_mid_px(mid, o + c * 15, table, m, a, b, r, c as u32, n) as i32,
             max,
         );
         dst[c] = v;
@@ -225,15 +227,15 @@ pub fn warp_prep_row(
     n: u32,
     bias: i16,
 )
-    requires { ⌜ (length (now tmp) ≡ 8) × (o + 64 ≤ length (now mid)) × (natAbs m ≤ 2 ^ 20) × (r ≤ 14) × (1 ≤ n) × (n ≤ 11) ⌝ }
+    requires { ⌜ (length (now tmp) ≡ 8) × (o + 7 * 15 + 8 ≤ length (now mid)) × (natAbs m ≤ 2 ^ 20) × (r ≤ 14) × (1 ≤ n) × (n ≤ 11) ⌝ }
     requires { ⌜ RowThere (length (now table) / 8) m a b r ⌝ }
     ensures { λ _. ⌜ now (tmp .exit) ≡ rowOf 8
-        (λ c. minus16 (low16 (warped (now (table .entry)) m a b n r c (λ t. at (now (mid .entry)) (o + c + t * 8)))) bias) ⌝ }
+        (λ c. minus16 (low16 (warped (now (table .entry)) m a b n r c (λ t. at (now (mid .entry)) (o + c * 15 + t)))) bias) ⌝ }
 {
     let mut c = 0;
     while c < 8 {
         let v = wrapping_sub16(
-            warp_mid_px(mid, o + c, table, m, a, b, r, c as u32, n),
+            warp_mid_px(mid, o + c * 15, table, m, a, b, r, c as u32, n),
             bias,
         );
         tmp[c] = v;

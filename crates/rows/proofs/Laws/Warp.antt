@@ -3,7 +3,7 @@ use mathlib.Core.Path.{_≡_, sym, ap, subst, _∙_}
 use mathlib.Core.Bool.{true}
 use mathlib.Core.List.{List}
 use Prim.Native.Nat.{ℕ, _+_, _-_, _*_, _%_, _^_, _≤_, _<_}
-use native.Mathlib.Nat.{mul-one, one-mul, pow-suc, not-suc-le-zero}
+use native.Mathlib.Nat.{mul-le-mul-right, mul-one, one-mul, pow-suc, not-suc-le-zero}
 use native.Mathlib.Numerals.{add-one}
 use native.Mathlib.Omega.{arith}
 use borrow.Author.Tests.{ltb-true}
@@ -12,8 +12,11 @@ use lib.IntN.{ℤ, pos, negsuc, natAbs}
 use lib.ListN.{length}
 use lib.Pow.{shl-exact}
 use lib.Signed.{nonNeg}
-use Rattle.rows.specs.Numbers.{half, px}
+use Rattle.rows.specs.Numbers.{at, half}
+use Rattle.rows.specs.Places.{span}
+use Rattle.rows.specs.Subpel.{filter}
 use Rattle.rows.specs.Warp.{isThere, warped}
+use Rattle.rows.proofs.Laws.Places.{span-length, span-at, row-done, length-rowOf}
 use Rattle.rows.proofs.Laws.Row.{Upto}
 use Rattle.rows.proofs.Laws.Taps.{tapped-same}
 
@@ -33,11 +36,26 @@ half-of n h =
     let q : 2 ^ n ≡ 2 ^ (n - 1) * 2 = ap (λ (k : ℕ). 2 ^ k) (sym e ∙ add-one (n - 1)) ∙ pow-suc 2 (n - 1) in
     omega (arith, q)
 
--- eight pixels side by side
-pub beside : (table : List ℤ) (m a b : ℤ) (n r c : ℕ) (src : List ℕ) (o : ℕ)
-    → warped table m a b n r c (λ t. px src (o + t * 1)) ≡ warped table m a b n r c (λ t. px src (o + t))
+-- what a table lends at a filter's place is that filter
+pub lent-filter : (table : List ℤ) (n : ℕ) → 8 * n + 8 ≤ length table → span table (8 * n) (8 * n + 8) ≡ filter table n
+unfolding filter
+lent-filter table n fits =
+    row-done (pos 0) 8 (λ t. at table (8 * n + t)) _ (span-length (pos 0) table (8 * n) (8 * n + 8) fits ∙ omega arith)
+    λ t h. span-at (pos 0) table (8 * n) (8 * n + 8) fits t (omega arith)
+
+pub length-filter : (table : List ℤ) (n : ℕ) (f : List ℤ) → f ≡ filter table n → length f ≡ 8
+unfolding filter
+length-filter table n f e = ap length e ∙ length-rowOf 8 (λ t. at table (8 * n + t))
+
+-- eight numbers side by side
+pub beside : (table : List ℤ) (m a b : ℤ) (n r c : ℕ) (x : ℕ → ℤ) (o : ℕ)
+    → warped table m a b n r c (λ t. x (o + t * 1)) ≡ warped table m a b n r c (λ t. x (o + t))
 unfolding warped
-beside table m a b n r c src o = tapped-same _ (half n) n (λ t. px src (o + t * 1)) (λ t. px src (o + t)) λ t h. ap (λ (k : ℕ). px src (o + k)) (mul-one t)
+beside table m a b n r c x o = tapped-same _ (half n) n (λ t. x (o + t * 1)) (λ t. x (o + t)) λ t h. ap (λ (k : ℕ). x (o + k)) (mul-one t)
+
+-- the taps of row r, of the fifteen rows from place o on
+pub tap-row : (l o s r : ℕ) → o + 14 * s + 8 ≤ l → r < 15 → o + r * s + 8 ≤ l
+tap-row l o s r fits lt = let h : r ≤ 14 = omega arith in omega (arith, mul-le-mul-right s h)
 
 -- a loop that writes a row of n begins
 pub upto-start : {A : Type 0} {z : A} {f : ℕ → A} {n : ℕ} {d : List A} → length d ≡ n → Upto z f n 0 d

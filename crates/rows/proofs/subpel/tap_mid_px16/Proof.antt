@@ -38,7 +38,7 @@ returns c =
 returns-2 : tie.Need-returns-2
 unfolding tapped
 returns-2 c =
-    let t = c .before in let s = t .before .before .before in
+    let t = c .before in let s = t .before .before .before .before in
     let fv : SFits w16 (c .kept .result) = omega arith in
     let ft : SFits w32 (t .taps-u16 .result) = omega arith in
     rw (back fv, c .kept .ensures, back ft, t .taps-u16 .ensures .0, back (s .fits .bias))

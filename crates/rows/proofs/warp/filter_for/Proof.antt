@@ -10,7 +10,7 @@ use mir.Syntax.{w32}
 use mir.Val.{SFits, toZ, ofZ}
 use Rattle.rows.specs.Warp.{filterNo}
 use Rattle.rows.proofs.Laws.Signed.{back}
-use Rattle.rows.proofs.Laws.Warp.{in-place}
+use Rattle.rows.proofs.Laws.Warp.{in-place, lent-filter}
 use Rattle.rows.proofs.warp.filter_for.Statement.{statement}
 use Rattle.rows.proofs.warp.filter_for.Tie as tie
 
@@ -33,5 +33,9 @@ filter-for-spec =
     (tie.spec
     (λ c κs. search needs)  -- filter-no-requires
     (λ c. rw (is c) (inside c .0, omega (arith, inside c .1)))  -- as usize
-    (λ c κs. rw (is c) (omega (arith, inside c .1)))  -- eight-requires
-    (λ c. rw (is (c .before)) at (c .eight .ensures)))  -- returns
+    (λ c. rw (is c) (omega (arith, inside c .1)))  -- 8 *
+    (λ c. rw (is c) (omega (arith, inside c .1)))  -- q + 8
+    (λ c. rw (is c) (omega (arith, inside c .1)))  -- q + 8 - q
+    (λ c. rw (is c) (omega (arith, inside c .1)))  -- q..
+    (λ c. rw (is c) (omega (arith, inside c .1)))  -- ..q + 8
+    (λ c. rw (is (c .before)) (lent-filter _ _ (omega (arith, inside (c .before) .1)))))  -- returns

@@ -14,7 +14,7 @@ use Rattle.rows.proofs.warp.warp_prep_row.Tie as tie
 
 abbrev Inv-loop : tie.InvT-loop
 Inv-loop tmp₀ mid o table m a b r n bias c₀ tmp c =
-    Upto (pos 0) (λ x. minus16 (low16 (warped table (toZ w32 m) (toZ w16 a) (toZ w16 b) n r x (λ t. at mid (o + x + t * 8)))) (toZ w16 bias)) 8 c tmp
+    Upto (pos 0) (λ x. minus16 (low16 (warped table (toZ w32 m) (toZ w16 a) (toZ w16 b) n r x (λ t. at mid (o + x * 15 + t)))) (toZ w16 bias)) 8 c tmp
 
 abbrev μ-loop : tie.MeasureT-loop
 μ-loop tmp₀ mid o table m a b r n bias c₀ tmp c = 8 - c
@@ -47,7 +47,8 @@ warp-prep-row-spec =
     Inv-loop
     μ-loop
     (λ c. upto-start (omega arith))  -- loop-holds
-    (λ c. omega arith)  -- o + c
+    (λ c. omega arith)  -- c * 15
+    (λ c. omega arith)  -- o + c * 15
     (λ c. omega arith)  -- c as u32
     warp-mid-px-requires
     (λ c κs. omega arith)  -- wrapping-sub16-requires

@@ -12,7 +12,7 @@ use Rattle.rows.proofs.warp.warp_put_row16.Tie as tie
 
 abbrev Inv-loop : tie.InvT-loop
 Inv-loop dst₀ mid o table m a b r n max c₀ dst c =
-    Upto 0 (λ x. clip max (low16 (warped table (toZ w32 m) (toZ w16 a) (toZ w16 b) n r x (λ t. at mid (o + x + t * 8))))) 8 c dst
+    Upto 0 (λ x. clip max (low16 (warped table (toZ w32 m) (toZ w16 a) (toZ w16 b) n r x (λ t. at mid (o + x * 15 + t))))) 8 c dst
 
 abbrev μ-loop : tie.MeasureT-loop
 μ-loop dst₀ mid o table m a b r n max c₀ dst c = 8 - c
@@ -44,7 +44,8 @@ warp-put-row16-spec =
     Inv-loop
     μ-loop
     (λ c. upto-start (omega arith))  -- loop-holds
-    (λ c. omega arith)  -- o + c
+    (λ c. omega arith)  -- c * 15
+    (λ c. omega arith)  -- o + c * 15
     (λ c. omega arith)  -- c as u32
     warp-mid-px-requires
     (λ c. search reading)  -- as i32
