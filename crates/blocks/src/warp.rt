@@ -17,11 +17,11 @@ use crate::refuse::needed;
 use crate::refuse::stride;
 use crate::shear::within;
 use rows::warp::filter_no;
+use rows::warp::warp_column8;
+use rows::warp::warp_column16;
 use rows::warp::warp_prep_row;
 use rows::warp::warp_put_row8;
 use rows::warp::warp_put_row16;
-use rows::warp::warp_row8;
-use rows::warp::warp_row16;
 
 // The filter of column c of row r of a pass is one of the table's n.
 fn corner_there(m: i32, a: i16, b: i16, r: u32, c: u32, n: usize) -> bool
@@ -151,7 +151,7 @@ fn check_warp(
     )
 }
 
-// The first pass: fifteen rows of eight intermediates; the first tap of the first stands at place o.
+// The first pass: fifteen rows of eight intermediates, column after column; the first tap of the first stands at place o.
 fn warp_mid8(
     mid: &mut [i16],
     src: &[u8],
@@ -164,24 +164,25 @@ fn warp_mid8(
     bits: u32,
 )
     requires { ⌜ (length (now mid) ≡ 120) × (o + 14 * s + 15 ≤ length (now src)) × Pass (length (now table) / 8) m a b 15 × (bits ≤ 4) ⌝ }
-    ensures { λ _. ⌜ now (mid .exit) ≡ fill (now (mid .entry)) 8 8 15
-        (λ i r. low16 (warped (now (table .entry)) m a b (7 - bits) r i (λ u. px (now (src .entry)) (o + r * s + i + u)))) ⌝ }
+    ensures { λ _. ⌜ now (mid .exit) ≡ fill (now (mid .entry)) 15 15 8
+        (λ r i. low16 (warped (now (table .entry)) m a b (7 - bits) r i (λ u. px (now (src .entry)) (o + i + r * s + u)))) ⌝ }
 {
-    let mut y = 0;
-    while y < 15 {
-        let d = y * 8;
-        warp_row8(
-            &mut mid[d..d + 8],
+    let mut x = 0;
+    while x < 8 {
+        let d = x * 15;
+        warp_column8(
+            &mut mid[d..d + 15],
             src,
-            o + y * s,
+            o + x,
+            s,
             table,
             m,
             a,
             b,
-            y as u32,
+            x as u32,
             7 - bits,
         );
-        y += 1;
+        x += 1;
     }
 }
 
@@ -197,24 +198,25 @@ fn warp_mid16(
     bits: u32,
 )
     requires { ⌜ (length (now mid) ≡ 120) × (o + 14 * s + 15 ≤ length (now src)) × Pass (length (now table) / 8) m a b 15 × (bits ≤ 4) ⌝ }
-    ensures { λ _. ⌜ now (mid .exit) ≡ fill (now (mid .entry)) 8 8 15
-        (λ i r. low16 (warped (now (table .entry)) m a b (7 - bits) r i (λ u. px (now (src .entry)) (o + r * s + i + u)))) ⌝ }
+    ensures { λ _. ⌜ now (mid .exit) ≡ fill (now (mid .entry)) 15 15 8
+        (λ r i. low16 (warped (now (table .entry)) m a b (7 - bits) r i (λ u. px (now (src .entry)) (o + i + r * s + u)))) ⌝ }
 {
-    let mut y = 0;
-    while y < 15 {
-        let d = y * 8;
-        warp_row16(
-            &mut mid[d..d + 8],
+    let mut x = 0;
+    while x < 8 {
+        let d = x * 15;
+        warp_column16(
+            &mut mid[d..d + 15],
             src,
-            o + y * s,
+            o + x,
+            s,
             table,
             m,
             a,
             b,
-            y as u32,
+            x as u32,
             7 - bits,
         );
-        y += 1;
+        x += 1;
     }
 }
 
@@ -231,7 +233,7 @@ fn warp_put_rows8(
 )
     requires { ⌜ Rows (length (now dst)) «dst_stride» 8 8 × (length (now mid) ≡ 120) × Pass (length (now table) / 8) m a b 8 × (bits ≤ 4) ⌝ }
     ensures { λ _. ⌜ now (dst .exit) ≡ fill (now (dst .entry)) «dst_stride» 8 8
-        (λ i j. clip 255 (low16 (warped (now (table .entry)) m a b (7 + bits) j i (λ v. at (now (mid .entry)) (j * 8 + i + v * 8))))) ⌝ }
+        (λ i j. clip 255 (low16 (warped (now (table .entry)) m a b (7 + bits) j i (λ v. at (now (mid .entry)) (j + i * 15 + v))))) ⌝ }
 {
     let mut y = 0;
     while y < 8 {
@@ -239,7 +241,7 @@ fn warp_put_rows8(
         warp_put_row8(
             &mut dst[d..d + 8],
             mid,
-            y * 8,
+            y,
             table,
             m,
             a,
@@ -264,7 +266,7 @@ fn warp_put_rows16(
 )
     requires { ⌜ Rows (length (now dst)) «dst_stride» 8 8 × (length (now mid) ≡ 120) × Pass (length (now table) / 8) m a b 8 × (bits ≤ 4) × (max < 2 ^ 15) ⌝ }
     ensures { λ _. ⌜ now (dst .exit) ≡ fill (now (dst .entry)) «dst_stride» 8 8
-        (λ i j. clip max (low16 (warped (now (table .entry)) m a b (7 + bits) j i (λ v. at (now (mid .entry)) (j * 8 + i + v * 8))))) ⌝ }
+        (λ i j. clip max (low16 (warped (now (table .entry)) m a b (7 + bits) j i (λ v. at (now (mid .entry)) (j + i * 15 + v))))) ⌝ }
 {
     let mut y = 0;
     while y < 8 {
@@ -272,7 +274,7 @@ fn warp_put_rows16(
         warp_put_row16(
             &mut dst[d..d + 8],
             mid,
-            y * 8,
+            y,
             table,
             m,
             a,
@@ -298,7 +300,7 @@ fn warp_prep_rows(
 )
     requires { ⌜ Rows (length (now tmp)) «tmp_stride» 8 8 × (length (now mid) ≡ 120) × Pass (length (now table) / 8) m a b 8 × (bias ≤ 8192) ⌝ }
     ensures { λ _. ⌜ now (tmp .exit) ≡ fill (now (tmp .entry)) «tmp_stride» 8 8
-        (λ i j. minus16 (low16 (warped (now (table .entry)) m a b 7 j i (λ v. at (now (mid .entry)) (j * 8 + i + v * 8)))) (pos bias)) ⌝ }
+        (λ i j. minus16 (low16 (warped (now (table .entry)) m a b 7 j i (λ v. at (now (mid .entry)) (j + i * 15 + v)))) (pos bias)) ⌝ }
 {
     let mut y = 0;
     while y < 8 {
@@ -306,7 +308,7 @@ fn warp_prep_rows(
         warp_prep_row(
             &mut tmp[d..d + 8],
             mid,
-            y * 8,
+            y,
             table,
             m,
             a,

@@ -2,7 +2,6 @@
 use mathlib.Core.Path.{_≡_, sym, ap, _∙_}
 use mathlib.Core.List.{List}
 use Prim.Native.Nat.{ℕ, _+_, _-_, _*_, _≤_, _<_}
-use native.Mathlib.Nat.{mul-le-mul-right}
 use native.Mathlib.Omega.{arith}
 use lib.IntN.{ℤ, pos}
 use lib.ListN.{length, getD}
@@ -14,18 +13,14 @@ use Rattle.rows.proofs.Laws.Taps.{tapped-same}
 use Rattle.blocks.specs.Ready.{Rows, Margins}
 use Rattle.blocks.proofs.Laws.Rows.{Filled, filled-more, filled-span}
 
--- a row kernel of eight columns left row y as the picture has it
-pub eight-more : {A : Type 0} (z : A) {s : ℕ} {f : ℕ → ℕ → A} {d₀ : List A} {h y : ℕ} {d : List A} (r : List A) → Filled s 8 f d₀ h y d
-    → Rows (length d₀) s 8 h → y < h → r ≡ rowOf 8 (λ i. f i y) → Filled s 8 f d₀ h (y + 1) (splice d (y * s) (y * s + 8) r)
-eight-more z {f = f} {y = y} r p b lt e = filled-more z r p (omega arith) b lt (e ∙ ap (λ (n : ℕ). rowOf n (λ i. f i y)) (sym (filled-span z p b lt)))
+-- a row kernel of w columns left row y as the picture has it
+pub filled-row : {A : Type 0} (z : A) {s w : ℕ} {f : ℕ → ℕ → A} {d₀ : List A} {h y : ℕ} {d : List A} (r : List A) → Filled s w f d₀ h y d
+    → 1 ≤ w → Rows (length d₀) s w h → y < h → r ≡ rowOf w (λ i. f i y) → Filled s w f d₀ h (y + 1) (splice d (y * s) (y * s + w) r)
+filled-row z {f = f} {y = y} r p w1 b lt e = filled-more z r p w1 b lt (e ∙ ap (λ (n : ℕ). rowOf n (λ i. f i y)) (sym (filled-span z p b lt)))
 
--- the first pass's fifteen rows of eight, without gaps
-pub fifteen : (l : ℕ) → l ≡ 120 → Rows l 8 8 15
-fifteen l e = record { wide = omega arith; most = omega arith; fits = omega arith }
-
--- row y of the source, from its first tap on
-pub tap-row : (l o s y : ℕ) → o + 14 * s + 15 ≤ l → y < 15 → o + y * s + 15 ≤ l
-tap-row l o s y fits lt = let h : y ≤ 14 = omega arith in omega (arith, mul-le-mul-right s h)
+-- the first pass's eight columns of fifteen, without gaps
+pub columns : (l : ℕ) → l ≡ 120 → Rows l 15 15 8
+columns l e = record { wide = omega arith; most = omega arith; fits = omega arith }
 
 -- the first tap of a block with its margins, and the rows from there on
 pub taps-in : {l off s : ℕ} → Margins l off s → off - (3 * s + 3) + 14 * s + 15 ≤ l
@@ -37,35 +32,35 @@ unfolding warped
 warped-same table m a b n r c x y e = tapped-same _ _ n x y e
 
 module _ (B : ℕ) (table : List ℤ) (mx a b : ℤ) (src : List ℕ) (off s : ℕ) (low : 3 * s + 3 ≤ off) where
-  -- what the first pass writes at column i of row r
+  -- what the first pass writes at row r of column i
   abbrev pub first : ℕ → ℕ → ℤ
-  first i r = low16 (warped table mx a b (7 - B) r i (λ u. px src (off - (3 * s + 3) + r * s + i + u)))
+  first r i = low16 (warped table mx a b (7 - B) r i (λ u. px src (off - (3 * s + 3) + i + r * s + u)))
 
-  first-is : (i j v : ℕ) → first i (j + v) ≡ warpMid B table mx a b i j (around 3 src off s i j) v
+  first-is : (i j v : ℕ) → first (j + v) i ≡ warpMid B table mx a b i j (around 3 src off s i j) v
   unfolding warpMid around
   first-is i j v = ap low16 (warped-same table mx a b (7 - B) (j + v) i _ _ λ u h. ap (λ (k : ℕ). pos (getD src k 0)) (omega arith))
 
-  module _ (mid₀ mid : List ℤ) (long : length mid₀ ≡ 120) (is : mid ≡ fill mid₀ 8 8 15 first) where
-    mid-at : (i j v : ℕ) → i < 8 → j < 8 → v < 8 → at mid (j * 8 + i + v * 8) ≡ warpMid B table mx a b i j (around 3 src off s i j) v
+  module _ (mid₀ mid : List ℤ) (long : length mid₀ ≡ 120) (is : mid ≡ fill mid₀ 15 15 8 first) where
+    mid-at : (i j v : ℕ) → i < 8 → j < 8 → v < 8 → at mid (j + i * 15 + v) ≡ warpMid B table mx a b i j (around 3 src off s i j) v
     mid-at i j v hi hj hv =
-        let e : j * 8 + i + v * 8 ≡ (j + v) * 8 + i = omega arith in
+        let e : j + i * 15 + v ≡ i * 15 + (j + v) = omega arith in
         ap (at mid) e
-        ∙ ap (λ (l : List ℤ). at l ((j + v) * 8 + i)) is
-        ∙ fill-in (pos 0) 8 mid₀ 8 15 first i (j + v) (omega arith) hi (omega arith) (omega arith)
+        ∙ ap (λ (l : List ℤ). at l (i * 15 + (j + v))) is
+        ∙ fill-in (pos 0) 15 mid₀ 15 8 first (j + v) i (omega arith) (omega arith) hi (omega arith)
         ∙ first-is i j v
 
     module _ (my c d : ℤ) (n i j : ℕ) (hi : i < 8) (hj : j < 8) where
-      second : warped table my c d n j i (λ v. at mid (j * 8 + i + v * 8)) ≡ warped table my c d n j i (warpMid B table mx a b i j (around 3 src off s i j))
+      second : warped table my c d n j i (λ v. at mid (j + i * 15 + v)) ≡ warped table my c d n j i (warpMid B table mx a b i j (around 3 src off s i j))
       second = warped-same table my c d n j i _ _ λ v hv. mid-at i j v hi hj hv
 
     pub put-second : (M : ℕ) (my c d : ℤ) (dst : List ℕ) (ds : ℕ) → 0 < ds
-        → fill dst ds 8 8 (λ i j. clip M (low16 (warped table my c d (7 + B) j i (λ v. at mid (j * 8 + i + v * 8)))))
+        → fill dst ds 8 8 (λ i j. clip M (low16 (warped table my c d (7 + B) j i (λ v. at mid (j + i * 15 + v)))))
         ≡ fill dst ds 8 8 (λ i j. warpPut M B table mx my a b c d i j (around 3 src off s i j))
     unfolding warpPut
     put-second M my c d dst ds h = fill-same 0 ds h dst 8 8 _ _ λ i j hi hj. ap (λ (z : ℤ). clip M (low16 z)) (second my c d (7 + B) i j hi hj)
 
     pub prep-second : (P : ℕ) (my c d : ℤ) (tmp : List ℤ) (ts : ℕ) → 0 < ts
-        → fill tmp ts 8 8 (λ i j. minus16 (low16 (warped table my c d 7 j i (λ v. at mid (j * 8 + i + v * 8)))) (pos P))
+        → fill tmp ts 8 8 (λ i j. minus16 (low16 (warped table my c d 7 j i (λ v. at mid (j + i * 15 + v)))) (pos P))
         ≡ fill tmp ts 8 8 (λ i j. warpPrep B P table mx my a b c d i j (around 3 src off s i j))
     unfolding warpPrep
     prep-second P my c d tmp ts h = fill-same (pos 0) ts h tmp 8 8 _ _ λ i j hi hj. ap (λ (z : ℤ). minus16 (low16 z) (pos P)) (second my c d 7 i j hi hj)

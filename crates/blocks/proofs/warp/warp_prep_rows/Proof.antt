@@ -9,13 +9,13 @@ use Rattle.rows.specs.Numbers.{at, low16, minus16}
 use Rattle.rows.specs.Warp.{warped}
 use Rattle.rows.proofs.Laws.Signed.{back, backn}
 use Rattle.blocks.proofs.Laws.Rows.{Filled, filled-none, filled-all, filled-span, row-in}
-use Rattle.blocks.proofs.Laws.Passes.{eight-more}
+use Rattle.blocks.proofs.Laws.Passes.{filled-row}
 use Rattle.blocks.proofs.warp.warp_prep_rows.Statement.{statement}
 use Rattle.blocks.proofs.warp.warp_prep_rows.Tie as tie
 
 abbrev Inv-loop : tie.InvT-loop
 Inv-loop tmp₀ ds mid table m a b bias y₀ tmp y =
-    Filled ds 8 (λ i j. minus16 (low16 (warped table (toZ w32 m) (toZ w16 a) (toZ w16 b) 7 j i (λ v. at mid (j * 8 + i + v * 8)))) (pos bias)) tmp₀ 8 y tmp
+    Filled ds 8 (λ i j. minus16 (low16 (warped table (toZ w32 m) (toZ w16 a) (toZ w16 b) 7 j i (λ v. at mid (j + i * 15 + v)))) (pos bias)) tmp₀ 8 y tmp
 
 abbrev μ-loop : tie.MeasureT-loop
 μ-loop tmp₀ ds mid table m a b bias y₀ tmp y = 8 - y
@@ -40,7 +40,7 @@ loop-again c =
     let t = c .before .before .before in
     let s = entry t in
     let e = rw (backn w16 (s .args .bias) (omega (arith, s .pre .3))) at (c .before .warp-prep-row .ensures) in
-    eight-more (pos 0) _ (t .before .loop .inv) (s .pre .0) (t .loop-test .taken) e
+    filled-row (pos 0) _ (t .before .loop .inv) (omega arith) (s .pre .0) (t .loop-test .taken) e
 
 returns : tie.Need-returns Inv-loop μ-loop
 returns c =
@@ -60,7 +60,6 @@ warp-prep-rows-spec =
     (λ c. omega (arith, row c))  -- d + 8 - d
     (λ c. omega (arith, row c))  -- d..
     (λ c. omega (arith, row c))  -- ..d + 8
-    (λ c. omega (arith, c .before .loop-test .taken))  -- y * 8
     (λ c. omega (arith, c .before .loop-test .taken))  -- y as u32
     (λ c. omega arith)  -- bias as i16
     warp-prep-row-requires

@@ -8,13 +8,13 @@ use Rattle.rows.specs.Numbers.{at, clip, low16}
 use Rattle.rows.specs.Warp.{warped}
 use Rattle.rows.proofs.Laws.Signed.{back}
 use Rattle.blocks.proofs.Laws.Rows.{Filled, filled-none, filled-all, filled-span, row-in}
-use Rattle.blocks.proofs.Laws.Passes.{eight-more}
+use Rattle.blocks.proofs.Laws.Passes.{filled-row}
 use Rattle.blocks.proofs.warp.warp_put_rows8.Statement.{statement}
 use Rattle.blocks.proofs.warp.warp_put_rows8.Tie as tie
 
 abbrev Inv-loop : tie.InvT-loop
 Inv-loop dst₀ ds mid table m a b bits y₀ dst y =
-    Filled ds 8 (λ i j. clip 255 (low16 (warped table (toZ w32 m) (toZ w16 a) (toZ w16 b) (7 + bits) j i (λ v. at mid (j * 8 + i + v * 8))))) dst₀ 8 y dst
+    Filled ds 8 (λ i j. clip 255 (low16 (warped table (toZ w32 m) (toZ w16 a) (toZ w16 b) (7 + bits) j i (λ v. at mid (j + i * 15 + v))))) dst₀ 8 y dst
 
 abbrev μ-loop : tie.MeasureT-loop
 μ-loop dst₀ ds mid table m a b bits y₀ dst y = 8 - y
@@ -37,7 +37,7 @@ warp-put-row8-requires c κs =
 loop-again : tie.Need-loop-again Inv-loop μ-loop
 loop-again c =
     let t = c .before .before .before .before in
-    eight-more 0 _ (t .before .loop .inv) (entry t .pre .0) (t .loop-test .taken) (c .before .before .warp-put-row8 .ensures)
+    filled-row 0 _ (t .before .loop .inv) (omega arith) (entry t .pre .0) (t .loop-test .taken) (c .before .before .warp-put-row8 .ensures)
 
 returns : tie.Need-returns Inv-loop μ-loop
 returns c =
@@ -56,7 +56,6 @@ warp-put-rows8-spec =
     (λ c. omega (arith, row c))  -- d + 8 - d
     (λ c. omega (arith, row c))  -- d..
     (λ c. omega (arith, row c))  -- ..d + 8
-    (λ c. omega (arith, c .before .loop-test .taken))  -- y * 8
     (λ c. omega (arith, c .before .loop-test .taken))  -- y as u32
     (λ c. omega arith)  -- 7 + bits
     warp-put-row8-requires
