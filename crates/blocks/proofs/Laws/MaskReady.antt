@@ -72,5 +72,6 @@ depths depth e =
     (record { depth8 = omega arith; depth12 = omega arith; bits2 = omega arith; bits4 = omega arith; bias13 = omega arith; max15 = omega arith })
     (record { depth8 = omega arith; depth12 = omega arith; bits2 = omega arith; bits4 = omega arith; bias13 = omega arith; max15 = omega arith })
 
-pub depths-met : (depth : ℤ) (d : ℕ) (n : DepthNumbers) → d ≡ up depth → n ≡ numbersOf (up depth) → depthOk depth ≡ true → Depths d (n .bits) (n .bias) (n .max)
+pub depths-met : (depth : ℤ) (d : ℕ) (n : DepthNumbers) → d ≡ up depth → n ≡ numbersOf (up depth) → depthOk depth ≡ true
+    → Depths d (n .bits) (n .bias) (n .max)
 depths-met depth d n a b e = rw (a, b) (depths depth e)

@@ -19,12 +19,13 @@ both-requires c κs =
 across-requires : tie.Need-put-bilin-axis16-requires
 across-requires c κs =
     let t = c .before .before in let s = entry (t .before .before) in
-    (across (s .pre .0) _ (omega (arith, s .pre)) (omega (arith, t .before .if1)) (t .if2 .left), half-small (c .before .half-power .ensures .0) (s .pre .2), s .pre .2, s .pre .3)
+    let r = half-small (c .before .half-power .ensures .0) (s .pre .2) in
+    (across (s .pre .0) _ (omega (arith, s .pre)) (omega (arith, t .before .if1)) (t .if2 .left), r, s .pre .2, s .pre .3)
 
 downward-requires : tie.Need-put-bilin-axis16-requires-2
 downward-requires c κs =
     let t = c .before in let s = entry (t .before .before) in
-    (downward (s .pre .0) _ (omega arith) (t .before .if1 .left) (omega (arith, t .if3)), omega arith, omega arith, s .pre .3)
+    (downward (s .pre .0) _ (omega arith) (t .before .if1 .left) (omega (arith, t .if3)), omega arith, omega arith, omega arith)
 
 copied-requires : tie.Need-put-rows16-requires
 copied-requires c κs =

@@ -47,7 +47,7 @@ morph-rows16-spec =
     (λ c. omega (arith, row c))  -- sub-morph-row16
     (λ c. omega (arith, row c))  -- part-morph-row16-start
     (λ c. omega (arith, row c))  -- part-morph-row16-end
-    (λ c κs. let t = entry (c .before) in rw (back (t .fits .alpha), back (t .fits .beta)) (t .pre .2, t .pre .3, t .pre .4))  -- morph-row16-requires
+    (λ c κs. let t = entry (c .before) in rw (back (t .fits .alpha), back (t .fits .beta)) (t .pre .2, t .pre .3, omega arith))  -- morph-row16-requires
     (λ c. search needs)  -- add-y
     (λ c. search needs)  -- loop-less
     loop-again

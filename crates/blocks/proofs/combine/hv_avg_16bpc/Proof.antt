@@ -31,7 +31,7 @@ avg-rows16-requires : tie.Need-avg-rows16-requires
 avg-rows16-requires c κs =
     let t = c .before .before in
     let p = avg-ready _ _ _ _ _ _ _ (sym (number (t .before)) ∙ t .if1 .taken) in
-    (p .1 .0, p .1 .1, p .1 .2, p .1 .3, rw (depth (c .before)) (deep-bits _ (p .0)), rw (depth (c .before)) (deep-max _ (p .0)))
+    rw (depth (c .before)) (p .1 .0, p .1 .1, p .1 .2, p .1 .3, deep-bits _ (p .0), deep-max _ (p .0))
 
 returns : tie.Need-returns
 returns c =

@@ -33,7 +33,7 @@ w-avg-rows16-requires : tie.Need-w-avg-rows16-requires
 w-avg-rows16-requires c κs =
     let t = c .before .before in
     let p = w-avg-ready _ _ _ _ _ _ _ _ (sym (number (t .before)) ∙ t .if1 .taken) in
-    (p .1 .0, p .1 .1, p .1 .2, p .1 .3, rw (back (entry (t .before) .fits .weight)) (p .1 .4), rw (depth (c .before)) (deep-bits _ (p .0)), rw (depth (c .before)) (deep-max _ (p .0)))
+    rw (depth (c .before), back (entry (t .before) .fits .weight)) (p .1 .0, p .1 .1, p .1 .2, p .1 .3, p .1 .4, deep-bits _ (p .0), deep-max _ (p .0))
 
 returns : tie.Need-returns
 returns c =
