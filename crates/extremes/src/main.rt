@@ -34,11 +34,11 @@ use rows::subpel::tap_mid_row8;
 use rows::subpel::tap_mid_row16;
 use rows::subpel::tap_row8;
 use rows::subpel::tap_row16;
+use rows::warp::warp_column8;
+use rows::warp::warp_column16;
 use rows::warp::warp_prep_row;
 use rows::warp::warp_put_row8;
 use rows::warp::warp_put_row16;
-use rows::warp::warp_row8;
-use rows::warp::warp_row16;
 
 fn wide(n: u32) -> u64 {
     n as u64
@@ -219,19 +219,20 @@ fn run_search() {
 fn run_warp() {
     let low = [-128i8; 1544];
     let high = [127i8; 1544];
-    let mut mid = [0i16; 8];
-    warp_row8(&mut mid, &[255u8; 15], 0, &high, 0, 0, 0, 14, 3);
-    mids(b"warp_row8", &mid);
-    warp_row16(&mut mid, &[65535u16; 15], 0, &high, 0, 0, 0, 14, 5);
-    mids(b"warp_row16", &mid);
+    let mut mid = [0i16; 15];
+    warp_column8(&mut mid, &[255u8; 120], 0, 8, &high, 0, 0, 0, 7, 3);
+    mids(b"warp_column8", &mid);
+    warp_column16(&mut mid, &[65535u16; 120], 0, 8, &high, 0, 0, 0, 7, 5);
+    mids(b"warp_column16", &mid);
     let mut d8 = [0u8; 8];
-    warp_put_row8(&mut d8, &[-32768i16; 64], 0, &low, 0, 0, 0, 7, 11);
+    warp_put_row8(&mut d8, &[-32768i16; 113], 0, &low, 0, 0, 0, 7, 11);
     row8(b"warp_put_row8", &d8);
     let mut d16 = [0u16; 8];
-    warp_put_row16(&mut d16, &[32767i16; 64], 0, &high, 0, 0, 0, 7, 9, 4095);
+    warp_put_row16(&mut d16, &[32767i16; 113], 0, &high, 0, 0, 0, 7, 9, 4095);
     row16(b"warp_put_row16", &d16);
-    warp_prep_row(&mut mid, &[-32768i16; 64], 0, &low, 0, 0, 0, 7, 7, 8192);
-    mids(b"warp_prep_row", &mid);
+    let mut tmp = [0i16; 8];
+    warp_prep_row(&mut tmp, &[-32768i16; 113], 0, &low, 0, 0, 0, 7, 7, 8192);
+    mids(b"warp_prep_row", &tmp);
 }
 
 fn main() {

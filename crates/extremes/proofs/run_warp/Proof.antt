@@ -18,17 +18,17 @@ pub run-warp-spec : {M : Type 1} → statement M
 run-warp-spec =
     tie.close
     (tie.spec
-    (λ c. search needs)  -- slice-aggregate-warp-row8
-    (λ c. search needs)  -- slice-aggregate-warp-row8-2
-    (λ c. search needs)  -- slice-aggregate-warp-row8-3
-    (λ c κs. (search needs, λ c h. there 14 c))  -- warp-row8-requires
+    (λ c. search needs)  -- slice-aggregate-warp-column8
+    (λ c. search needs)  -- slice-aggregate-warp-column8-2
+    (λ c. search needs)  -- slice-aggregate-warp-column8-3
+    (λ c κs. (search needs, λ r h. there r 7))  -- warp-column8-requires
     (λ c. search needs)  -- slice-aggregate-mids
     (λ c. search needs)  -- slice-aggregate-mids-2
     (λ c κs. search needs)  -- mids-requires
-    (λ c. search needs)  -- slice-aggregate-warp-row16
-    (λ c. search needs)  -- slice-aggregate-warp-row16-2
-    (λ c. search needs)  -- slice-aggregate-warp-row16-3
-    (λ c κs. (search needs, λ c h. there 14 c))  -- warp-row16-requires
+    (λ c. search needs)  -- slice-aggregate-warp-column16
+    (λ c. search needs)  -- slice-aggregate-warp-column16-2
+    (λ c. search needs)  -- slice-aggregate-warp-column16-3
+    (λ c κs. (search needs, λ r h. there r 7))  -- warp-column16-requires
     (λ c. search needs)  -- slice-aggregate-mids-3
     (λ c. search needs)  -- slice-aggregate-mids-4
     (λ c κs. search needs)  -- mids-requires-2
