@@ -1,20 +1,18 @@
 use native.Mathlib.Omega.{arith}
-use Prim.Native.Nat.{_+_, _-_, _*_}
+use Prim.Native.Nat.{_-_}
 use lib.IntN.{pos}
 use mir.Syntax.{w16, w32}
 use mir.Val.{toZ}
 use borrow.Author.Needs.{needs}
-use Rattle.rows.specs.Numbers.{px, low16}
-use Rattle.rows.specs.Warp.{warped}
 use Rattle.rows.proofs.Laws.Signed.{back}
-use Rattle.blocks.proofs.Laws.Rows.{Filled, Turn, turn, filled-none, filled-all}
-use Rattle.blocks.proofs.Laws.Passes.{filled-row, columns}
+use Rattle.blocks.proofs.Laws.Rows.{Filled, Turn, filled-none, filled-all}
+use Rattle.blocks.proofs.Laws.Passes.{first, column-part, column-more}
 use Rattle.blocks.proofs.warp.warp_mid8.Statement.{statement}
 use Rattle.blocks.proofs.warp.warp_mid8.Tie as tie
 
 abbrev Inv-loop : tie.InvT-loop
 Inv-loop mid₀ src o s table m a b bits x₀ mid x =
-    Filled 15 15 (λ r i. low16 (warped table (toZ w32 m) (toZ w16 a) (toZ w16 b) (7 - bits) r i (λ u. px src (o + i + r * s + u)))) mid₀ 8 x mid
+    Filled 15 15 (first bits table (toZ w32 m) (toZ w16 a) (toZ w16 b) src o s) mid₀ 8 x mid
 
 abbrev μ-loop : tie.MeasureT-loop
 μ-loop mid₀ src o s table m a b bits x₀ mid x = 8 - x
@@ -25,7 +23,7 @@ entry c = c .before .before .before
 
 -- in a turn, column x has its part of mid
 part : (c : tie.In-loop Inv-loop μ-loop) → Turn 15 15 (c .before .loop .x) (c .before .loop .mid)
-part c = turn (pos 0) (c .before .loop .inv) (columns _ (entry c .pre .0)) (c .loop-test .taken)
+part c = column-part (c .before .loop .inv) (entry c .pre .0) (c .loop-test .taken)
 
 warp-column8-requires : tie.Need-warp-column8-requires Inv-loop μ-loop
 warp-column8-requires c κs =
@@ -36,7 +34,7 @@ warp-column8-requires c κs =
 loop-again : tie.Need-loop-again Inv-loop μ-loop
 loop-again c =
     let t = c .before .before .before in
-    filled-row (pos 0) _ (t .before .loop .inv) (omega arith) (columns _ (entry t .pre .0)) (t .loop-test .taken) (c .before .warp-column8 .ensures)
+    column-more (t .before .loop .inv) (entry t .pre .0) (t .loop-test .taken) _ (c .before .warp-column8 .ensures)
 
 returns : tie.Need-returns Inv-loop μ-loop
 returns c =
