@@ -1,12 +1,13 @@
 // Bilinear rows: the two pixels or intermediates of a place stand at o and o + step, step being 1 along a row, a stride down a column.
 ghost use mathlib.Core.Path.{_≡_};
-ghost use Prim.Native.Nat.{_+_, _*_, _^_, _<_, _≤_};
+ghost use Prim.Native.Nat.{_+_, _*_, _/_, _^_, _<_, _≤_, min};
 ghost use lib.IntN.{pos, natAbs, _+ℤ_};
 ghost use lib.ListN.{length};
 ghost use lib.Signed.{mag, shrZ};
-ghost use Rattle.rows.specs.Numbers.{at, px, clip, half, low16, minus16};
+ghost use Rattle.rows.specs.Numbers.{at, px, clip, half, low16, minus16, modZ};
 ghost use Rattle.rows.specs.Places.{rowOf};
 ghost use Rattle.rows.specs.Bilinear.{bilin, R, bilinAt};
+use crate::near::near_kept;
 use crate::numbers::clip8;
 use crate::numbers::clip16;
 use crate::subpel::kept;
@@ -30,15 +31,8 @@ fn bilin_weighed(a: i32, b: i32, f: u32) -> i32
     (16 - f) as i32 * a + f as i32 * b
 }
 
-// The sum of two bytes, of two 16-bit pixels and of two intermediates.
+// The sum of two bytes, and of two intermediates.
 fn between_u8(src: &[u8], p: usize, step: usize, f: u32) -> i32
-    requires { ⌜ (p + step < length (now src)) × (f ≤ 15) ⌝ }
-    ensures { λ r. ⌜ (r ≡ bilinAt (px (now (src .entry))) p step f) × (mag r < 2 ^ 22) ⌝ }
-{
-    bilin_sum(src[p] as i32, src[p + step] as i32, f)
-}
-
-fn between_u16(src: &[u16], p: usize, step: usize, f: u32) -> i32
     requires { ⌜ (p + step < length (now src)) × (f ≤ 15) ⌝ }
     ensures { λ r. ⌜ (r ≡ bilinAt (px (now (src .entry))) p step f) × (mag r < 2 ^ 22) ⌝ }
 {
@@ -50,6 +44,30 @@ fn between_i16(mid: &[i16], p: usize, step: usize, f: u32) -> i32
     ensures { λ r. ⌜ (r ≡ bilinAt (at (now (mid .entry))) p step f) × (mag r < 2 ^ 22) ⌝ }
 {
     bilin_weighed(mid[p] as i32, mid[p + step] as i32, f)
+}
+
+// The sum of two bytes in sixteen bits: 16 * 255 at most.
+fn bilin_bytes(a: u16, b: u16, f: u32) -> u16
+    requires { ⌜ (a ≤ 255) × (b ≤ 255) × (f ≤ 15) ⌝ }
+    ensures { λ r. ⌜ (pos r ≡ bilin (pos a) (pos b) f) × (r ≤ 4080) ⌝ }
+{
+    let f = f as u16;
+    (16 - f) * a + f * b
+}
+
+// The sum of two 16-bit pixels is 256 times that of their high bytes, and that of their low ones.
+fn high_between(src: &[u16], p: usize, step: usize, f: u32) -> u16
+    requires { ⌜ (p + step < length (now src)) × (f ≤ 15) ⌝ }
+    ensures { λ r. ⌜ (pos r ≡ bilinAt (λ k. shrZ (px (now (src .entry)) k) 256) p step f) × (r ≤ 4080) ⌝ }
+{
+    bilin_bytes(src[p] / 256, src[p + step] / 256, f)
+}
+
+fn low_between(src: &[u16], p: usize, step: usize, f: u32) -> u16
+    requires { ⌜ (p + step < length (now src)) × (f ≤ 15) ⌝ }
+    ensures { λ r. ⌜ (pos r ≡ bilinAt (λ k. pos (modZ (px (now (src .entry)) k) 256)) p step f) × (r ≤ 4080) ⌝ }
+{
+    bilin_bytes(src[p] % 256, src[p + step] % 256, f)
 }
 
 // Half of 2^n, nothing for n = 0.
@@ -81,6 +99,23 @@ fn bilin_px16(s: i32, n: u32, r: u32, k: u32, max: u16) -> u16
     ensures { λ v. ⌜ v ≡ clip max (shrZ (R n s +ℤ pos r) (2 ^ k)) ⌝ }
 {
     clip16(rounded(bilin_rnd(s, n), r, k), max)
+}
+
+// What put adds to a sum for both of its shifts, which make one shift by 4.
+fn both_halves(n: u32, r: u32) -> u16
+    requires { ⌜ (n ≤ 4) × (half n + r * 2 ^ n ≤ 15) ⌝ }
+    ensures { λ v. ⌜ v ≡ half n + r * 2 ^ n ⌝ }
+{
+    (half_of(n) + (r << n)) as u16
+}
+
+// (256 high + low + r) >> 4, no more than max: each step is of sixteen bits.
+fn bilin_joined(high: u16, low: u16, r: u16, max: u16) -> u16
+    requires { ⌜ (high ≤ 4080) × (low ≤ 4080) × (r ≤ 15) ⌝ }
+    ensures { λ v. ⌜ v ≡ min ((high * 256 + low + r) / 16) max ⌝ }
+{
+    let v = high * 16 + ((low + r) >> 4);
+    if v > max { max } else { v }
 }
 
 // low16(R(n)), minus the bias, wrapping
@@ -126,14 +161,17 @@ pub fn put_bilin_row16(
     k: u32,
     max: u16,
 )
-    requires { ⌜ (o + length (now dst) + step ≤ length (now src)) × (f ≤ 15) × (n ≤ 8) × (r ≤ 8) × (k ≤ 4) × (max < 2 ^ 15) ⌝ }
+    requires { ⌜ (o + length (now dst) + step ≤ length (now src)) × (f ≤ 15) × (n + k ≡ 4) × (half n + r * 2 ^ n ≤ 15) ⌝ }
     ensures { λ _. ⌜ now (dst .exit) ≡ rowOf (length (now (dst .entry)))
         (λ i. clip max (shrZ (R n (bilinAt (px (now (src .entry))) (o + i) step f) +ℤ pos r) (2 ^ k))) ⌝ }
 {
     let w = dst.len();
+    let c = both_halves(n, r);
     let mut i = 0;
     while i < w {
-        let v = bilin_px16(between_u16(src, o + i, step, f), n, r, k, max);
+        let high = high_between(src, o + i, step, f);
+        let low = low_between(src, o + i, step, f);
+        let v = bilin_joined(high, low, c, max);
         dst[i] = v;
         i += 1;
     }
@@ -171,14 +209,17 @@ pub fn prep_bilin_row16(
     n: u32,
     bias: i16,
 )
-    requires { ⌜ (o + length (now tmp) + step ≤ length (now src)) × (f ≤ 15) × (n ≤ 8) ⌝ }
+    requires { ⌜ (o + length (now tmp) + step ≤ length (now src)) × (f ≤ 15) × (n ≤ 4) ⌝ }
     ensures { λ _. ⌜ now (tmp .exit) ≡ rowOf (length (now (tmp .entry)))
         (λ i. minus16 (low16 (R n (bilinAt (px (now (src .entry))) (o + i) step f))) bias) ⌝ }
 {
     let w = tmp.len();
+    let r = half_of(n);
     let mut i = 0;
     while i < w {
-        let v = bilin_kept(between_u16(src, o + i, step, f), n, bias);
+        let high = high_between(src, o + i, step, f);
+        let low = low_between(src, o + i, step, f);
+        let v = near_kept(high as i16, low as i16, r, n, bias);
         tmp[i] = v;
         i += 1;
     }
