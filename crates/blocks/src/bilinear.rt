@@ -5,7 +5,7 @@ ghost use Prim.Native.Nat.{_+_, _*_, _^_, _<_, _≤_};
 ghost use lib.IntN.{pos, _+ℤ_};
 ghost use lib.ListN.{length};
 ghost use lib.Signed.{shrZ};
-ghost use Rattle.rows.specs.Numbers.{up, at, px, clip, low16, minus16};
+ghost use Rattle.rows.specs.Numbers.{up, at, px, clip, half, low16, minus16};
 ghost use Rattle.rows.specs.Places.{fill, around};
 ghost use Rattle.rows.specs.Bilinear.{R, bilinAt, putBilin, prepBilin};
 ghost use Rattle.blocks.specs.Refuse.{lowest, depthOk};
@@ -326,7 +326,7 @@ fn put_bilin_axis16(
     k: u32,
     max: u16,
 )
-    requires { ⌜ Pairs (length (now dst)) ds (length (now src)) ss step w h f n × (r ≤ 8) × (k ≤ 4) × (max < 2 ^ 15) ⌝ }
+    requires { ⌜ Pairs (length (now dst)) ds (length (now src)) ss step w h f n × (n + k ≡ 4) × (half n + r * 2 ^ n ≤ 15) ⌝ }
     ensures { λ _. ⌜ now (dst .exit) ≡ fill (now (dst .entry)) ds w h (λ i j. clip max (shrZ (R n (bilinAt (px (now (src .entry))) (j * ss + i) step f) +ℤ pos r) (2 ^ k))) ⌝ }
 {
     let mut y = 0;
@@ -349,7 +349,7 @@ fn prep_bilin_axis16(
     n: u32,
     bias: i16,
 )
-    requires { ⌜ Pairs (length (now tmp)) ts (length (now src)) ss step w h f n ⌝ }
+    requires { ⌜ Pairs (length (now tmp)) ts (length (now src)) ss step w h f n × (n ≤ 4) ⌝ }
     ensures { λ _. ⌜ now (tmp .exit) ≡ fill (now (tmp .entry)) ts w h (λ i j. minus16 (low16 (R n (bilinAt (px (now (src .entry))) (j * ss + i) step f))) bias) ⌝ }
 {
     let mut y = 0;

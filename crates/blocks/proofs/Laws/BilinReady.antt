@@ -2,8 +2,7 @@
 use mathlib.Core.Path.{_≡_, refl, sym, ap, _∙_}
 use mathlib.Core.Bool.{Bool, true, false}
 use mathlib.Core.List.{List, [], _∷_}
-use Prim.Native.Nat.{ℕ, _+_, _-_, _*_, _^_, _≤_, _<_, min}
-use native.Mathlib.Nat.{pow-le-pow-right}
+use Prim.Native.Nat.{ℕ, zero, suc, _+_, _-_, _*_, _^_, _≤_, _<_, min}
 use native.Mathlib.Omega.{arith}
 use borrow.Author.Tests.{le-leb, lt-leb, le-ltb, lt-ltb}
 use lib.IntN.{ℤ, pos}
@@ -108,9 +107,14 @@ module _ {dl ds sl ss w h f g : ℕ} (p : Bilin dl ds sl ss w h f g) where
       pub second : Pairs dl ds ml 64 64 w h g n
       second = record { w1 = p .block .w1; dst = p .dst; src = omega (arith, p .block); f15 = p .g15; n8 = n8 }
 
--- what put adds before its second shift is small
-pub half-small : {r B : ℕ} → r ≡ half B → B ≤ 4 → r ≤ 8
-half-small {r} {B} e b = let h : 2 ^ B ≤ 16 = pow-le-pow-right {n = 2} (omega arith) b in omega arith
+-- what put adds for its two shifts is below what they shift out, 2^(4-B) x 2^B
+pub halves-small : (B : ℕ) → B ≤ 4 → half (4 - B) + half B * 2 ^ (4 - B) ≤ 15
+halves-small zero b = omega arith
+halves-small (suc zero) b = omega arith
+halves-small (suc (suc zero)) b = omega arith
+halves-small (suc (suc (suc zero))) b = omega arith
+halves-small (suc (suc (suc (suc zero)))) b = omega arith
+halves-small (suc (suc (suc (suc (suc B))))) b = absurd (omega arith)
 
 -- ---- the answers
 

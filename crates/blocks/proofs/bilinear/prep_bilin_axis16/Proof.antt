@@ -26,17 +26,17 @@ entry c = c .before .before .before
 
 row : (c : tie.In-loop Inv-loop μ-loop) → let a = entry c .args in
     Turn (length (c .before .loop .tmp)) (a .ts) (length (a .src .now)) (a .ss) (a .step) (a .w) (c .before .loop .y)
-row c = turn (entry c .pre) (c .before .loop .inv) (c .loop-test .taken)
+row c = turn (entry c .pre .0) (c .before .loop .inv) (c .loop-test .taken)
 
 row-requires : tie.Need-prep-bilin-row16-requires Inv-loop μ-loop
 row-requires c κs =
     let t = c .before in
-    rw (filled-span (pos 0) (t .before .loop .inv) (entry t .pre .dst) (t .loop-test .taken)) (omega (arith, row t, entry t .pre))
+    rw (filled-span (pos 0) (t .before .loop .inv) (entry t .pre .0 .dst) (t .loop-test .taken)) (omega (arith, row t, entry t .pre))
 
 loop-again : tie.Need-loop-again Inv-loop μ-loop
 loop-again c =
     let t = c .before .before .before in
-    let p = entry t .pre in
+    let p = entry t .pre .0 in
     filled-more (pos 0) _ (t .before .loop .inv) (p .w1) (p .dst) (t .loop-test .taken) (c .before .prep-bilin-row16 .ensures)
 
 pub prep-bilin-axis16-spec : {M : Type 1} → statement M

@@ -12,6 +12,9 @@ use Rattle.blocks.proofs.bilinear.prep_bilin_both16.Tie as tie
 abbrev entry : tie.After-mid → tie.Start
 entry c = c .before .before
 
+first-requires : tie.Need-prep-bilin-axis16-requires
+first-requires c κs = let p = entry c .pre in (first (p .0) _ (omega (arith, p .3)) _ (omega arith) (p .1) (p .2), omega (arith, p .3))
+
 second-requires : tie.Need-mid-bilin-prep-rows-requires
 second-requires c κs =
     let m = c .before .before .before in let s = entry (m .before) in
@@ -32,7 +35,7 @@ prep-bilin-both16-spec =
     (λ c. search needs)  -- slice-aggregate-prep-bilin-axis16
     (λ c. omega (arith, entry c .pre .0 .block))  -- add-prep-bilin-axis16
     (λ c. search needs)  -- sub-prep-bilin-axis16
-    (λ c κs. let s = entry c in first (s .pre .0) _ (omega (arith, s .pre .3)) _ (omega arith) (s .pre .1) (s .pre .2))  -- prep-bilin-axis16-requires
+    first-requires
     (λ c. search needs)  -- slice-aggregate-mid-bilin-prep-rows
     (λ c. search needs)  -- cast-mid-bilin-prep-rows
     second-requires

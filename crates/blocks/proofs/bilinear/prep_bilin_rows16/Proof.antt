@@ -20,12 +20,12 @@ both-requires c κs =
 across-requires : tie.Need-prep-bilin-axis16-requires
 across-requires c κs =
     let t = c .before in let s = entry (t .before .before) in
-    across (s .pre .0) _ (omega (arith, s .pre)) (omega (arith, t .before .if1)) (t .if2 .left)
+    (across (s .pre .0) _ (omega (arith, s .pre)) (omega (arith, t .before .if1)) (t .if2 .left), omega (arith, s .pre .1))
 
 downward-requires : tie.Need-prep-bilin-axis16-requires-2
 downward-requires c κs =
     let t = c .before in let s = entry (t .before .before) in
-    downward (s .pre .0) _ (omega (arith, s .pre)) (t .before .if1 .left) (omega (arith, t .if3))
+    (downward (s .pre .0) _ (omega (arith, s .pre)) (t .before .if1 .left) (omega (arith, t .if3)), omega (arith, s .pre .1))
 
 copied-requires : tie.Need-prep-rows16-requires
 copied-requires c κs =

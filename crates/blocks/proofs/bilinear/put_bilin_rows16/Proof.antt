@@ -2,7 +2,7 @@ use mathlib.Core.Path.{_∙_}
 use native.Mathlib.Omega.{arith}
 use borrow.Author.Needs.{needs}
 use Rattle.rows.proofs.Laws.Warp.{half-of}
-use Rattle.blocks.proofs.Laws.BilinReady.{copied, across, downward, half-small}
+use Rattle.blocks.proofs.Laws.BilinReady.{copied, across, downward, halves-small}
 use Rattle.blocks.proofs.Laws.BilinRule.{put-copied, put-across, put-downward}
 use Rattle.blocks.proofs.bilinear.put_bilin_rows16.Statement.{statement}
 use Rattle.blocks.proofs.bilinear.put_bilin_rows16.Tie as tie
@@ -18,14 +18,16 @@ both-requires c κs =
 
 across-requires : tie.Need-put-bilin-axis16-requires
 across-requires c κs =
-    let t = c .before .before in let s = entry (t .before .before) in
-    let r = half-small (c .before .half-power .ensures .0) (s .pre .2) in
-    (across (s .pre .0) _ (omega (arith, s .pre)) (omega (arith, t .before .if1)) (t .if2 .left), r, s .pre .2, s .pre .3)
+    let t = c .before .before in let s = entry (t .before .before) in (
+      across (s .pre .0) _ (omega (arith, s .pre)) (omega (arith, t .before .if1)) (t .if2 .left),
+      omega (arith, s .pre),
+      rw (c .before .half-power .ensures .0) (halves-small (s .args .bits) (s .pre .2)),
+    )
 
 downward-requires : tie.Need-put-bilin-axis16-requires-2
 downward-requires c κs =
     let t = c .before in let s = entry (t .before .before) in
-    (downward (s .pre .0) _ (omega arith) (t .before .if1 .left) (omega (arith, t .if3)), omega arith, omega arith, omega arith)
+    (downward (s .pre .0) _ (omega arith) (t .before .if1 .left) (omega (arith, t .if3)), omega arith, omega arith)
 
 copied-requires : tie.Need-put-rows16-requires
 copied-requires c κs =
