@@ -14,6 +14,7 @@ pub mod Kernel
 pub mod Local
 pub mod Combine
 pub mod Pixel
+pub mod Ends
 pub mod Edge
 pub mod Filter
 pub mod Near

@@ -10,14 +10,7 @@ use lib.Seq.{length-take-le}
 use Rattle.rows.specs.Numbers.{up, dn, clip}
 use Rattle.rows.specs.Places.{span, splice, rowOf}
 use Rattle.rows.proofs.Laws.Signed.{add-parts, sub-parts, one-part, clip-up}
-use Rattle.rows.proofs.Laws.Places.{by-lt, span-length, splice-length, splice-before, splice-in, length-rowOf, getD-rowOf, row-done}
-
--- ---- what is a row
-row-length : {r : List ℕ} (n : ℕ) (f : ℕ → ℕ) → r ≡ rowOf n f → length r ≡ n
-row-length n f is = ap length is ∙ length-rowOf n f
-
-row-at : {r : List ℕ} (n : ℕ) (f : ℕ → ℕ) → r ≡ rowOf n f → (i : ℕ) → i < length r → getD r i 0 ≡ f i
-row-at n f is i h = ap (λ (l : List ℕ). getD l i 0) is ∙ getD-rowOf 0 n f i (omega (arith, row-length n f is))
+use Rattle.rows.proofs.Laws.Places.{by-lt, span-length, splice-length, splice-before, splice-in, row-length, row-at, row-done}
 
 -- ---- columns: left of the plane, in it, right of it
 left-col : (iw : ℕ) (x : ℤ) (i : ℕ) → i < dn x → clip (iw - 1) (x +ℤ pos i) ≡ 0
@@ -124,20 +117,20 @@ module _ {src : List ℕ} {o iw : ℕ} {x : ℤ} {d : List ℕ} {a e s : ℕ} (p
             before i (omega (arith, p))
             ∙ splice-before 0 d₁ a e r₂ l₂ middle-in i h
             ∙ List·getD-append r₁ (drop a d) 0 i (omega (arith, l₁))
-            ∙ row-at _ _ is₁ i (omega (arith, l₁))
+            ∙ row-at 0 _ _ is₁ i (omega (arith, l₁))
             ∙ is-at o i (p .left i h) (omega arith)
 
         middle : (i : ℕ) → a + i < e → Is (a + i)
         middle i h =
             before (a + i) h
             ∙ splice-in 0 d₁ a e r₂ l₂ middle-in i h
-            ∙ row-at _ _ is₂ i (omega (arith, l₂))
+            ∙ row-at 0 _ _ is₂ i (omega (arith, l₂))
             ∙ is-at (o + s + i) (a + i) (p .inside i h) (omega arith)
 
         end : (i : ℕ) → e + i < length d → Is (e + i)
         end i h =
             splice-in 0 d₂ e (length d₂) r₃ l₃ (omega arith) i (omega (arith, length-second))
-            ∙ row-at _ _ is₃ i (omega (arith, length-second, l₃))
+            ∙ row-at 0 _ _ is₃ i (omega (arith, length-second, l₃))
             ∙ is-at (o + iw - 1) (e + i) (p .right i h) (omega (arith, p))
 
         all : (i : ℕ) → i < length d → Is i

@@ -104,6 +104,13 @@ module _ {A : Type 0} where
   unfolding rowOf
   getD-rowOf z n f i h = getD-rowFrom z 0 n f i h ∙ ap f (zero-add i)
 
+  -- what is a row
+  pub row-length : {r : List A} (n : ℕ) (f : ℕ → A) → r ≡ rowOf n f → length r ≡ n
+  row-length n f is = ap length is ∙ length-rowOf n f
+
+  pub row-at : {r : List A} (z : A) (n : ℕ) (f : ℕ → A) → r ≡ rowOf n f → (i : ℕ) → i < length r → getD r i z ≡ f i
+  row-at z n f is i h = ap (λ (l : List A). getD l i z) is ∙ getD-rowOf z n f i (omega (arith, row-length n f is))
+
   -- a list whose elements are as f says is that row
   pub row-done : (z : A) (n : ℕ) (f : ℕ → A) (d : List A) → length d ≡ n → ((i : ℕ) → i < n → getD d i z ≡ f i) → d ≡ rowOf n f
   row-done z n f d l same =

@@ -7,7 +7,7 @@ use native.Mathlib.Nat.{not-suc-le-zero}
 use native.Mathlib.Omega.{arith}
 use lib.ListN.{length, getD, set, length-set}
 use Rattle.rows.specs.Places.{rowOf}
-use Rattle.rows.proofs.Laws.Places.{row-more, row-done}
+use Rattle.rows.proofs.Laws.Places.{row-more, row-done, row-same}
 
 module _ {A : Type 0} where
   pub record Upto (z : A) (f : ℕ → A) (n i : ℕ) (d : List A) : Type 0 where
@@ -24,3 +24,8 @@ module _ {A : Type 0} where
 
   pub upto-all : {z : A} {f : ℕ → A} {n i : ℕ} {d : List A} → Upto z f n i d → n ≤ i → d ≡ rowOf n f
   upto-all {z} {f} {n} {i} {d} p h = row-done z n f d (p .len) λ k b. p .same k (omega arith)
+
+  -- what the first loop wrote to l, a second one copied to d
+  pub upto-through :
+      {z : A} {f : ℕ → A} {m n i j : ℕ} {l d : List A} → Upto z f m i l → n ≤ i → Upto z (λ k. getD l k z) n j d → n ≤ j → d ≡ rowOf n f
+  upto-through {z} {f} {m} {n} {i} {j} {l} {d} p h q g = upto-all q g ∙ row-same z n (λ k. getD l k z) f λ k b. p .same k (omega arith)
