@@ -15,7 +15,7 @@ warp-put-rows16-requires : tie.Need-warp-put-rows16-requires
 warp-put-rows16-requires c κs =
     let one = c .before .before .before in
     let s = one .before .before .before .before in let f = s .fits in
-    rw (back (f .my), back (f .c), back (f .d)) (s .pre .0 .dst, omega (arith, one .warp-mid16 .kept .0), s .pre .0 .second, s .pre .1, s .pre .2)
+    rw (back (f .my), back (f .c), back (f .d)) (s .pre .0 .dst, omega (arith, one .warp-mid16 .kept .0), s .pre .0 .second, omega arith, omega arith)
 
 returns : tie.Need-returns
 returns c =
