@@ -4,7 +4,19 @@ use Rattle.blocks.proofs.order.order_numbers.Statement.{statement}
 use Rattle.blocks.proofs.order.order_numbers.Tie as tie
 
 returns : tie.Need-returns
-returns c = let s = c .before .before .before .before .before .before .before in cc (back (s .fits .x), back (s .fits .y))
+returns c =
+    let n = c .before in let m = n .before in let f = m .before in let p = f .before in let k = p .before in let s = k .before .before in
+    rw (
+      c .needed4 .ensures,
+      n .needed3 .ensures,
+      m .needed2 .ensures,
+      f .frame-names-ok .ensures,
+      p .places .ensures,
+      k .needed .ensures,
+      k .before .motion-ok .ensures,
+      back (s .fits .x),
+      back (s .fits .y),
+    )
 
 pub order-numbers-spec : {M : Type 1} → statement M
 order-numbers-spec =

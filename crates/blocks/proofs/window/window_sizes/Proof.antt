@@ -2,6 +2,11 @@ use borrow.Author.Needs.{needs}
 use Rattle.blocks.proofs.window.window_sizes.Statement.{statement}
 use Rattle.blocks.proofs.window.window_sizes.Tie as tie
 
+returns : tie.Need-returns
+returns c =
+    let z = c .before in let s = z .before in let p = s .before in
+    rw (c .needed .ensures, p .before .frame-sizes-ok .ensures, z .sizes .ensures, s .stride .ensures, p .plane-w .ensures)
+
 pub window-sizes-spec : {M : Type 1} → statement M
 window-sizes-spec =
     tie.close
@@ -11,4 +16,4 @@ window-sizes-spec =
     (λ c κs. search needs)  -- stride-requires
     (λ c κs. search needs)  -- sizes-requires
     (λ c κs. search needs)  -- needed-requires
-    (λ c. cc))  -- returns
+    returns)
