@@ -29,7 +29,7 @@ pub fn stride_ok(row: usize, s: usize) -> bool
     if row <= s { s <= 32768 } else { false }
 }
 
-// l places hold h rows of w at the stride s, exactly and without a sum that could wrap.
+// l places hold h rows of w at the stride s, exactly and without a sum or a product that could wrap. A product is quicker than a division.
 pub fn holds_rows(l: usize, s: usize, w: usize, h: usize) -> bool
     ensures { λ r. ⌜ r ≡ holds l s w h ⌝ }
 {
@@ -38,6 +38,9 @@ pub fn holds_rows(l: usize, s: usize, w: usize, h: usize) -> bool
     }
     if h <= 1 {
         return true;
+    }
+    if (s <= 32768) & (h <= 32768) {
+        return (h - 1) * s <= l - w;
     }
     s <= (l - w) / (h - 1)
 }
