@@ -136,10 +136,16 @@ pub record Taps (sl o s w h : ℕ) (mx my filterType : ℤ) (tl el : ℕ) : Type
   pub across : Held tl el (filterOf filterType (up mx) w)
   pub down : Held tl el (filterOf filterType (up my) h)
 
--- w_mask's buffers: dst, two intermediates without gaps, and a mask of mh rows of mw
-pub record Weighing (dl ds l1 l2 w h ml ms mw mh : ℕ) : Type 0 where
+-- a depth and its bits, as the weights of w_mask take them
+pub record Depths (depth bits : ℕ) : Type 0 where
+  pub depth8 : 8 ≤ depth
+  pub depth12 : depth ≤ 12
+  pub bits2 : 2 ≤ bits
+  pub bits4 : bits ≤ 4
+
+-- w_mask's intermediates, two without gaps, and a mask of mh rows of mw
+pub record Weighing (l1 l2 w h ml ms mw mh : ℕ) : Type 0 where
   pub block : Block w h
-  pub dst : Rows dl ds w h
   pub tmp1 : Rows l1 w w h
   pub tmp2 : Rows l2 w w h
   pub mw1 : 1 ≤ mw
@@ -150,15 +156,6 @@ pub record Lines (dl ds sl o s step w h : ℕ) : Type 0 where
   pub w1 : 1 ≤ w
   pub dst : Rows dl ds w h
   pub src : o + (h - 1) * s + w + 7 * step ≤ sl
-
--- and the depth, with what depends on it
-pub record Depths (depth bits bias max : ℕ) : Type 0 where
-  pub depth8 : 8 ≤ depth
-  pub depth12 : depth ≤ 12
-  pub bits2 : 2 ≤ bits
-  pub bits4 : bits ≤ 4
-  pub bias13 : bias ≤ 8192
-  pub max15 : max < 2 ^ 15
 
 -- a block of a kind, from a source that begins at its window's first pixel: the window's rows at the stride s in sl places; its numbers, and its filters in
 -- tables of tl, el and wl numbers

@@ -262,7 +262,7 @@ pub extern "C" fn hv_w_avg_16bpc(
 }
 
 // A mask_stride of 0 is one row for all.
-fn mask_rows8(
+pub fn mask_rows8(
     dst: &mut [u8],
     dst_stride: usize,
     tmp1: &[i16],
@@ -283,7 +283,7 @@ fn mask_rows8(
     }
 }
 
-fn mask_rows16(
+pub fn mask_rows16(
     dst: &mut [u16],
     dst_stride: usize,
     tmp1: &[i16],

@@ -1,15 +1,18 @@
 // w_mask: two blocks of intermediates combined by weights from their differences, and the mask of these weights.
 ghost use mathlib.Core.Path.{_≡_};
 ghost use mathlib.Core.Bool.{true, false};
-ghost use Prim.Native.Nat.{_+_, _*_, _/_, _%_, _≤_};
+ghost use Prim.Native.Nat.{_*_, _/_, _^_, _<_, _≤_};
 ghost use lib.ListN.{length};
 ghost use Rattle.rows.specs.Numbers.{up};
-ghost use Rattle.rows.specs.Places.{rowOf, fill};
+ghost use Rattle.rows.specs.Places.{fill};
 ghost use Rattle.rows.specs.Combine.{masked, both};
 ghost use Rattle.rows.specs.Mask.{weightOf, maskAt};
 ghost use Rattle.blocks.specs.Refuse.{need, lowest, holds, holdsAll, depthOk};
-ghost use Rattle.blocks.specs.Ready.{Weighing, Depths};
+ghost use Rattle.blocks.specs.Ready.{Block, Rows, Bits, Depths, Weighing};
 ghost use Rattle.blocks.specs.Mask.{evenOk, maskSide, flagsOk, signOk, wMaskTests, weights, WMaskAnswer};
+use crate::combine::mask_rows8;
+use crate::combine::mask_rows16;
+use crate::refuse::DepthNumbers;
 use crate::refuse::above;
 use crate::refuse::depth_numbers;
 use crate::refuse::depth_ok;
@@ -111,95 +114,126 @@ fn check_w_mask(
     )
 }
 
-// The weights of the intermediates from place q on into m, and the pixels that they make into dst, which is as long.
-fn weigh_row8(dst: &mut [u8], m: &mut [u8], tmp1: &[i16], tmp2: &[i16], q: usize)
-    requires { ⌜ (length (now m) ≡ length (now dst)) × (q + length (now dst) ≤ length (now tmp1)) × (q + length (now dst) ≤ length (now tmp2)) ⌝ }
-    ensures { λ _. ⌜ (now (m .exit) ≡ rowOf (length (now (m .entry))) (both (weightOf 8 4) (now (tmp1 .entry)) (now (tmp2 .entry)) q)) × (now (dst .exit) ≡ rowOf (length (now (dst .entry))) (λ i. both (masked 255 4 0 (both (weightOf 8 4) (now (tmp1 .entry)) (now (tmp2 .entry)) q i)) (now (tmp1 .entry)) (now (tmp2 .entry)) q i)) ⌝ }
-{
-    weight_row(m, tmp1, tmp2, q, 8, 4);
-    mask_row8(dst, tmp1, tmp2, q, m, 0);
-}
+// The mask depends on the intermediates alone, so it is written on its own, once for both sets of pixels. Where it doesn't keep each weight,
+// they are made again for the pixels: that costs little.
 
-// Without ss_hor: the mask keeps each weight.
-fn w_mask_each8(
-    dst: &mut [u8],
-    dst_stride: usize,
+// Without ss_hor: it keeps each weight.
+fn keep_each(
+    mask: &mut [u8],
+    mask_stride: usize,
     tmp1: &[i16],
     tmp2: &[i16],
     w: usize,
     h: usize,
-    mask: &mut [u8],
-    mask_stride: usize,
+    depth: u32,
+    bits: u32,
 )
-    requires { ⌜ Weighing (length (now dst)) «dst_stride» (length (now tmp1)) (length (now tmp2)) w h (length (now mask)) «mask_stride» w h ⌝ }
-    ensures { λ _. ⌜ (now (dst .exit) ≡ fill (now (dst .entry)) «dst_stride» w h (λ i j. both (masked 255 4 0 (weights 8 w (now (tmp1 .entry)) (now (tmp2 .entry)) i j)) (now (tmp1 .entry)) (now (tmp2 .entry)) (j * w) i)) × (now (mask .exit) ≡ fill (now (mask .entry)) «mask_stride» w h (weights 8 w (now (tmp1 .entry)) (now (tmp2 .entry)))) ⌝ }
+    requires { ⌜ Weighing (length (now tmp1)) (length (now tmp2)) w h (length (now mask)) «mask_stride» w h × Depths depth bits ⌝ }
+    ensures { λ _. ⌜ now (mask .exit) ≡ fill (now (mask .entry)) «mask_stride» w h (λ i j. both (weightOf depth bits) (now (tmp1 .entry)) (now (tmp2 .entry)) (j * w) i) ⌝ }
 {
     let mut y = 0;
     while y < h {
-        let d = y * dst_stride;
-        let m = y * mask_stride;
-        weigh_row8(&mut dst[d..d + w], &mut mask[m..m + w], tmp1, tmp2, y * w);
+        let k = y * mask_stride;
+        weight_row(&mut mask[k..k + w], tmp1, tmp2, y * w, depth, bits);
         y += 1;
     }
 }
 
 // With ss_hor alone: it keeps pairs.
-fn w_mask_pairs8(
-    dst: &mut [u8],
-    dst_stride: usize,
+fn keep_pairs(
+    mask: &mut [u8],
+    mask_stride: usize,
     tmp1: &[i16],
     tmp2: &[i16],
     w: usize,
     h: usize,
-    mask: &mut [u8],
-    mask_stride: usize,
     sign: u32,
+    depth: u32,
+    bits: u32,
 )
-    requires { ⌜ Weighing (length (now dst)) «dst_stride» (length (now tmp1)) (length (now tmp2)) w h (length (now mask)) «mask_stride» (w / 2) h × (sign ≤ 1) ⌝ }
-    ensures { λ _. ⌜ (now (dst .exit) ≡ fill (now (dst .entry)) «dst_stride» w h (λ i j. both (masked 255 4 0 (weights 8 w (now (tmp1 .entry)) (now (tmp2 .entry)) i j)) (now (tmp1 .entry)) (now (tmp2 .entry)) (j * w) i)) × (now (mask .exit) ≡ fill (now (mask .entry)) «mask_stride» (w / 2) h (maskAt sign true false (weights 8 w (now (tmp1 .entry)) (now (tmp2 .entry))))) ⌝ }
+    requires { ⌜ Weighing (length (now tmp1)) (length (now tmp2)) w h (length (now mask)) «mask_stride» (w / 2) h × (sign ≤ 1) × Depths depth bits ⌝ }
+    ensures { λ _. ⌜ now (mask .exit) ≡ fill (now (mask .entry)) «mask_stride» (w / 2) h (maskAt sign true false (λ i j. both (weightOf depth bits) (now (tmp1 .entry)) (now (tmp2 .entry)) (j * w) i)) ⌝ }
 {
     let mut m = [0u8; 64];
     let mut y = 0;
     while y < h {
-        let d = y * dst_stride;
         let k = y * mask_stride;
-        weigh_row8(&mut dst[d..d + w], &mut m[..w], tmp1, tmp2, y * w);
+        weight_row(&mut m[..w], tmp1, tmp2, y * w, depth, bits);
         pair_row(&mut mask[k..k + w / 2], &m, sign);
         y += 1;
     }
 }
 
 // With both: fours of two rows.
-fn w_mask_fours8(
-    dst: &mut [u8],
-    dst_stride: usize,
+fn keep_fours(
+    mask: &mut [u8],
+    mask_stride: usize,
     tmp1: &[i16],
     tmp2: &[i16],
     w: usize,
     h: usize,
-    mask: &mut [u8],
-    mask_stride: usize,
     sign: u32,
+    depth: u32,
+    bits: u32,
 )
-    requires { ⌜ Weighing (length (now dst)) «dst_stride» (length (now tmp1)) (length (now tmp2)) w h (length (now mask)) «mask_stride» (w / 2) (h / 2) × (h % 2 ≡ 0) × (sign ≤ 1) ⌝ }
-    ensures { λ _. ⌜ (now (dst .exit) ≡ fill (now (dst .entry)) «dst_stride» w h (λ i j. both (masked 255 4 0 (weights 8 w (now (tmp1 .entry)) (now (tmp2 .entry)) i j)) (now (tmp1 .entry)) (now (tmp2 .entry)) (j * w) i)) × (now (mask .exit) ≡ fill (now (mask .entry)) «mask_stride» (w / 2) (h / 2) (maskAt sign true true (weights 8 w (now (tmp1 .entry)) (now (tmp2 .entry))))) ⌝ }
+    requires { ⌜ Weighing (length (now tmp1)) (length (now tmp2)) w h (length (now mask)) «mask_stride» (w / 2) (h / 2) × (sign ≤ 1) × Depths depth bits ⌝ }
+    ensures { λ _. ⌜ now (mask .exit) ≡ fill (now (mask .entry)) «mask_stride» (w / 2) (h / 2) (maskAt sign true true (λ i j. both (weightOf depth bits) (now (tmp1 .entry)) (now (tmp2 .entry)) (j * w) i)) ⌝ }
 {
     let mut m = [0u8; 64];
     let mut n = [0u8; 64];
     let mut y = 0;
     while y < h / 2 {
-        let r = 2 * y;
-        let d = r * dst_stride;
-        weigh_row8(&mut dst[d..d + w], &mut m[..w], tmp1, tmp2, r * w);
-        let e = (r + 1) * dst_stride;
-        weigh_row8(&mut dst[e..e + w], &mut n[..w], tmp1, tmp2, (r + 1) * w);
         let k = y * mask_stride;
+        let r = 2 * y;
+        weight_row(&mut m[..w], tmp1, tmp2, r * w, depth, bits);
+        weight_row(&mut n[..w], tmp1, tmp2, (r + 1) * w, depth, bits);
         four_row(&mut mask[k..k + w / 2], &m, &n, sign);
         y += 1;
     }
 }
 
 // The way that the flags name.
+fn keep_mask(
+    mask: &mut [u8],
+    mask_stride: usize,
+    tmp1: &[i16],
+    tmp2: &[i16],
+    w: usize,
+    h: usize,
+    sign: u32,
+    ss_hor: bool,
+    ss_ver: bool,
+    depth: u32,
+    bits: u32,
+)
+    requires { ⌜ Weighing (length (now tmp1)) (length (now tmp2)) w h (length (now mask)) «mask_stride» (maskSide «ss_hor» w) (maskSide «ss_ver» h) × (flagsOk «ss_hor» «ss_ver» ≡ true) × (sign ≤ 1) × Depths depth bits ⌝ }
+    ensures { λ _. ⌜ now (mask .exit) ≡ fill (now (mask .entry)) «mask_stride» (maskSide «ss_hor» w) (maskSide «ss_ver» h) (maskAt sign «ss_hor» «ss_ver» (λ i j. both (weightOf depth bits) (now (tmp1 .entry)) (now (tmp2 .entry)) (j * w) i)) ⌝ }
+{
+    if ss_ver {
+        keep_fours(mask, mask_stride, tmp1, tmp2, w, h, sign, depth, bits);
+    } else if ss_hor {
+        keep_pairs(mask, mask_stride, tmp1, tmp2, w, h, sign, depth, bits);
+    } else {
+        keep_each(mask, mask_stride, tmp1, tmp2, w, h, depth, bits);
+    }
+}
+
+// The pixels where the mask doesn't keep each weight.
+fn weighed_rows8(dst: &mut [u8], dst_stride: usize, tmp1: &[i16], tmp2: &[i16], w: usize, h: usize)
+    requires { ⌜ Block w h × Rows (length (now dst)) «dst_stride» w h × Rows (length (now tmp1)) w w h × Rows (length (now tmp2)) w w h ⌝ }
+    ensures { λ _. ⌜ now (dst .exit) ≡ fill (now (dst .entry)) «dst_stride» w h (λ i j. both (masked 255 4 0 (weights 8 w (now (tmp1 .entry)) (now (tmp2 .entry)) i j)) (now (tmp1 .entry)) (now (tmp2 .entry)) (j * w) i) ⌝ }
+{
+    let mut m = [0u8; 64];
+    let mut y = 0;
+    while y < h {
+        let d = y * dst_stride;
+        weight_row(&mut m[..w], tmp1, tmp2, y * w, 8, 4);
+        mask_row8(&mut dst[d..d + w], tmp1, tmp2, y * w, &m, 0);
+        y += 1;
+    }
+}
+
+// A mask that keeps each weight is then read as in mask.
 fn w_mask_rows8(
     dst: &mut [u8],
     dst_stride: usize,
@@ -213,15 +247,26 @@ fn w_mask_rows8(
     ss_hor: bool,
     ss_ver: bool,
 )
-    requires { ⌜ Weighing (length (now dst)) «dst_stride» (length (now tmp1)) (length (now tmp2)) w h (length (now mask)) «mask_stride» (maskSide «ss_hor» w) (maskSide «ss_ver» h) × (evenOk «ss_ver» h ≡ true) × (flagsOk «ss_hor» «ss_ver» ≡ true) × (sign ≤ 1) ⌝ }
+    requires { ⌜ Rows (length (now dst)) «dst_stride» w h × Weighing (length (now tmp1)) (length (now tmp2)) w h (length (now mask)) «mask_stride» (maskSide «ss_hor» w) (maskSide «ss_ver» h) × (flagsOk «ss_hor» «ss_ver» ≡ true) × (sign ≤ 1) ⌝ }
     ensures { λ _. ⌜ (now (dst .exit) ≡ fill (now (dst .entry)) «dst_stride» w h (λ i j. both (masked 255 4 0 (weights 8 w (now (tmp1 .entry)) (now (tmp2 .entry)) i j)) (now (tmp1 .entry)) (now (tmp2 .entry)) (j * w) i)) × (now (mask .exit) ≡ fill (now (mask .entry)) «mask_stride» (maskSide «ss_hor» w) (maskSide «ss_ver» h) (maskAt sign «ss_hor» «ss_ver» (weights 8 w (now (tmp1 .entry)) (now (tmp2 .entry))))) ⌝ }
 {
-    if ss_ver {
-        w_mask_fours8(dst, dst_stride, tmp1, tmp2, w, h, mask, mask_stride, sign);
-    } else if ss_hor {
-        w_mask_pairs8(dst, dst_stride, tmp1, tmp2, w, h, mask, mask_stride, sign);
+    keep_mask(
+        mask,
+        mask_stride,
+        tmp1,
+        tmp2,
+        w,
+        h,
+        sign,
+        ss_hor,
+        ss_ver,
+        8,
+        4,
+    );
+    if ss_hor {
+        weighed_rows8(dst, dst_stride, tmp1, tmp2, w, h);
     } else {
-        w_mask_each8(dst, dst_stride, tmp1, tmp2, w, h, mask, mask_stride);
+        mask_rows8(dst, dst_stride, tmp1, tmp2, w, h, mask, mask_stride);
     }
 }
 
@@ -274,153 +319,42 @@ pub extern "C" fn hv_w_mask_8bpc(
 }
 
 // The same for 16-bit pixels, at the depth.
-fn weigh_row16(
-    dst: &mut [u16],
-    m: &mut [u8],
-    tmp1: &[i16],
-    tmp2: &[i16],
-    q: usize,
-    depth: u32,
-    bits: u32,
-    bias: u32,
-    max: u16,
-)
-    requires { ⌜ (length (now m) ≡ length (now dst)) × (q + length (now dst) ≤ length (now tmp1)) × (q + length (now dst) ≤ length (now tmp2)) × Depths depth bits bias max ⌝ }
-    ensures { λ _. ⌜ (now (m .exit) ≡ rowOf (length (now (m .entry))) (both (weightOf depth bits) (now (tmp1 .entry)) (now (tmp2 .entry)) q)) × (now (dst .exit) ≡ rowOf (length (now (dst .entry))) (λ i. both (masked max bits bias (both (weightOf depth bits) (now (tmp1 .entry)) (now (tmp2 .entry)) q i)) (now (tmp1 .entry)) (now (tmp2 .entry)) q i)) ⌝ }
-{
-    weight_row(m, tmp1, tmp2, q, depth, bits);
-    mask_row16(dst, tmp1, tmp2, q, m, 0, bits, bias, max);
-}
-
-fn w_mask_each16(
+fn weighed_rows16(
+    n: DepthNumbers,
     dst: &mut [u16],
     dst_stride: usize,
     tmp1: &[i16],
     tmp2: &[i16],
     w: usize,
     h: usize,
-    mask: &mut [u8],
-    mask_stride: usize,
     depth: u32,
-    bits: u32,
-    bias: u32,
-    max: u16,
 )
-    requires { ⌜ Weighing (length (now dst)) «dst_stride» (length (now tmp1)) (length (now tmp2)) w h (length (now mask)) «mask_stride» w h × Depths depth bits bias max ⌝ }
-    ensures { λ _. ⌜ (now (dst .exit) ≡ fill (now (dst .entry)) «dst_stride» w h (λ i j. both (masked max bits bias (both (weightOf depth bits) (now (tmp1 .entry)) (now (tmp2 .entry)) (j * w) i)) (now (tmp1 .entry)) (now (tmp2 .entry)) (j * w) i)) × (now (mask .exit) ≡ fill (now (mask .entry)) «mask_stride» w h (λ i j. both (weightOf depth bits) (now (tmp1 .entry)) (now (tmp2 .entry)) (j * w) i)) ⌝ }
-{
-    let mut y = 0;
-    while y < h {
-        let d = y * dst_stride;
-        let m = y * mask_stride;
-        weigh_row16(
-            &mut dst[d..d + w],
-            &mut mask[m..m + w],
-            tmp1,
-            tmp2,
-            y * w,
-            depth,
-            bits,
-            bias,
-            max,
-        );
-        y += 1;
-    }
-}
-
-fn w_mask_pairs16(
-    dst: &mut [u16],
-    dst_stride: usize,
-    tmp1: &[i16],
-    tmp2: &[i16],
-    w: usize,
-    h: usize,
-    mask: &mut [u8],
-    mask_stride: usize,
-    sign: u32,
-    depth: u32,
-    bits: u32,
-    bias: u32,
-    max: u16,
-)
-    requires { ⌜ Weighing (length (now dst)) «dst_stride» (length (now tmp1)) (length (now tmp2)) w h (length (now mask)) «mask_stride» (w / 2) h × (sign ≤ 1) × Depths depth bits bias max ⌝ }
-    ensures { λ _. ⌜ (now (dst .exit) ≡ fill (now (dst .entry)) «dst_stride» w h (λ i j. both (masked max bits bias (both (weightOf depth bits) (now (tmp1 .entry)) (now (tmp2 .entry)) (j * w) i)) (now (tmp1 .entry)) (now (tmp2 .entry)) (j * w) i)) × (now (mask .exit) ≡ fill (now (mask .entry)) «mask_stride» (w / 2) h (maskAt sign true false (λ i j. both (weightOf depth bits) (now (tmp1 .entry)) (now (tmp2 .entry)) (j * w) i))) ⌝ }
+    requires { ⌜ Block w h × Rows (length (now dst)) «dst_stride» w h × Rows (length (now tmp1)) w w h × Rows (length (now tmp2)) w w h × Depths depth (n .bits) × Bits (n .bits) (n .bias) × (n .max < 2 ^ 15) ⌝ }
+    ensures { λ _. ⌜ now (dst .exit) ≡ fill (now (dst .entry)) «dst_stride» w h (λ i j. both (masked (n .max) (n .bits) (n .bias) (both (weightOf depth (n .bits)) (now (tmp1 .entry)) (now (tmp2 .entry)) (j * w) i)) (now (tmp1 .entry)) (now (tmp2 .entry)) (j * w) i) ⌝ }
 {
     let mut m = [0u8; 64];
     let mut y = 0;
     while y < h {
         let d = y * dst_stride;
-        let k = y * mask_stride;
-        weigh_row16(
+        let q = y * w;
+        weight_row(&mut m[..w], tmp1, tmp2, q, depth, n.bits);
+        mask_row16(
             &mut dst[d..d + w],
-            &mut m[..w],
             tmp1,
             tmp2,
-            y * w,
-            depth,
-            bits,
-            bias,
-            max,
+            q,
+            &m,
+            0,
+            n.bits,
+            n.bias,
+            n.max,
         );
-        pair_row(&mut mask[k..k + w / 2], &m, sign);
-        y += 1;
-    }
-}
-
-fn w_mask_fours16(
-    dst: &mut [u16],
-    dst_stride: usize,
-    tmp1: &[i16],
-    tmp2: &[i16],
-    w: usize,
-    h: usize,
-    mask: &mut [u8],
-    mask_stride: usize,
-    sign: u32,
-    depth: u32,
-    bits: u32,
-    bias: u32,
-    max: u16,
-)
-    requires { ⌜ Weighing (length (now dst)) «dst_stride» (length (now tmp1)) (length (now tmp2)) w h (length (now mask)) «mask_stride» (w / 2) (h / 2) × (h % 2 ≡ 0) × (sign ≤ 1) × Depths depth bits bias max ⌝ }
-    ensures { λ _. ⌜ (now (dst .exit) ≡ fill (now (dst .entry)) «dst_stride» w h (λ i j. both (masked max bits bias (both (weightOf depth bits) (now (tmp1 .entry)) (now (tmp2 .entry)) (j * w) i)) (now (tmp1 .entry)) (now (tmp2 .entry)) (j * w) i)) × (now (mask .exit) ≡ fill (now (mask .entry)) «mask_stride» (w / 2) (h / 2) (maskAt sign true true (λ i j. both (weightOf depth bits) (now (tmp1 .entry)) (now (tmp2 .entry)) (j * w) i))) ⌝ }
-{
-    let mut m = [0u8; 64];
-    let mut n = [0u8; 64];
-    let mut y = 0;
-    while y < h / 2 {
-        let r = 2 * y;
-        let d = r * dst_stride;
-        weigh_row16(
-            &mut dst[d..d + w],
-            &mut m[..w],
-            tmp1,
-            tmp2,
-            r * w,
-            depth,
-            bits,
-            bias,
-            max,
-        );
-        let e = (r + 1) * dst_stride;
-        weigh_row16(
-            &mut dst[e..e + w],
-            &mut n[..w],
-            tmp1,
-            tmp2,
-            (r + 1) * w,
-            depth,
-            bits,
-            bias,
-            max,
-        );
-        let k = y * mask_stride;
-        four_row(&mut mask[k..k + w / 2], &m, &n, sign);
         y += 1;
     }
 }
 
 fn w_mask_rows16(
+    n: DepthNumbers,
     dst: &mut [u16],
     dst_stride: usize,
     tmp1: &[i16],
@@ -433,47 +367,27 @@ fn w_mask_rows16(
     ss_hor: bool,
     ss_ver: bool,
     depth: u32,
-    bits: u32,
-    bias: u32,
-    max: u16,
 )
-    requires { ⌜ Weighing (length (now dst)) «dst_stride» (length (now tmp1)) (length (now tmp2)) w h (length (now mask)) «mask_stride» (maskSide «ss_hor» w) (maskSide «ss_ver» h) × (evenOk «ss_ver» h ≡ true) × (flagsOk «ss_hor» «ss_ver» ≡ true) × (sign ≤ 1) × Depths depth bits bias max ⌝ }
-    ensures { λ _. ⌜ (now (dst .exit) ≡ fill (now (dst .entry)) «dst_stride» w h (λ i j. both (masked max bits bias (both (weightOf depth bits) (now (tmp1 .entry)) (now (tmp2 .entry)) (j * w) i)) (now (tmp1 .entry)) (now (tmp2 .entry)) (j * w) i)) × (now (mask .exit) ≡ fill (now (mask .entry)) «mask_stride» (maskSide «ss_hor» w) (maskSide «ss_ver» h) (maskAt sign «ss_hor» «ss_ver» (λ i j. both (weightOf depth bits) (now (tmp1 .entry)) (now (tmp2 .entry)) (j * w) i))) ⌝ }
+    requires { ⌜ Rows (length (now dst)) «dst_stride» w h × Weighing (length (now tmp1)) (length (now tmp2)) w h (length (now mask)) «mask_stride» (maskSide «ss_hor» w) (maskSide «ss_ver» h) × (flagsOk «ss_hor» «ss_ver» ≡ true) × (sign ≤ 1) × Depths depth (n .bits) × Bits (n .bits) (n .bias) × (n .max < 2 ^ 15) ⌝ }
+    ensures { λ _. ⌜ (now (dst .exit) ≡ fill (now (dst .entry)) «dst_stride» w h (λ i j. both (masked (n .max) (n .bits) (n .bias) (both (weightOf depth (n .bits)) (now (tmp1 .entry)) (now (tmp2 .entry)) (j * w) i)) (now (tmp1 .entry)) (now (tmp2 .entry)) (j * w) i)) × (now (mask .exit) ≡ fill (now (mask .entry)) «mask_stride» (maskSide «ss_hor» w) (maskSide «ss_ver» h) (maskAt sign «ss_hor» «ss_ver» (λ i j. both (weightOf depth (n .bits)) (now (tmp1 .entry)) (now (tmp2 .entry)) (j * w) i))) ⌝ }
 {
-    if ss_ver {
-        w_mask_fours16(
-            dst,
-            dst_stride,
-            tmp1,
-            tmp2,
-            w,
-            h,
-            mask,
-            mask_stride,
-            sign,
-            depth,
-            bits,
-            bias,
-            max,
-        );
-    } else if ss_hor {
-        w_mask_pairs16(
-            dst,
-            dst_stride,
-            tmp1,
-            tmp2,
-            w,
-            h,
-            mask,
-            mask_stride,
-            sign,
-            depth,
-            bits,
-            bias,
-            max,
-        );
+    keep_mask(
+        mask,
+        mask_stride,
+        tmp1,
+        tmp2,
+        w,
+        h,
+        sign,
+        ss_hor,
+        ss_ver,
+        depth,
+        n.bits,
+    );
+    if ss_hor {
+        weighed_rows16(n, dst, dst_stride, tmp1, tmp2, w, h, depth);
     } else {
-        w_mask_each16(
+        mask_rows16(
             dst,
             dst_stride,
             tmp1,
@@ -482,10 +396,9 @@ fn w_mask_rows16(
             h,
             mask,
             mask_stride,
-            depth,
-            bits,
-            bias,
-            max,
+            n.bits,
+            n.bias,
+            n.max,
         );
     }
 }
@@ -524,6 +437,7 @@ pub extern "C" fn hv_w_mask_16bpc(
     if number == 0 {
         let n = depth_numbers(depth);
         w_mask_rows16(
+            n,
             dst,
             dst_stride,
             tmp1,
@@ -536,9 +450,6 @@ pub extern "C" fn hv_w_mask_16bpc(
             ss_hor,
             ss_ver,
             above(depth),
-            n.bits,
-            n.bias,
-            n.max,
         );
     }
     number

@@ -8,6 +8,7 @@ use Rattle.blocks.specs.Refuse.{lowest, depthOk}
 use Rattle.blocks.specs.Ready.{numbersOf}
 use Rattle.blocks.specs.Mask.{wMaskTests}
 use Rattle.blocks.proofs.Laws.Refuse.{done, refused}
+use Rattle.blocks.proofs.Laws.Deep.{deep-bits, deep-max}
 use Rattle.blocks.proofs.Laws.MaskReady.{w-mask-ready, depths-met}
 use Rattle.blocks.proofs.mask.hv_w_mask_16bpc.Statement.{statement}
 use Rattle.blocks.proofs.mask.hv_w_mask_16bpc.Tie as tie
@@ -43,7 +44,15 @@ w-mask-rows16-requires : tie.Need-w-mask-rows16-requires
 w-mask-rows16-requires c κs =
     let i = from c .before in let t = entry (i .before) in
     let p = w-mask-ready _ _ _ _ _ _ _ _ _ (t .args .sign) _ _ (sym (number (i .before)) ∙ i .if1 .taken) in
-    (p .1, p .2, p .3, rw (sign c) (p .4), depths-met (t .args .depth) _ _ (depth c) (deep (from c)) (p .0))
+    (
+      p .1,
+      p .2,
+      p .3,
+      rw (sign c) (p .4),
+      depths-met (t .args .depth) _ _ (depth c) (deep (from c)) (p .0),
+      rw (deep (from c)) (deep-bits _ (p .0)),
+      rw (deep (from c)) (deep-max _ (p .0)),
+    )
 
 returns : tie.Need-returns
 returns c =

@@ -1,57 +1,54 @@
-use mathlib.Core.Path.{_≡_}
-use mathlib.Core.Bool.{true}
+use mathlib.Core.Path.{_∙_}
 use native.Mathlib.Omega.{arith}
 use borrow.Author.Needs.{needs}
-use Rattle.rows.specs.Mask.{maskAt}
-use Rattle.blocks.proofs.Laws.MaskReady.{even-met, flags-met}
+use Rattle.blocks.proofs.Laws.MaskReady.{each-met}
+use Rattle.blocks.proofs.Laws.Weighed.{weigh, mixedBy, Kept, kept, kept-room}
 use Rattle.blocks.proofs.mask.w_mask_rows16.Statement.{statement}
 use Rattle.blocks.proofs.mask.w_mask_rows16.Tie as tie
 
--- with ss_ver, ss_hor
-hor : (c : tie.Then1) → c .before .before .before .args .ss-hor ≡ true
-hor c = flags-met _ _ (c .before .before .before .pre .2) (c .if1 .taken)
+-- the function's entry, from where the mask is written
+abbrev entry : tie.After-keep-mask → tie.Start
+entry c = c .before .before .before .before
 
-w-mask-fours16-requires : tie.Need-w-mask-fours16-requires
-w-mask-fours16-requires c κs =
-    let i = c .before .before in let p = i .before .before .before .pre in
-    (rw (hor i, i .if1 .taken) at (p .0), even-met _ _ (p .1) (i .if1 .taken), omega (arith, p), p .4)
+-- without ss_hor, the mask has each weight
+each : (c : tie.Else1) → let k = c .before .before .before in let a = entry k .args in
+    Kept (weigh (a .depth) (a .n .bits) (a .tmp1 .now) (a .tmp2 .now) (a .w)) (a .mask .now) (a .mask-stride) (a .w) (a .h) (k .keep-mask .last .0)
+each c =
+    let k = c .before .before .before in let p = entry k .pre in
+    each-met (entry k .args .sign) _ _ _ _ _ _ _ _ (p .2) (c .if1 .left) (k .keep-mask .ensures) (p .1 .mask)
 
-w-mask-pairs16-requires : tie.Need-w-mask-pairs16-requires
-w-mask-pairs16-requires c κs =
-    let i = c .before .before in let e = i .before in let p = e .before .before .before .pre in
-    (rw (i .if2 .taken, e .if1 .left) at (p .0), omega (arith, p), p .4)
+keep-mask-requires : tie.Need-keep-mask-requires
+keep-mask-requires c κs = let p = c .before .before .before .pre in (p .1, p .2, p .3, p .4)
 
-w-mask-each16-requires : tie.Need-w-mask-each16-requires
-w-mask-each16-requires c κs =
-    let i = c .before .before in let e = i .before in
-    (rw (i .if2 .left, e .if1 .left) at (e .before .before .before .pre .0), e .before .before .before .pre .4)
+weighed-rows16-requires : tie.Need-weighed-rows16-requires
+weighed-rows16-requires c κs =
+    let p = entry (c .before .before .before .before) .pre in (p .1 .block, p .0, p .1 .tmp1, p .1 .tmp2, p .4, p .5, p .6)
+
+mask-rows16-requires : tie.Need-mask-rows16-requires
+mask-rows16-requires c κs =
+    let i = c .before .before in let p = entry (i .before .before .before) .pre in
+    (p .1 .block, p .0, p .1 .tmp1, p .1 .tmp2, kept-room (each i), p .5, p .6)
 
 returns : tie.Need-returns
-returns c =
-    let r = c .before .before .before .before in let i = r .before .before .before in
-    (r .w-mask-fours16 .ensures .0, rw (hor i, i .if1 .taken) (r .w-mask-fours16 .ensures .1))
+returns c = let r = c .before .before in (r .weighed-rows16 .ensures, r .before .before .before .before .before .keep-mask .ensures)
 
 returns-2 : tie.Need-returns-2
 returns-2 c =
-    let r = c .before .before .before .before in let i = r .before .before .before in
-    (r .w-mask-pairs16 .ensures .0, rw (i .if2 .taken, i .before .if1 .left) (r .w-mask-pairs16 .ensures .1))
-
-returns-3 : tie.Need-returns-3
-unfolding maskAt
-returns-3 c =
-    let r = c .before .before .before .before in let i = r .before .before .before in
-    (r .w-mask-each16 .ensures .0, rw (i .if2 .left, i .before .if1 .left) (r .w-mask-each16 .ensures .1))
+    let r = c .before .before in let i = r .before .before .before in let k = i .before .before .before in
+    let a = entry k .args in let p = entry k .pre in (
+      r .mask-rows16 .ensures
+          ∙ kept (mixedBy (a .n .max) (a .n .bits) (a .n .bias) (a .tmp1 .now) (a .tmp2 .now) (a .w)) _ _ (each i) (omega (arith, p .0, p .1 .block)),
+      k .keep-mask .ensures,
+    )
 
 pub w-mask-rows16-spec : {M : Type 1} → statement M
 w-mask-rows16-spec =
     tie.close
     (tie.spec
-    w-mask-fours16-requires
-    w-mask-pairs16-requires
-    w-mask-each16-requires
+    keep-mask-requires
+    weighed-rows16-requires
+    mask-rows16-requires
     (λ c. search needs) (λ c. search needs)  -- same-length
     returns
     (λ c. search needs) (λ c. search needs)  -- same-length
-    returns-2
-    (λ c. search needs) (λ c. search needs)  -- same-length
-    returns-3)
+    returns-2)
