@@ -1,7 +1,7 @@
 -- `put_bilin` and `prep_bilin`: the tests of a call, the same for both. dl and sl are the lengths of dst (or tmp) and src; deep is the outcome of the depth's test,
 -- true for bytes. Assumes nothing.
 use Prim.Native.Nat.{ℕ}
-use lib.IntN.{ℤ, pos}
+use lib.IntN.{ℤ}
 use mathlib.Core.Bool.{Bool}
 use mathlib.Core.List.{List, [], _∷_}
 use mathlib.Core.Path.{_≡_}

@@ -1,8 +1,8 @@
 -- Prediction orders: their numbers, and their pixels on the endless plane. Assumes nothing.
-use Prim.Native.Nat.{ℕ, zero, suc, _/_}
-use lib.Dec.{leb, eqb}
+use Prim.Native.Nat.{ℕ, _/_}
+use lib.Dec.{eqb}
 use lib.IntN.{ℤ}
-use mathlib.Core.Bool.{Bool, true, false, _&&_}
+use mathlib.Core.Bool.{Bool, true, _&&_}
 use mathlib.Core.List.{List, [], _∷_}
 use mathlib.Core.Path.{_≡_}
 use lib.ListN.{length}

@@ -89,7 +89,7 @@ pub record Warps (dl ds sl off ss n : ℕ) (a b c d mx my : ℤ) : Type 0 where
 -- a divisor, and a table of reciprocals that has its place
 pub record Divides (d rl : ℕ) : Type 0 where
   pub least : 1 ≤ d
-  pub most : d ≤ 2147483647
+  pub most : d ≤ 2 ^ 31 - 1
   pub held : rl ≡ 129
 
 -- a matrix whose entries 2 to 5 are within ±2^22

@@ -7,7 +7,7 @@ use mathlib.Core.Path.{_≡_}
 use lib.IntN.{ℤ, pos}
 use lib.ListN.{length}
 use Rattle.rows.specs.Places.{pixel, pick}
-use Rattle.rows.specs.Search.{Offset, Best, none, best, centre, sad, refine}
+use Rattle.rows.specs.Search.{Best, none, best, centre, sad, refine}
 use Rattle.blocks.specs.declared.search.Best as declared
 use Rattle.blocks.specs.Refuse.{Test, size, stride, number, read, _asks_, lowest, orSame, sizeOk, blockSide, strideOk, holds}
 

@@ -1,8 +1,8 @@
 -- `resolve_divisor_32`, `get_shear_params`, `set_affine_mv2d`: the tests of their calls, and the record as it comes back. Assumes nothing.
-use Prim.Native.Nat.{ℕ, _^_}
+use Prim.Native.Nat.{ℕ, _-_, _^_}
 use lib.Dec.{leb, eqb}
 use lib.IntN.{ℤ, pos, natAbs}
-use lib.ListN.{getD, length, set}
+use lib.ListN.{length, set}
 use lib.Signed.{ltZ}
 use mathlib.Core.Bool.{Bool, _&&_}
 use mathlib.Core.List.{List, [], _∷_}
@@ -19,7 +19,7 @@ recipOk rl = eqb rl 129
 
 -- "d 1 to 2^31 - 1"
 abbrev pub divisorTests : (d rl : ℕ) → List Test
-divisorTests d rl = number asks (leb 1 d && leb d 2147483647) ∷ table asks recipOk rl ∷ []
+divisorTests d rl = number asks (leb 1 d && leb d (2 ^ 31 - 1)) ∷ table asks recipOk rl ∷ []
 
 -- what `resolve_divisor_32` answers; "Every refusal gives zeros for its other results"
 unfoldable pub divisorOf : ℕ → List ℕ → Divisor

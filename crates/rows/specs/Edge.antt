@@ -1,5 +1,5 @@
 -- A plane that goes on for ever by repeating its border pixels: `emu_edge`, and the plane that demand 3 speaks of. Assumes nothing.
-use Prim.Native.Nat.{ℕ, _+_, _-_, min}
+use Prim.Native.Nat.{ℕ, _+_, _-_}
 use lib.IntN.{ℤ, pos, _+ℤ_, _-ℤ_}
 use mathlib.Core.List.{List}
 use Rattle.rows.specs.Numbers.{clip}

@@ -1,7 +1,7 @@
 // Pixels changed in place: blend with other pixels by a mask, morph by a scale and an offset.
 ghost use mathlib.Core.Path.{_≡_};
-ghost use Prim.Native.Nat.{ℕ, _+_, _*_, _^_, _<_, _≤_};
-ghost use lib.IntN.{ℤ, pos, natAbs, _+ℤ_, _*ℤ_};
+ghost use Prim.Native.Nat.{_+_, _*_, _^_, _<_, _≤_};
+ghost use lib.IntN.{ℤ, natAbs, _+ℤ_, _*ℤ_};
 ghost use lib.ListN.{length, getD};
 ghost use lib.Signed.{shrZ};
 ghost use Rattle.rows.specs.Places.{rowOf};

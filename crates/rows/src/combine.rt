@@ -1,10 +1,9 @@
 // Two intermediates combined into a pixel: avg, mask. A byte is the 16-bit rule at B = 4, P = 0 and the largest pixel 255.
 ghost use mathlib.Core.Path.{_≡_};
-ghost use Prim.Native.Nat.{ℕ, _+_, _*_, _^_, _<_, _≤_};
+ghost use Prim.Native.Nat.{_+_, _*_, _^_, _<_, _≤_};
 ghost use lib.IntN.{ℤ, pos, _+ℤ_, _-ℤ_, _*ℤ_};
 ghost use lib.ListN.{length, getD};
 ghost use lib.Signed.{mag, shrZ};
-ghost use Rattle.rows.specs.Numbers.{at};
 ghost use Rattle.rows.specs.Places.{rowOf};
 ghost use Rattle.rows.specs.Combine.{avg, masked, both};
 use crate::numbers::clip8;

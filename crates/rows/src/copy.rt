@@ -1,12 +1,12 @@
 // put and prep: pixels copied, and pixels made intermediates.
 ghost use mathlib.Core.Path.{_≡_};
-ghost use Prim.Native.Nat.{ℕ, _+_, _*_, _≤_};
+ghost use Prim.Native.Nat.{_+_, _*_, _≤_};
 ghost use lib.ListN.{length, getD};
 ghost use Rattle.rows.specs.Places.{rowOf};
 ghost use Rattle.rows.specs.Copy.{put, prep};
 use crate::numbers::keep16;
 
-// n pixels, each read before the first is written: for a number n it is a few loads and stores, with no test whether dst and src overlap.
+// n pixels, all read before the first is written. Where the caller's n is a constant, these are a few loads and stores, with no test for an overlap.
 fn copy_whole8(dst: &mut [u8], src: &[u8], o: usize, n: usize)
     requires { ⌜ (length (now dst) ≡ n) × (n ≤ 32) × (o + n ≤ length (now src)) ⌝ }
     ensures { λ _. ⌜ now (dst .exit) ≡ rowOf (length (now (dst .entry))) (λ i. put (getD (now (src .entry)) (o + i) 0)) ⌝ }
@@ -47,7 +47,7 @@ fn copy_each8(dst: &mut [u8], src: &[u8], o: usize)
     }
 }
 
-// Pixels from place o of src on. Up to 64 are copied as two pieces of one of four sizes.
+// Pixels from place o of src on, four to 64 of them as two pieces of one size.
 pub fn copy_row8(dst: &mut [u8], src: &[u8], o: usize)
     requires { ⌜ o + length (now dst) ≤ length (now src) ⌝ }
     ensures { λ _. ⌜ now (dst .exit) ≡ rowOf (length (now (dst .entry))) (λ i. put (getD (now (src .entry)) (o + i) 0)) ⌝ }

@@ -1,6 +1,6 @@
 // emu_edge's row: the plane's first pixel, its pixels, its last pixel, on three parts of the row, so that no pixel asks for a clamp.
 ghost use mathlib.Core.Path.{_≡_};
-ghost use Prim.Native.Nat.{ℕ, _+_, _-_, _≤_, _^_};
+ghost use Prim.Native.Nat.{_+_, _-_, _≤_, _^_};
 ghost use lib.IntN.{pos, natAbs, _+ℤ_, _-ℤ_};
 ghost use lib.ListN.{length, getD};
 ghost use Rattle.rows.specs.Numbers.{clip};

@@ -1,7 +1,6 @@
 // w_mask's rows: the weights of a row, and what the mask keeps of the weights of one row or of two.
 ghost use mathlib.Core.Path.{_≡_};
-ghost use Prim.Native.Nat.{ℕ, _+_, _*_, _<_, _≤_};
-ghost use lib.IntN.{ℤ};
+ghost use Prim.Native.Nat.{_+_, _*_, _<_, _≤_};
 ghost use lib.ListN.{length, getD};
 ghost use Rattle.rows.specs.Numbers.{apart};
 ghost use Rattle.rows.specs.Places.{rowOf};

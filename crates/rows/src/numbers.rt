@@ -1,7 +1,7 @@
 // Clips, cuts and wrapping steps of signed numbers.
 ghost use mathlib.Core.Path.{_≡_};
 ghost use Prim.Native.Nat.{_^_, _<_};
-ghost use lib.IntN.{ℤ, pos, negsuc};
+ghost use lib.IntN.{pos, negsuc};
 ghost use Rattle.rows.specs.Numbers.{clip, clipTo, low16, low32, minus16, minus32};
 
 // The number clamped to 0..255.

@@ -1,7 +1,7 @@
 -- Bilinear blocks: what the number tells, and what each case's rows rely on. Assumes nothing.
-use mathlib.Core.Path.{_≡_, refl, sym, ap, _∙_}
-use mathlib.Core.Bool.{Bool, true, false}
-use mathlib.Core.List.{List, [], _∷_}
+use mathlib.Core.Path.{_≡_, refl, sym, _∙_}
+use mathlib.Core.Bool.{Bool, true}
+use mathlib.Core.List.{List}
 use Prim.Native.Nat.{ℕ, zero, suc, _+_, _-_, _*_, _^_, _≤_, _<_, min}
 use native.Mathlib.Omega.{arith}
 use borrow.Author.Tests.{le-leb, lt-leb, le-ltb, lt-ltb}
@@ -12,7 +12,7 @@ use Rattle.rows.specs.Numbers.{up, half}
 use Rattle.rows.proofs.Laws.Places.{by-lt, row-fits}
 use Rattle.rows.proofs.Laws.Fill.{and-true}
 use Rattle.rows.proofs.Laws.Signed.{le-yes, one-part}
-use Rattle.blocks.specs.Refuse.{size, _asks_, need, lowest, orSame, sizeOk, blockSide, strideOk, holds, reads, depthOk}
+use Rattle.blocks.specs.Refuse.{need, lowest, sizeOk, strideOk, holds, reads, depthOk}
 use Rattle.blocks.specs.Subpel.{on, sixteenthOk}
 use Rattle.blocks.specs.Bilinear.{bilinTests, PutBilinAnswer, PrepBilinAnswer}
 use Rattle.blocks.specs.Ready.{Block, Rows, Pairs, Bilin}

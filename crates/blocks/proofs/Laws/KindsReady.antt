@@ -1,7 +1,7 @@
 -- A block of a kind from its window: what the kind's rows rely on, its numbers as a call passes them, its first place and its pixels where no margin stands
 -- before it. Assumes nothing.
 use mathlib.Core.Path.{_≡_, ap, fun-ext}
-use mathlib.Core.Bool.{true, _&&_}
+use mathlib.Core.Bool.{_&&_}
 use mathlib.Core.List.{List}
 use Prim.Native.Nat.{ℕ, zero, suc, _+_, _-_, _*_, _/_, _^_, _≤_, _<_}
 use native.Mathlib.Omega.{arith}

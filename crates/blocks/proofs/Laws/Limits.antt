@@ -2,10 +2,9 @@
 use mathlib.Core.Path.{_≡_, refl}
 use mathlib.Core.Bool.{true, false}
 use mathlib.Core.List.{List, [], _∷_}
-use Prim.Native.Nat.{ℕ, _*_}
 use lib.IntN.{ℤ, pos, negsuc}
 use Rattle.blocks.specs.Refuse.{need, lowest, blockSide, sizeOk, strideOk, holds}
-use Rattle.blocks.specs.Copy.{putTests, prepTests}
+use Rattle.blocks.specs.Copy.{putTests}
 use Rattle.blocks.specs.Shear.{recipOk, entriesOk, shearTests}
 
 -- every entry with a block tests its sides so

@@ -4,7 +4,6 @@ use mathlib.Core.Path.{_≡_, refl, _∙_}
 use mathlib.Core.Bool.{Bool, true}
 use mathlib.Core.List.{List, [], _∷_}
 use Prim.Native.Nat.{ℕ, _^_, _≤_}
-use borrow.Author.Tests.{leb-true}
 use lib.Dec.{leb}
 use lib.IntN.{natAbs}
 use Rattle.rows.proofs.Laws.Fill.{and-true}
@@ -17,6 +16,7 @@ use Rattle.blocks.specs.Order.{kindNumber, kindSizeOk, motionOk, filters
 use Rattle.blocks.specs.Ready.{Block, Rows, Windowed}
 use Rattle.blocks.proofs.Laws.Refuse.{all-met, met-all, then, later, sooner}
 use Rattle.blocks.proofs.Laws.Ready.{block-met, rows-met}
+use Rattle.blocks.proofs.Laws.WarpReady.{place-met}
 use Rattle.blocks.specs.declared.frame.Frame.{Frame}
 use Rattle.blocks.specs.declared.order.Order.{Order}
 use Rattle.blocks.specs.declared.order.Shears.{Shears}
@@ -25,8 +25,8 @@ use Rattle.blocks.specs.declared.order.Kind.the-variants.{Copy, Subpel, 
 
 -- a warped block's mx and my
 pub warp-near : (s : Shears) → motionOk (Warp s) ≡ true → (natAbs (s .mx) ≤ 2 ^ 20) × (natAbs (s .my) ≤ 2 ^ 20)
-unfolding motionOk warpPlaceOk
-warp-near s e = let p = and-true (warpPlaceOk (s .mx)) (warpPlaceOk (s .my)) e in (leb-true _ _ (p .0), leb-true _ _ (p .1))
+unfolding motionOk
+warp-near s e = let p = and-true (warpPlaceOk (s .mx)) (warpPlaceOk (s .my)) e in (place-met _ (p .0), place-met _ (p .1))
 
 -- ---- the three parts
 abbrev pub shapeTests : (f : Frame) (planeNo planeStride : ℕ) (o : Order) (dstStride : ℕ) → List Test

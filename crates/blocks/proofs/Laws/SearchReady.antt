@@ -17,7 +17,7 @@ use Rattle.rows.specs.Places.{pick, pixel}
 use Rattle.rows.specs.Search.{rowApart, sad, moved, sadAt, Offset, Best, none, best, better, visit, through, steps, search, answer, centre, refine}
 use Rattle.rows.proofs.Laws.Signed.{back, backn, fit-abs, add-parts, sub-parts, one-part, abs-parts, nonNeg-of}
 use Rattle.rows.proofs.Laws.Depth.{high}
-use Rattle.blocks.specs.Refuse.{size, _asks_, need, lowest, orSame, sizeOk, strideOk, holds, depthOk}
+use Rattle.blocks.specs.Refuse.{need, lowest, orSame, sizeOk, strideOk, holds, depthOk}
 use Rattle.blocks.specs.Ready.{Block, Rows, Deep, Blocks, Wider}
 use Rattle.blocks.specs.declared.search.Best as code
 use Rattle.blocks.specs.Search.{bestOf, sadsTests, sadTests, refineTests, SadAnswer, RefineAnswer}

@@ -15,7 +15,7 @@ use Rattle.rows.proofs.Laws.Fill.{fill-in, fill-same}
 use Rattle.rows.proofs.Laws.Taps.{tapped-same}
 use Rattle.rows.proofs.Laws.Low.{low16-again}
 use Rattle.blocks.specs.Ready.{Block, Rows, Taps, Lines}
-use Rattle.blocks.specs.Subpel.{on, tapsOf, planOf, putLine, prepLine, along, put8Rule, prep8Rule}
+use Rattle.blocks.specs.Subpel.{tapsOf, planOf, putLine, prepLine, along, put8Rule, prep8Rule}
 use Rattle.blocks.specs.declared.filters.Plan.{Plan}
 use Rattle.blocks.proofs.Laws.SubpelChoice.{bits-fit}
 use Rattle.blocks.proofs.Laws.SubpelLines.{put-some, prep-some}

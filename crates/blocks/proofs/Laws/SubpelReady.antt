@@ -12,7 +12,7 @@ use Rattle.rows.specs.Numbers.{up}
 use Rattle.rows.specs.Subpel.{family}
 use Rattle.rows.proofs.Laws.Places.{by-lt}
 use Rattle.rows.proofs.Laws.Fill.{and-true}
-use Rattle.blocks.specs.Refuse.{Test, numberOf, size, stride, _asks_, need, lowest, sizeOk, blockSide, strideOk, reads}
+use Rattle.blocks.specs.Refuse.{Test, size, stride, _asks_, lowest, sizeOk, blockSide, strideOk, reads}
 use Rattle.blocks.specs.Ready.{Block, Rows, Taps}
 use Rattle.blocks.specs.Subpel.{typeOk, sixteenthOk, fractionOk, subpelOk, filterIn, on, subpelTests, filterOf, Held}
 use Rattle.blocks.proofs.Laws.Refuse.{all-met, stride-met}

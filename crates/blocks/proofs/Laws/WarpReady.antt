@@ -1,14 +1,14 @@
 -- Warp's number 0 gives what its passes rely on; its tests in two parts. Assumes nothing.
-use mathlib.Core.Path.{_≡_, refl, sym}
-use mathlib.Core.Bool.{Bool, true, false}
-use mathlib.Core.List.{List, [], _∷_, _++_}
+use mathlib.Core.Path.{_≡_, sym}
+use mathlib.Core.Bool.{Bool, true}
+use mathlib.Core.List.{List, [], _∷_}
 use Prim.Native.Nat.{ℕ, _+_, _*_, _/_, _^_, _≤_}
 use borrow.Author.Tests.{leb-true, ltb-true}
 use lib.Dec.{leb, ltb}
 use lib.IntN.{ℤ, natAbs}
 use Rattle.rows.specs.Warp.{filterNo, isThere, every, allThere}
 use Rattle.rows.proofs.Laws.Fill.{and-true}
-use Rattle.blocks.specs.Refuse.{Test, stride, number, table, read, written, _asks_, numberOf, need, lowest, strideOk, holds, reads, wholeFilters}
+use Rattle.blocks.specs.Refuse.{Test, stride, number, table, read, written, _asks_, lowest, strideOk, holds, reads, wholeFilters}
 use Rattle.blocks.specs.Ready.{Pass, Margins, Warps}
 use Rattle.blocks.specs.Warp.{warpPlaceOk, warpTests}
 use Rattle.blocks.proofs.Laws.Refuse.{all-met, later, sooner, stride-met}
@@ -25,7 +25,7 @@ numberTests deep dstStride srcStride mx my =
     ∷ number asks warpPlaceOk my
     ∷ []
 
-place-met : (m : ℤ) → warpPlaceOk m ≡ true → natAbs m ≤ 2 ^ 20
+pub place-met : (m : ℤ) → warpPlaceOk m ≡ true → natAbs m ≤ 2 ^ 20
 unfolding warpPlaceOk
 place-met m e = leb-true _ _ e
 

@@ -3,7 +3,6 @@ use Prim.Native.Nat.{ℕ, zero, suc, _+_, _≤_, _<_}
 use native.Mathlib.Omega.{arith}
 use mathlib.Core.List.{[], _∷_}
 use lib.ListN.{getD}
-use Rattle.rows.specs.Combine.{AtMost}
 use Rattle.extremes.proofs.run_blend.Statement.{statement}
 use Rattle.extremes.proofs.run_blend.Tie as tie
 

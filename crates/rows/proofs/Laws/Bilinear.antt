@@ -80,7 +80,7 @@ taken u a =
     ∙ mul-add u (a / 256 * 256) (a % 256)
     ∙ ap (λ (k : ℕ). k + u * (a % 256)) (sym (mul-assoc u (a / 256) 256))
 
-pub by-bytes : (u v a b : ℕ) → u * a + v * b ≡ (u * (a / 256) + v * (b / 256)) * 256 + (u * (a % 256) + v * (b % 256))
+by-bytes : (u v a b : ℕ) → u * a + v * b ≡ (u * (a / 256) + v * (b / 256)) * 256 + (u * (a % 256) + v * (b % 256))
 by-bytes u v a b = omega (arith, taken u a, taken v b)
 
 -- so is the bilinear sum of pixels, which is from 0 up

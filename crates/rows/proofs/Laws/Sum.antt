@@ -1,17 +1,17 @@
 -- A loop that sums: after j turns its local holds the bits of  sumZ j g,  which is within j * M of 0.
 -- Assumes nothing.
-use mathlib.Core.Path.{_≡_, refl, sym, ap, ap₂, _∙_}
-use Prim.Native.Nat.{ℕ, zero, suc, _+_, _*_, _^_, _≤_, _<_}
+use mathlib.Core.Path.{_≡_, refl, ap, _∙_}
+use Prim.Native.Nat.{ℕ, _+_, _*_, _^_, _≤_, _<_}
 use native.Mathlib.Nat.{mul-le-mul-right, le-of-suc-le-suc}
 use native.Mathlib.Numerals.{add-one}
 use native.Mathlib.Omega.{arith}
-use lib.IntN.{ℤ, pos, _+ℤ_}
+use lib.IntN.{ℤ, _+ℤ_}
 use lib.Signed.{mag}
 use mir.Syntax.{w32}
-use mir.Val.{SFits, toZ, ofZ}
+use mir.Val.{toZ, ofZ}
 use mir.ValLaws.{toZ-ofZ}
 use Rattle.rows.specs.Numbers.{sumZ}
-use Rattle.rows.proofs.Laws.Signed.{mag-add, fit}
+use Rattle.rows.proofs.Laws.Signed.{mag-add}
 
 pub record Summed (g : ℕ → ℤ) (M j s : ℕ) : Type 0 where
   pub is : s ≡ ofZ w32 (sumZ j g)

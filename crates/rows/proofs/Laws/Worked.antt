@@ -1,7 +1,6 @@
 -- C1 to C10: the definitions give the numbers that document 01 states, by computation. Assumes nothing.
 use mathlib.Core.Path.{_≡_, refl}
-use mathlib.Core.List.{List, map}
-use lib.IntN.{ℤ}
+use mathlib.Core.List.{map}
 use Rattle.rows.specs.Numbers.{low16, low32, sumZ}
 use Rattle.rows.specs.Places.{fill, fillIn, paint, within}
 use Rattle.rows.specs.Combine.{avg, weighted}
@@ -10,7 +9,7 @@ use Rattle.rows.specs.Bilinear.{bilin, R, along, putBilin}
 use Rattle.rows.specs.Mask.{weightOf, maskAt}
 use Rattle.rows.specs.Edge.{endless, edge}
 use Rattle.rows.specs.Shear.{Q}
-use Rattle.rows.specs.Worked.{Case, cases}
+use Rattle.rows.specs.Worked.{cases}
 
 pub worked : map (λ c. c .given) cases ≡ map (λ c. c .stated) cases
 unfolding low16 low32 sumZ fill fillIn paint within avg weighted S tapped mid put8 prep8 bilin R along putBilin weightOf maskAt endless edge Q

@@ -43,8 +43,7 @@ depth c = c .above2 .ensures ∙ ap up (back (entry (from c .before .before) .fi
 w-mask-rows16-requires : tie.Need-w-mask-rows16-requires
 w-mask-rows16-requires c κs =
     let i = from c .before in let t = entry (i .before) in
-    let p = w-mask-ready _ _ _ _ _ _ _ _ _ (t .args .sign) _ _ (sym (number (i .before)) ∙ i .if1 .taken) in
-    (
+    let p = w-mask-ready _ _ _ _ _ _ _ _ _ (t .args .sign) _ _ (sym (number (i .before)) ∙ i .if1 .taken) in (
       p .1,
       p .2,
       p .3,

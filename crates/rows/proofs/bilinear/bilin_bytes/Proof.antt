@@ -1,6 +1,5 @@
 use borrow.Author.Needs.{needs}
 use native.Mathlib.Omega.{arith}
-use mathlib.Core.Path.{ap}
 use Prim.Native.Nat.{_+_, _-_, _*_, _≤_}
 use lib.IntN.{pos}
 use Rattle.rows.proofs.Laws.Bilinear.{weighed, bytes-le}

@@ -2,7 +2,6 @@ use native.Mathlib.Omega.{arith}
 use lib.Signed.{shrZ}
 use mir.Syntax.{w16}
 use mir.Val.{SFits}
-use borrow.Author.Needs.{needs}
 use Rattle.rows.proofs.Laws.Signed.{back, fit-abs}
 use Rattle.rows.proofs.Laws.Near.{high-byte}
 use Rattle.rows.proofs.near.near_high_i16.Statement.{statement}

@@ -1,7 +1,6 @@
 use native.Mathlib.Omega.{arith}
 use mir.Syntax.{w16}
 use mir.Val.{SFits}
-use borrow.Author.Needs.{needs}
 use Rattle.rows.proofs.Laws.Signed.{back}
 use Rattle.rows.proofs.near.near_high_u16.Statement.{statement}
 use Rattle.rows.proofs.near.near_high_u16.Tie as tie

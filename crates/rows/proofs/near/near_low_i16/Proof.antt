@@ -1,11 +1,8 @@
-use mathlib.Core.Path.{_≡_}
-use Prim.Native.Nat.{_≤_}
 use native.Mathlib.Omega.{arith}
-use lib.IntN.{pos, negsuc, natAbs, _*ℤ_, _-ℤ_}
+use lib.IntN.{pos, _*ℤ_}
 use lib.Signed.{shrZ}
 use mir.Syntax.{w16}
 use mir.Val.{SFits}
-use borrow.Author.Needs.{needs}
 use Rattle.rows.specs.Numbers.{modZ}
 use Rattle.rows.proofs.Laws.Signed.{back, fit-abs, fit}
 use Rattle.rows.proofs.Laws.Near.{high-byte, high-up, low-byte, low-is}

@@ -4,7 +4,7 @@ use mathlib.Core.Path.{_≡_}
 use Prim.Native.Nat.{_<_}
 use lib.IntN.{ℤ, pos, natAbs, _-ℤ_}
 use mir.Syntax.{w32}
-use mir.Val.{SFits, toZ, ofZ}
+use mir.Val.{SFits, toZ}
 use Rattle.rows.proofs.Laws.Signed.{back, backn, abs-parts, fit-abs, sub-parts, one-part, turned, above}
 use Rattle.rows.proofs.search.abs_diff.Statement.{statement}
 use Rattle.rows.proofs.search.abs_diff.Tie as tie
