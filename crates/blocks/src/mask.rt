@@ -114,8 +114,8 @@ fn check_w_mask(
     )
 }
 
-// The mask depends on the intermediates alone, so it is written on its own, once for both sets of pixels. Where it doesn't keep each weight,
-// they are made again for the pixels: that costs little.
+// The mask doesn't depend on the pixels' type, so it is written on its own, by one text for both sets. Where it doesn't keep each weight,
+// the weights are made again for the pixels.
 
 // Without ss_hor: it keeps each weight.
 fn keep_each(
@@ -164,7 +164,7 @@ fn keep_pairs(
     }
 }
 
-// With both: fours of two rows.
+// With ss_ver too: it keeps fours of two rows.
 fn keep_fours(
     mask: &mut [u8],
     mask_stride: usize,
@@ -233,7 +233,7 @@ fn weighed_rows8(dst: &mut [u8], dst_stride: usize, tmp1: &[i16], tmp2: &[i16], 
     }
 }
 
-// A mask that keeps each weight is then read as in mask.
+// The mask first: where it keeps each weight, the pixels are then made by it, as in mask.
 fn w_mask_rows8(
     dst: &mut [u8],
     dst_stride: usize,

@@ -1,4 +1,4 @@
-// The row helper: where a row of a plane lies.
+// The row helper: where a row of a plane lies, and the row itself.
 ghost use mathlib.Core.Path.{_≡_};
 ghost use lib.IntN.{pos};
 ghost use lib.ListN.{length};

@@ -13,7 +13,7 @@ use crate::numbers::clip16;
 use crate::subpel::kept;
 use crate::subpel::rounded;
 
-// 16a + f(b - a): within 2^22, for any pixels and intermediates. A fraction that is seen to be a byte makes the product of bytes a short one.
+// 16a + f(b - a), within 2^22. A fraction that is seen to be a byte makes the product of bytes a short one.
 fn bilin_sum(a: i32, b: i32, f: u32) -> i32
     requires { ⌜ (natAbs a ≤ 65535) × (natAbs b ≤ 65535) × (f ≤ 15) ⌝ }
     ensures { λ r. ⌜ (r ≡ bilin a b f) × (mag r < 2 ^ 22) ⌝ }
@@ -55,7 +55,7 @@ fn bilin_bytes(a: u16, b: u16, f: u32) -> u16
     (16 - f) * a + f * b
 }
 
-// The sum of two 16-bit pixels is 256 times that of their high bytes, and that of their low ones.
+// The sum of two 16-bit pixels is 256 times that of their high bytes, plus that of their low ones.
 fn high_between(src: &[u16], p: usize, step: usize, f: u32) -> u16
     requires { ⌜ (p + step < length (now src)) × (f ≤ 15) ⌝ }
     ensures { λ r. ⌜ (pos r ≡ bilinAt (λ k. shrZ (px (now (src .entry)) k) 256) p step f) × (r ≤ 4080) ⌝ }
@@ -86,7 +86,7 @@ fn bilin_rnd(s: i32, n: u32) -> i32
     rounded(s, half_of(n), n)
 }
 
-// clip((R(n) + r) >> k): with r = 2^(B-1) and k = B put's horizontal case, with r = 0 and k = 0 its others
+// clip((R(n) + r) >> k): with r = 2^(B-1) and k = B put's horizontal case of bytes, with r = 0 and k = 0 their vertical one and put's second pass
 fn bilin_px8(s: i32, n: u32, r: u32, k: u32) -> u8
     requires { ⌜ (mag s < 2 ^ 22) × (n ≤ 8) × (r ≤ 8) × (k ≤ 4) ⌝ }
     ensures { λ v. ⌜ v ≡ clip 255 (shrZ (R n s +ℤ pos r) (2 ^ k)) ⌝ }

@@ -1,5 +1,5 @@
-// 8-tap sums in sixteen bits, for near taps: their sizes sum to 128 at most, as those of the real tables do. Bytes in one sum; wider numbers in the sums of
-// their high and of their low bytes.
+// 8-tap sums in sixteen bits, for near taps: their sizes sum to 128 at most, as those of the Rust's subpel table do. Bytes in one sum, wider
+// numbers in the sums of their high and of their low bytes; bilinear rows join such sums too.
 ghost use mathlib.Core.Path.{_≡_};
 ghost use mathlib.Core.Bool.{true};
 ghost use lib.Dec.{leb};

@@ -22,7 +22,7 @@ fn pack16(v: i32) -> i16
     kept as i16
 }
 
-// The number clamped to 0..max, by comparisons in sixteen bits.
+// The number clamped to 0..max: packed first, so that vectors compare it in sixteen bits.
 pub fn clip16(v: i32, max: u16) -> u16
     requires { ⌜ max < 2 ^ 15 ⌝ }
     ensures { λ r. ⌜ r ≡ clip max v ⌝ }

@@ -35,7 +35,7 @@ fn filter_for<'a>(table: &'a [i8], m: i32, a: i16, b: i16, r: u32, c: u32) -> &'
     &table[q..q + 8]
 }
 
-// Half of 2^n, for the shifts of both passes.
+// Half of 2^n, for the rounding of a shift by n.
 pub fn half_power(n: u32) -> u32
     requires { ⌜ (1 ≤ n) × (n ≤ 11) ⌝ }
     ensures { λ r. ⌜ (r ≡ half n) × (r ≤ 1024) ⌝ }
