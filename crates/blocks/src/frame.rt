@@ -47,6 +47,7 @@ pub fn plane_h(f: Frame, plane_no: u32) -> usize
     plane_side(plane_no, f.ss_ver, f.luma_h)
 }
 
+// Luma's sides are in their range, and the named plane has no side of 0.
 pub fn frame_sizes_ok(f: Frame, plane_no: u32) -> bool
     ensures { λ r. ⌜ r ≡ frameSizesOk f «plane_no» ⌝ }
 {
@@ -54,6 +55,7 @@ pub fn frame_sizes_ok(f: Frame, plane_no: u32) -> bool
         & ((1 <= plane_w(f, plane_no)) & (1 <= plane_h(f, plane_no)))
 }
 
+// ss_ver comes with ss_hor, and the plane is luma (0) or chroma (1).
 pub fn frame_names_ok(f: Frame, plane_no: u32) -> bool
     ensures { λ r. ⌜ r ≡ frameNamesOk f «plane_no» ⌝ }
 {

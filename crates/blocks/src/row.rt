@@ -28,6 +28,7 @@ fn row_ok(row: i64, h: usize) -> bool
     if row < 0 { false } else { above64(row) < h }
 }
 
+// The tests of a row's call.
 fn check_row(f: Frame, plane_no: u32, pl: usize, plane_stride: usize, row: i64) -> u32
     ensures { λ r. ⌜ r ≡ lowest (rowTests f «plane_no» pl «plane_stride» row) ⌝ }
 {
