@@ -86,7 +86,8 @@ fn mid_bilin_prep_rows(
     bias: i16,
 )
     requires { ⌜ Pairs (length (now tmp)) ts (length (now mid)) 64 64 w h f n ⌝ }
-    ensures { λ _. ⌜ now (tmp .exit) ≡ fill (now (tmp .entry)) ts w h (λ i j. minus16 (low16 (R n (bilinAt (at (now (mid .entry))) (j * 64 + i) 64 f))) bias) ⌝ }
+    ensures { λ _. ⌜ now (tmp .exit)
+        ≡ fill (now (tmp .entry)) ts w h (λ i j. minus16 (low16 (R n (bilinAt (at (now (mid .entry))) (j * 64 + i) 64 f))) bias) ⌝ }
 {
     let mut y = 0;
     while y < h {
@@ -111,7 +112,8 @@ fn put_bilin_axis8(
     k: u32,
 )
     requires { ⌜ Pairs (length (now dst)) ds (length (now src)) ss step w h f n × (r ≤ 8) × (k ≤ 4) ⌝ }
-    ensures { λ _. ⌜ now (dst .exit) ≡ fill (now (dst .entry)) ds w h (λ i j. clip 255 (shrZ (R n (bilinAt (px (now (src .entry))) (j * ss + i) step f) +ℤ pos r) (2 ^ k))) ⌝ }
+    ensures { λ _. ⌜ now (dst .exit)
+        ≡ fill (now (dst .entry)) ds w h (λ i j. clip 255 (shrZ (R n (bilinAt (px (now (src .entry))) (j * ss + i) step f) +ℤ pos r) (2 ^ k))) ⌝ }
 {
     let mut y = 0;
     while y < h {
@@ -135,7 +137,8 @@ fn prep_bilin_axis8(
     bias: i16,
 )
     requires { ⌜ Pairs (length (now tmp)) ts (length (now src)) ss step w h f n ⌝ }
-    ensures { λ _. ⌜ now (tmp .exit) ≡ fill (now (tmp .entry)) ts w h (λ i j. minus16 (low16 (R n (bilinAt (px (now (src .entry))) (j * ss + i) step f))) bias) ⌝ }
+    ensures { λ _. ⌜ now (tmp .exit)
+        ≡ fill (now (tmp .entry)) ts w h (λ i j. minus16 (low16 (R n (bilinAt (px (now (src .entry))) (j * ss + i) step f))) bias) ⌝ }
 {
     let mut y = 0;
     while y < h {
@@ -327,7 +330,8 @@ fn put_bilin_axis16(
     max: u16,
 )
     requires { ⌜ Pairs (length (now dst)) ds (length (now src)) ss step w h f n × (n + k ≡ 4) × (half n + r * 2 ^ n ≤ 15) ⌝ }
-    ensures { λ _. ⌜ now (dst .exit) ≡ fill (now (dst .entry)) ds w h (λ i j. clip max (shrZ (R n (bilinAt (px (now (src .entry))) (j * ss + i) step f) +ℤ pos r) (2 ^ k))) ⌝ }
+    ensures { λ _. ⌜ now (dst .exit)
+        ≡ fill (now (dst .entry)) ds w h (λ i j. clip max (shrZ (R n (bilinAt (px (now (src .entry))) (j * ss + i) step f) +ℤ pos r) (2 ^ k))) ⌝ }
 {
     let mut y = 0;
     while y < h {
@@ -350,7 +354,8 @@ fn prep_bilin_axis16(
     bias: i16,
 )
     requires { ⌜ Pairs (length (now tmp)) ts (length (now src)) ss step w h f n × (n ≤ 4) ⌝ }
-    ensures { λ _. ⌜ now (tmp .exit) ≡ fill (now (tmp .entry)) ts w h (λ i j. minus16 (low16 (R n (bilinAt (px (now (src .entry))) (j * ss + i) step f))) bias) ⌝ }
+    ensures { λ _. ⌜ now (tmp .exit)
+        ≡ fill (now (tmp .entry)) ts w h (λ i j. minus16 (low16 (R n (bilinAt (px (now (src .entry))) (j * ss + i) step f))) bias) ⌝ }
 {
     let mut y = 0;
     while y < h {
@@ -524,7 +529,8 @@ pub extern "C" fn hv_prep_bilin_16bpc(
     mx: i32,
     my: i32,
 ) -> u32
-    ensures { λ r. ⌜ PrepBilinAnswer (depthOk depth) (up depth) (now (tmp .entry)) «tmp_stride» (now (src .entry)) «src_stride» w h mx my r (now (tmp .exit)) ⌝ }
+    ensures { λ r. ⌜ PrepBilinAnswer (depthOk depth) (up depth) (now (tmp .entry)) «tmp_stride» (now (src .entry)) «src_stride» w h mx my r
+        (now (tmp .exit)) ⌝ }
 {
     let number = check_bilin(
         depth_ok(depth),

@@ -94,8 +94,11 @@ fn first_above(mask: &[u8], w: usize, h: usize) -> Spot
 }
 
 fn blend_rows8(dst: &mut [u8], dst_stride: usize, tmp: &[u8], w: usize, h: usize, mask: &[u8])
-    requires { ⌜ Block w h × Rows (length (now dst)) «dst_stride» w h × Rows (length (now tmp)) w w h × Rows (length (now mask)) w w h × AtMost 64 (now mask) 0 (w * h) ⌝ }
-    ensures { λ _. ⌜ now (dst .exit) ≡ fill (now (dst .entry)) «dst_stride» w h (λ i j. blend (pixel (now (mask .entry)) w i j) (pixel (now (dst .entry)) «dst_stride» i j) (pixel (now (tmp .entry)) w i j)) ⌝ }
+    requires { ⌜ Block w h × Rows (length (now dst)) «dst_stride» w h × Rows (length (now tmp)) w w h × Rows (length (now mask)) w w h
+        × AtMost 64 (now mask) 0 (w * h) ⌝ }
+    ensures { λ _. ⌜ now (dst .exit)
+        ≡ fill (now (dst .entry)) «dst_stride» w h
+        (λ i j. blend (pixel (now (mask .entry)) w i j) (pixel (now (dst .entry)) «dst_stride» i j) (pixel (now (tmp .entry)) w i j)) ⌝ }
 {
     let mut y = 0;
     while y < h {
@@ -116,7 +119,8 @@ pub extern "C" fn hv_blend_8bpc(
     row: &mut usize,
     col: &mut usize,
 ) -> u32
-    ensures { λ r. ⌜ BlendAnswer (now (dst .entry)) «dst_stride» (now (tmp .entry)) w h (now (mask .entry)) r (now (dst .exit)) (now (row .exit)) (now (col .exit)) ⌝ }
+    ensures { λ r. ⌜ BlendAnswer (now (dst .entry)) «dst_stride» (now (tmp .entry)) w h (now (mask .entry)) r (now (dst .exit)) (now (row .exit))
+        (now (col .exit)) ⌝ }
 {
     *row = 0;
     *col = 0;
@@ -135,8 +139,11 @@ pub extern "C" fn hv_blend_8bpc(
 }
 
 fn blend_rows16(dst: &mut [u16], dst_stride: usize, tmp: &[u16], w: usize, h: usize, mask: &[u8])
-    requires { ⌜ Block w h × Rows (length (now dst)) «dst_stride» w h × Rows (length (now tmp)) w w h × Rows (length (now mask)) w w h × AtMost 64 (now mask) 0 (w * h) ⌝ }
-    ensures { λ _. ⌜ now (dst .exit) ≡ fill (now (dst .entry)) «dst_stride» w h (λ i j. blend (pixel (now (mask .entry)) w i j) (pixel (now (dst .entry)) «dst_stride» i j) (pixel (now (tmp .entry)) w i j)) ⌝ }
+    requires { ⌜ Block w h × Rows (length (now dst)) «dst_stride» w h × Rows (length (now tmp)) w w h × Rows (length (now mask)) w w h
+        × AtMost 64 (now mask) 0 (w * h) ⌝ }
+    ensures { λ _. ⌜ now (dst .exit)
+        ≡ fill (now (dst .entry)) «dst_stride» w h
+        (λ i j. blend (pixel (now (mask .entry)) w i j) (pixel (now (dst .entry)) «dst_stride» i j) (pixel (now (tmp .entry)) w i j)) ⌝ }
 {
     let mut y = 0;
     while y < h {
@@ -157,7 +164,8 @@ pub extern "C" fn hv_blend_16bpc(
     row: &mut usize,
     col: &mut usize,
 ) -> u32
-    ensures { λ r. ⌜ BlendAnswer (now (dst .entry)) «dst_stride» (now (tmp .entry)) w h (now (mask .entry)) r (now (dst .exit)) (now (row .exit)) (now (col .exit)) ⌝ }
+    ensures { λ r. ⌜ BlendAnswer (now (dst .entry)) «dst_stride» (now (tmp .entry)) w h (now (mask .entry)) r (now (dst .exit)) (now (row .exit))
+        (now (col .exit)) ⌝ }
 {
     *row = 0;
     *col = 0;

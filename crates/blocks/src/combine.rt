@@ -49,7 +49,8 @@ fn weight_ok(weight: i32) -> bool
 
 fn avg_rows8(dst: &mut [u8], dst_stride: usize, tmp1: &[i16], tmp2: &[i16], w: usize, h: usize)
     requires { ⌜ Block w h × Rows (length (now dst)) «dst_stride» w h × Rows (length (now tmp1)) w w h × Rows (length (now tmp2)) w w h ⌝ }
-    ensures { λ _. ⌜ now (dst .exit) ≡ fill (now (dst .entry)) «dst_stride» w h (λ i j. both (avg 255 4 0) (now (tmp1 .entry)) (now (tmp2 .entry)) (j * w) i) ⌝ }
+    ensures { λ _. ⌜ now (dst .exit)
+        ≡ fill (now (dst .entry)) «dst_stride» w h (λ i j. both (avg 255 4 0) (now (tmp1 .entry)) (now (tmp2 .entry)) (j * w) i) ⌝ }
 {
     let mut y = 0;
     while y < h {
@@ -70,8 +71,10 @@ fn avg_rows16(
     bias: u32,
     max: u16,
 )
-    requires { ⌜ Block w h × Rows (length (now dst)) «dst_stride» w h × Rows (length (now tmp1)) w w h × Rows (length (now tmp2)) w w h × Bits bits bias × (max < 2 ^ 15) ⌝ }
-    ensures { λ _. ⌜ now (dst .exit) ≡ fill (now (dst .entry)) «dst_stride» w h (λ i j. both (avg max bits bias) (now (tmp1 .entry)) (now (tmp2 .entry)) (j * w) i) ⌝ }
+    requires { ⌜ Block w h × Rows (length (now dst)) «dst_stride» w h × Rows (length (now tmp1)) w w h × Rows (length (now tmp2)) w w h × Bits bits bias
+        × (max < 2 ^ 15) ⌝ }
+    ensures { λ _. ⌜ now (dst .exit)
+        ≡ fill (now (dst .entry)) «dst_stride» w h (λ i j. both (avg max bits bias) (now (tmp1 .entry)) (now (tmp2 .entry)) (j * w) i) ⌝ }
 {
     let mut y = 0;
     while y < h {
@@ -157,7 +160,8 @@ fn w_avg_rows8(
     weight: i32,
 )
     requires { ⌜ Block w h × Rows (length (now dst)) «dst_stride» w h × Rows (length (now tmp1)) w w h × Rows (length (now tmp2)) w w h × (mag weight < 33) ⌝ }
-    ensures { λ _. ⌜ now (dst .exit) ≡ fill (now (dst .entry)) «dst_stride» w h (λ i j. both (weighted 255 4 0 weight) (now (tmp1 .entry)) (now (tmp2 .entry)) (j * w) i) ⌝ }
+    ensures { λ _. ⌜ now (dst .exit)
+        ≡ fill (now (dst .entry)) «dst_stride» w h (λ i j. both (weighted 255 4 0 weight) (now (tmp1 .entry)) (now (tmp2 .entry)) (j * w) i) ⌝ }
 {
     if weight < 0 {
         let m = [mask_of(16 - weight); 64];
@@ -180,8 +184,10 @@ fn w_avg_rows16(
     bias: u32,
     max: u16,
 )
-    requires { ⌜ Block w h × Rows (length (now dst)) «dst_stride» w h × Rows (length (now tmp1)) w w h × Rows (length (now tmp2)) w w h × (mag weight < 33) × Bits bits bias × (max < 2 ^ 15) ⌝ }
-    ensures { λ _. ⌜ now (dst .exit) ≡ fill (now (dst .entry)) «dst_stride» w h (λ i j. both (weighted max bits bias weight) (now (tmp1 .entry)) (now (tmp2 .entry)) (j * w) i) ⌝ }
+    requires { ⌜ Block w h × Rows (length (now dst)) «dst_stride» w h × Rows (length (now tmp1)) w w h × Rows (length (now tmp2)) w w h × (mag weight < 33)
+        × Bits bits bias × (max < 2 ^ 15) ⌝ }
+    ensures { λ _. ⌜ now (dst .exit)
+        ≡ fill (now (dst .entry)) «dst_stride» w h (λ i j. both (weighted max bits bias weight) (now (tmp1 .entry)) (now (tmp2 .entry)) (j * w) i) ⌝ }
 {
     if weight < 0 {
         let m = [mask_of(16 - weight); 64];
@@ -231,7 +237,8 @@ pub extern "C" fn hv_w_avg_16bpc(
     h: usize,
     weight: i32,
 ) -> u32
-    ensures { λ r. ⌜ WAvgAnswer (depthOk depth) (up depth) (now (dst .entry)) «dst_stride» (now (tmp1 .entry)) (now (tmp2 .entry)) w h weight r (now (dst .exit)) ⌝ }
+    ensures { λ r. ⌜ WAvgAnswer (depthOk depth) (up depth) (now (dst .entry)) «dst_stride» (now (tmp1 .entry)) (now (tmp2 .entry)) w h weight r
+        (now (dst .exit)) ⌝ }
 {
     let number = check_combine(
         dst.len(),
@@ -272,8 +279,11 @@ pub fn mask_rows8(
     mask: &[u8],
     mask_stride: usize,
 )
-    requires { ⌜ Block w h × Rows (length (now dst)) «dst_stride» w h × Rows (length (now tmp1)) w w h × Rows (length (now tmp2)) w w h × ((h - 1) * «mask_stride» + w ≤ length (now mask)) ⌝ }
-    ensures { λ _. ⌜ now (dst .exit) ≡ fill (now (dst .entry)) «dst_stride» w h (λ i j. both (masked 255 4 0 (pixel (now (mask .entry)) «mask_stride» i j)) (now (tmp1 .entry)) (now (tmp2 .entry)) (j * w) i) ⌝ }
+    requires { ⌜ Block w h × Rows (length (now dst)) «dst_stride» w h × Rows (length (now tmp1)) w w h × Rows (length (now tmp2)) w w h
+        × ((h - 1) * «mask_stride» + w ≤ length (now mask)) ⌝ }
+    ensures { λ _. ⌜ now (dst .exit)
+        ≡ fill (now (dst .entry)) «dst_stride» w h
+        (λ i j. both (masked 255 4 0 (pixel (now (mask .entry)) «mask_stride» i j)) (now (tmp1 .entry)) (now (tmp2 .entry)) (j * w) i) ⌝ }
 {
     let mut y = 0;
     while y < h {
@@ -296,8 +306,11 @@ pub fn mask_rows16(
     bias: u32,
     max: u16,
 )
-    requires { ⌜ Block w h × Rows (length (now dst)) «dst_stride» w h × Rows (length (now tmp1)) w w h × Rows (length (now tmp2)) w w h × ((h - 1) * «mask_stride» + w ≤ length (now mask)) × Bits bits bias × (max < 2 ^ 15) ⌝ }
-    ensures { λ _. ⌜ now (dst .exit) ≡ fill (now (dst .entry)) «dst_stride» w h (λ i j. both (masked max bits bias (pixel (now (mask .entry)) «mask_stride» i j)) (now (tmp1 .entry)) (now (tmp2 .entry)) (j * w) i) ⌝ }
+    requires { ⌜ Block w h × Rows (length (now dst)) «dst_stride» w h × Rows (length (now tmp1)) w w h × Rows (length (now tmp2)) w w h
+        × ((h - 1) * «mask_stride» + w ≤ length (now mask)) × Bits bits bias × (max < 2 ^ 15) ⌝ }
+    ensures { λ _. ⌜ now (dst .exit)
+        ≡ fill (now (dst .entry)) «dst_stride» w h
+        (λ i j. both (masked max bits bias (pixel (now (mask .entry)) «mask_stride» i j)) (now (tmp1 .entry)) (now (tmp2 .entry)) (j * w) i) ⌝ }
 {
     let mut y = 0;
     while y < h {
@@ -356,7 +369,8 @@ pub extern "C" fn hv_mask_16bpc(
     h: usize,
     mask: &[u8],
 ) -> u32
-    ensures { λ r. ⌜ MaskAnswer (depthOk depth) (up depth) (now (dst .entry)) «dst_stride» (now (tmp1 .entry)) (now (tmp2 .entry)) w h (now (mask .entry)) r (now (dst .exit)) ⌝ }
+    ensures { λ r. ⌜ MaskAnswer (depthOk depth) (up depth) (now (dst .entry)) «dst_stride» (now (tmp1 .entry)) (now (tmp2 .entry)) w h (now (mask .entry)) r
+        (now (dst .exit)) ⌝ }
 {
     let number = check_combine(
         dst.len(),

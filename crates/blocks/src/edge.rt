@@ -18,14 +18,14 @@ use rows::edge::edge_row16;
 use rows::edge::left_of;
 
 // A position within ±2^30.
-pub fn place_ok(x: i64) -> bool
+fn place_ok(x: i64) -> bool
     ensures { λ r. ⌜ r ≡ placeOk x ⌝ }
 {
     (-1073741824 <= x) & (x <= 1073741824)
 }
 
 // Both sides of a block or of a plane, and both positions, as links of a chain of tests.
-pub fn sides(most: usize, w: usize, h: usize, rest: u32) -> u32
+fn sides(most: usize, w: usize, h: usize, rest: u32) -> u32
     ensures { λ r. ⌜ r ≡ need (sizeOk most w) 1 (need (sizeOk most h) 1 rest) ⌝ }
 {
     needed(size_ok(most, w), 1, needed(size_ok(most, h), 1, rest))

@@ -73,7 +73,8 @@ fn motion(filter_type: i32, mx: i32, my: i32, rest: u32) -> u32
 }
 
 fn tables(filter_type: i32, mx: i32, my: i32, tl: usize, el: usize, rest: u32) -> u32
-    ensures { λ r. ⌜ r ≡ need (subpelOk tl) 4 (need (wholeFilters el) 4 (need (filterIn «filter_type» mx el) 4 (need (filterIn «filter_type» my el) 4 rest))) ⌝ }
+    ensures { λ r. ⌜ r
+        ≡ need (subpelOk tl) 4 (need (wholeFilters el) 4 (need (filterIn «filter_type» mx el) 4 (need (filterIn «filter_type» my el) 4 rest))) ⌝ }
 {
     let there = needed(
         filter_in(filter_type, mx, el),
@@ -200,7 +201,8 @@ pub fn plan_8tap(
     subpel: &[i8],
     ext: &[i8],
 ) -> Plan
-    requires { ⌜ (b ≤ 4) × (3 * on my * s + 3 * on mx ≤ o) × Held (length (now subpel)) (length (now ext)) (filterOf «filter_type» (up mx) w) × Held (length (now subpel)) (length (now ext)) (filterOf «filter_type» (up my) h) ⌝ }
+    requires { ⌜ (b ≤ 4) × (3 * on my * s + 3 * on mx ≤ o) × Held (length (now subpel)) (length (now ext)) (filterOf «filter_type» (up mx) w)
+        × Held (length (now subpel)) (length (now ext)) (filterOf «filter_type» (up my) h) ⌝ }
     ensures { λ r. ⌜ r ≡ planOf o s w h (now (subpel .entry)) (now (ext .entry)) «filter_type» (filterBits «filter_type») b (up mx) (up my) ⌝ }
 {
     let n = filter_bits(filter_type);

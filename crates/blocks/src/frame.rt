@@ -63,13 +63,13 @@ pub fn frame_names_ok(f: Frame, plane_no: u32) -> bool
 }
 
 // The margins of a kind's window.
-pub fn before(kind: u32) -> usize
+fn before(kind: u32) -> usize
     ensures { λ r. ⌜ r ≡ before kind ⌝ }
 {
     if (kind == 1) | (kind == 3) { 3 } else { 0 }
 }
 
-pub fn after(kind: u32) -> usize
+fn after(kind: u32) -> usize
     ensures { λ r. ⌜ r ≡ after kind ⌝ }
 {
     if (kind == 1) | (kind == 3) {
@@ -89,7 +89,7 @@ pub fn window_side(kind: u32, side: usize) -> usize
     before(kind) + side + after(kind)
 }
 
-pub fn window_start(kind: u32, x: i64) -> i64
+fn window_start(kind: u32, x: i64) -> i64
     requires { ⌜ natAbs x ≤ 2 ^ 30 ⌝ }
     ensures { λ r. ⌜ r ≡ windowStart kind x ⌝ }
 {
@@ -99,7 +99,15 @@ pub fn window_start(kind: u32, x: i64) -> i64
 // The window of a block.
 pub fn area_of(f: Frame, plane_no: u32, kind: u32, w: usize, h: usize, x: i64, y: i64) -> Area
     requires { ⌜ (w ≤ 64) × (h ≤ 64) × (natAbs x ≤ 2 ^ 30) × (natAbs y ≤ 2 ^ 30) ⌝ }
-    ensures { λ r. ⌜ r ≡ record { ww = windowSide kind w; wh = windowSide kind h; iw = planeW f «plane_no»; ih = planeH f «plane_no»; left = windowStart kind x; top = windowStart kind y } ⌝ }
+    ensures { λ r. ⌜ r
+        ≡ record {
+          ww = windowSide kind w;
+          wh = windowSide kind h;
+          iw = planeW f «plane_no»;
+          ih = planeH f «plane_no»;
+          left = windowStart kind x;
+          top = windowStart kind y;
+        } ⌝ }
 {
     let ww = window_side(kind, w);
     let wh = window_side(kind, h);

@@ -129,7 +129,8 @@ fn keep_each(
     bits: u32,
 )
     requires { ⌜ Weighing (length (now tmp1)) (length (now tmp2)) w h (length (now mask)) «mask_stride» w h × Depths depth bits ⌝ }
-    ensures { λ _. ⌜ now (mask .exit) ≡ fill (now (mask .entry)) «mask_stride» w h (λ i j. both (weightOf depth bits) (now (tmp1 .entry)) (now (tmp2 .entry)) (j * w) i) ⌝ }
+    ensures { λ _. ⌜ now (mask .exit)
+        ≡ fill (now (mask .entry)) «mask_stride» w h (λ i j. both (weightOf depth bits) (now (tmp1 .entry)) (now (tmp2 .entry)) (j * w) i) ⌝ }
 {
     let mut y = 0;
     while y < h {
@@ -152,7 +153,9 @@ fn keep_pairs(
     bits: u32,
 )
     requires { ⌜ Weighing (length (now tmp1)) (length (now tmp2)) w h (length (now mask)) «mask_stride» (w / 2) h × (sign ≤ 1) × Depths depth bits ⌝ }
-    ensures { λ _. ⌜ now (mask .exit) ≡ fill (now (mask .entry)) «mask_stride» (w / 2) h (maskAt sign true false (λ i j. both (weightOf depth bits) (now (tmp1 .entry)) (now (tmp2 .entry)) (j * w) i)) ⌝ }
+    ensures { λ _. ⌜ now (mask .exit)
+        ≡ fill (now (mask .entry)) «mask_stride» (w / 2) h (maskAt sign true false
+        (λ i j. both (weightOf depth bits) (now (tmp1 .entry)) (now (tmp2 .entry)) (j * w) i)) ⌝ }
 {
     let mut m = [0u8; 64];
     let mut y = 0;
@@ -177,7 +180,9 @@ fn keep_fours(
     bits: u32,
 )
     requires { ⌜ Weighing (length (now tmp1)) (length (now tmp2)) w h (length (now mask)) «mask_stride» (w / 2) (h / 2) × (sign ≤ 1) × Depths depth bits ⌝ }
-    ensures { λ _. ⌜ now (mask .exit) ≡ fill (now (mask .entry)) «mask_stride» (w / 2) (h / 2) (maskAt sign true true (λ i j. both (weightOf depth bits) (now (tmp1 .entry)) (now (tmp2 .entry)) (j * w) i)) ⌝ }
+    ensures { λ _. ⌜ now (mask .exit)
+        ≡ fill (now (mask .entry)) «mask_stride» (w / 2) (h / 2) (maskAt sign true true
+        (λ i j. both (weightOf depth bits) (now (tmp1 .entry)) (now (tmp2 .entry)) (j * w) i)) ⌝ }
 {
     let mut m = [0u8; 64];
     let mut n = [0u8; 64];
@@ -206,8 +211,11 @@ fn keep_mask(
     depth: u32,
     bits: u32,
 )
-    requires { ⌜ Weighing (length (now tmp1)) (length (now tmp2)) w h (length (now mask)) «mask_stride» (maskSide «ss_hor» w) (maskSide «ss_ver» h) × (flagsOk «ss_hor» «ss_ver» ≡ true) × (sign ≤ 1) × Depths depth bits ⌝ }
-    ensures { λ _. ⌜ now (mask .exit) ≡ fill (now (mask .entry)) «mask_stride» (maskSide «ss_hor» w) (maskSide «ss_ver» h) (maskAt sign «ss_hor» «ss_ver» (λ i j. both (weightOf depth bits) (now (tmp1 .entry)) (now (tmp2 .entry)) (j * w) i)) ⌝ }
+    requires { ⌜ Weighing (length (now tmp1)) (length (now tmp2)) w h (length (now mask)) «mask_stride» (maskSide «ss_hor» w) (maskSide «ss_ver» h)
+        × (flagsOk «ss_hor» «ss_ver» ≡ true) × (sign ≤ 1) × Depths depth bits ⌝ }
+    ensures { λ _. ⌜ now (mask .exit)
+        ≡ fill (now (mask .entry)) «mask_stride» (maskSide «ss_hor» w) (maskSide «ss_ver» h) (maskAt sign «ss_hor» «ss_ver»
+        (λ i j. both (weightOf depth bits) (now (tmp1 .entry)) (now (tmp2 .entry)) (j * w) i)) ⌝ }
 {
     if ss_ver {
         keep_fours(mask, mask_stride, tmp1, tmp2, w, h, sign, depth, bits);
@@ -221,7 +229,9 @@ fn keep_mask(
 // The pixels where the mask doesn't keep each weight.
 fn weighed_rows8(dst: &mut [u8], dst_stride: usize, tmp1: &[i16], tmp2: &[i16], w: usize, h: usize)
     requires { ⌜ Block w h × Rows (length (now dst)) «dst_stride» w h × Rows (length (now tmp1)) w w h × Rows (length (now tmp2)) w w h ⌝ }
-    ensures { λ _. ⌜ now (dst .exit) ≡ fill (now (dst .entry)) «dst_stride» w h (λ i j. both (masked 255 4 0 (weights 8 w (now (tmp1 .entry)) (now (tmp2 .entry)) i j)) (now (tmp1 .entry)) (now (tmp2 .entry)) (j * w) i) ⌝ }
+    ensures { λ _. ⌜ now (dst .exit)
+        ≡ fill (now (dst .entry)) «dst_stride» w h
+        (λ i j. both (masked 255 4 0 (weights 8 w (now (tmp1 .entry)) (now (tmp2 .entry)) i j)) (now (tmp1 .entry)) (now (tmp2 .entry)) (j * w) i) ⌝ }
 {
     let mut m = [0u8; 64];
     let mut y = 0;
@@ -247,8 +257,15 @@ fn w_mask_rows8(
     ss_hor: bool,
     ss_ver: bool,
 )
-    requires { ⌜ Rows (length (now dst)) «dst_stride» w h × Weighing (length (now tmp1)) (length (now tmp2)) w h (length (now mask)) «mask_stride» (maskSide «ss_hor» w) (maskSide «ss_ver» h) × (flagsOk «ss_hor» «ss_ver» ≡ true) × (sign ≤ 1) ⌝ }
-    ensures { λ _. ⌜ (now (dst .exit) ≡ fill (now (dst .entry)) «dst_stride» w h (λ i j. both (masked 255 4 0 (weights 8 w (now (tmp1 .entry)) (now (tmp2 .entry)) i j)) (now (tmp1 .entry)) (now (tmp2 .entry)) (j * w) i)) × (now (mask .exit) ≡ fill (now (mask .entry)) «mask_stride» (maskSide «ss_hor» w) (maskSide «ss_ver» h) (maskAt sign «ss_hor» «ss_ver» (weights 8 w (now (tmp1 .entry)) (now (tmp2 .entry))))) ⌝ }
+    requires { ⌜ Rows (length (now dst)) «dst_stride» w h
+        × Weighing (length (now tmp1)) (length (now tmp2)) w h (length (now mask)) «mask_stride» (maskSide «ss_hor» w) (maskSide «ss_ver» h)
+        × (flagsOk «ss_hor» «ss_ver» ≡ true) × (sign ≤ 1) ⌝ }
+    ensures { λ _. ⌜ (now (dst .exit)
+        ≡ fill (now (dst .entry)) «dst_stride» w h
+        (λ i j. both (masked 255 4 0 (weights 8 w (now (tmp1 .entry)) (now (tmp2 .entry)) i j)) (now (tmp1 .entry)) (now (tmp2 .entry)) (j * w) i))
+        × (now (mask .exit)
+        ≡ fill (now (mask .entry)) «mask_stride» (maskSide «ss_hor» w) (maskSide «ss_ver» h)
+        (maskAt sign «ss_hor» «ss_ver» (weights 8 w (now (tmp1 .entry)) (now (tmp2 .entry))))) ⌝ }
 {
     keep_mask(
         mask,
@@ -284,7 +301,8 @@ pub extern "C" fn hv_w_mask_8bpc(
     ss_hor: bool,
     ss_ver: bool,
 ) -> u32
-    ensures { λ r. ⌜ WMaskAnswer true 8 (now (dst .entry)) «dst_stride» (now (tmp1 .entry)) (now (tmp2 .entry)) w h (now (mask .entry)) «mask_stride» sign «ss_hor» «ss_ver» r (now (dst .exit)) (now (mask .exit)) ⌝ }
+    ensures { λ r. ⌜ WMaskAnswer true 8 (now (dst .entry)) «dst_stride» (now (tmp1 .entry)) (now (tmp2 .entry)) w h (now (mask .entry)) «mask_stride» sign
+        «ss_hor» «ss_ver» r (now (dst .exit)) (now (mask .exit)) ⌝ }
 {
     let number = check_w_mask(
         true,
@@ -329,8 +347,12 @@ fn weighed_rows16(
     h: usize,
     depth: u32,
 )
-    requires { ⌜ Block w h × Rows (length (now dst)) «dst_stride» w h × Rows (length (now tmp1)) w w h × Rows (length (now tmp2)) w w h × Depths depth (n .bits) × Bits (n .bits) (n .bias) × (n .max < 2 ^ 15) ⌝ }
-    ensures { λ _. ⌜ now (dst .exit) ≡ fill (now (dst .entry)) «dst_stride» w h (λ i j. both (masked (n .max) (n .bits) (n .bias) (both (weightOf depth (n .bits)) (now (tmp1 .entry)) (now (tmp2 .entry)) (j * w) i)) (now (tmp1 .entry)) (now (tmp2 .entry)) (j * w) i) ⌝ }
+    requires { ⌜ Block w h × Rows (length (now dst)) «dst_stride» w h × Rows (length (now tmp1)) w w h × Rows (length (now tmp2)) w w h × Depths depth (n .bits)
+        × Bits (n .bits) (n .bias) × (n .max < 2 ^ 15) ⌝ }
+    ensures { λ _. ⌜ now (dst .exit)
+        ≡ fill (now (dst .entry)) «dst_stride» w h
+        (λ i j. both (masked (n .max) (n .bits) (n .bias) (both (weightOf depth (n .bits)) (now (tmp1 .entry)) (now (tmp2 .entry)) (j * w) i))
+        (now (tmp1 .entry)) (now (tmp2 .entry)) (j * w) i) ⌝ }
 {
     let mut m = [0u8; 64];
     let mut y = 0;
@@ -368,8 +390,16 @@ fn w_mask_rows16(
     ss_ver: bool,
     depth: u32,
 )
-    requires { ⌜ Rows (length (now dst)) «dst_stride» w h × Weighing (length (now tmp1)) (length (now tmp2)) w h (length (now mask)) «mask_stride» (maskSide «ss_hor» w) (maskSide «ss_ver» h) × (flagsOk «ss_hor» «ss_ver» ≡ true) × (sign ≤ 1) × Depths depth (n .bits) × Bits (n .bits) (n .bias) × (n .max < 2 ^ 15) ⌝ }
-    ensures { λ _. ⌜ (now (dst .exit) ≡ fill (now (dst .entry)) «dst_stride» w h (λ i j. both (masked (n .max) (n .bits) (n .bias) (both (weightOf depth (n .bits)) (now (tmp1 .entry)) (now (tmp2 .entry)) (j * w) i)) (now (tmp1 .entry)) (now (tmp2 .entry)) (j * w) i)) × (now (mask .exit) ≡ fill (now (mask .entry)) «mask_stride» (maskSide «ss_hor» w) (maskSide «ss_ver» h) (maskAt sign «ss_hor» «ss_ver» (λ i j. both (weightOf depth (n .bits)) (now (tmp1 .entry)) (now (tmp2 .entry)) (j * w) i))) ⌝ }
+    requires { ⌜ Rows (length (now dst)) «dst_stride» w h
+        × Weighing (length (now tmp1)) (length (now tmp2)) w h (length (now mask)) «mask_stride» (maskSide «ss_hor» w) (maskSide «ss_ver» h)
+        × (flagsOk «ss_hor» «ss_ver» ≡ true) × (sign ≤ 1) × Depths depth (n .bits) × Bits (n .bits) (n .bias) × (n .max < 2 ^ 15) ⌝ }
+    ensures { λ _. ⌜ (now (dst .exit)
+        ≡ fill (now (dst .entry)) «dst_stride» w h
+        (λ i j. both (masked (n .max) (n .bits) (n .bias) (both (weightOf depth (n .bits)) (now (tmp1 .entry)) (now (tmp2 .entry)) (j * w) i))
+        (now (tmp1 .entry)) (now (tmp2 .entry)) (j * w) i))
+        × (now (mask .exit)
+        ≡ fill (now (mask .entry)) «mask_stride» (maskSide «ss_hor» w) (maskSide «ss_ver» h) (maskAt sign «ss_hor» «ss_ver»
+        (λ i j. both (weightOf depth (n .bits)) (now (tmp1 .entry)) (now (tmp2 .entry)) (j * w) i))) ⌝ }
 {
     keep_mask(
         mask,
@@ -418,7 +448,8 @@ pub extern "C" fn hv_w_mask_16bpc(
     ss_hor: bool,
     ss_ver: bool,
 ) -> u32
-    ensures { λ r. ⌜ WMaskAnswer (depthOk depth) (up depth) (now (dst .entry)) «dst_stride» (now (tmp1 .entry)) (now (tmp2 .entry)) w h (now (mask .entry)) «mask_stride» sign «ss_hor» «ss_ver» r (now (dst .exit)) (now (mask .exit)) ⌝ }
+    ensures { λ r. ⌜ WMaskAnswer (depthOk depth) (up depth) (now (dst .entry)) «dst_stride» (now (tmp1 .entry)) (now (tmp2 .entry)) w h (now (mask .entry))
+        «mask_stride» sign «ss_hor» «ss_ver» r (now (dst .exit)) (now (mask .exit)) ⌝ }
 {
     let number = check_w_mask(
         depth_ok(depth),

@@ -33,8 +33,10 @@ fn order_window8(
     o: Order,
     scratch: &mut [u8],
 ) -> Part
-    ensures { λ r. ⌜ (r ≡ windowOf f «plane_no» (length (now (plane .entry))) «plane_stride» (kindNumber (o .kind)) (o .w) (o .h) (o .x) (o .y) 0 (length (now (scratch .entry))))
-        × (now (scratch .exit) ≡ scratchOf (r .number) f «plane_no» (now (plane .entry)) «plane_stride» (kindNumber (o .kind)) (o .w) (o .h) (o .x) (o .y) 0 (now (scratch .entry))) ⌝ }
+    ensures { λ r. ⌜ (r ≡ windowOf f «plane_no» (length (now (plane .entry))) «plane_stride» (kindNumber (o .kind)) (o .w) (o .h) (o .x) (o .y) 0
+        (length (now (scratch .entry))))
+        × (now (scratch .exit) ≡ scratchOf (r .number) f «plane_no» (now (plane .entry)) «plane_stride» (kindNumber (o .kind)) (o .w) (o .h) (o .x) (o .y) 0
+        (now (scratch .entry))) ⌝ }
 {
     let k = o.kind;
     let n = kind_number(k);
@@ -61,8 +63,10 @@ fn order_window16(
     o: Order,
     scratch: &mut [u16],
 ) -> Part
-    ensures { λ r. ⌜ (r ≡ windowOf f «plane_no» (length (now (plane .entry))) «plane_stride» (kindNumber (o .kind)) (o .w) (o .h) (o .x) (o .y) 0 (length (now (scratch .entry))))
-        × (now (scratch .exit) ≡ scratchOf (r .number) f «plane_no» (now (plane .entry)) «plane_stride» (kindNumber (o .kind)) (o .w) (o .h) (o .x) (o .y) 0 (now (scratch .entry))) ⌝ }
+    ensures { λ r. ⌜ (r ≡ windowOf f «plane_no» (length (now (plane .entry))) «plane_stride» (kindNumber (o .kind)) (o .w) (o .h) (o .x) (o .y) 0
+        (length (now (scratch .entry))))
+        × (now (scratch .exit) ≡ scratchOf (r .number) f «plane_no» (now (plane .entry)) «plane_stride» (kindNumber (o .kind)) (o .w) (o .h) (o .x) (o .y) 0
+        (now (scratch .entry))) ⌝ }
 {
     let k = o.kind;
     let n = kind_number(k);
@@ -139,7 +143,8 @@ pub fn order_put16(
     dst: &mut [u16],
     dst_stride: usize,
 ) -> u32
-    ensures { λ r. ⌜ OrderPutAnswer (depthOk depth) named (up depth) f «plane_no» (now (plane .entry)) «plane_stride» o (now (subpel .entry)) (now (ext .entry)) (now (warp .entry))
+    ensures { λ r. ⌜ OrderPutAnswer (depthOk depth) named (up depth) f «plane_no» (now (plane .entry)) «plane_stride» o (now (subpel .entry))
+        (now (ext .entry)) (now (warp .entry))
         (now (scratch .entry)) (now (dst .entry)) «dst_stride» r (now (scratch .exit)) (now (dst .exit)) ⌝ }
 {
     let number = check_order(
@@ -182,7 +187,8 @@ pub fn order_prep8(
     tmp: &mut [i16],
     tmp_stride: usize,
 ) -> u32
-    ensures { λ r. ⌜ OrderPrepAnswer true named 8 f «plane_no» (now (plane .entry)) «plane_stride» o (now (subpel .entry)) (now (ext .entry)) (now (warp .entry))
+    ensures { λ r. ⌜ OrderPrepAnswer true named 8 f «plane_no» (now (plane .entry)) «plane_stride» o (now (subpel .entry)) (now (ext .entry))
+        (now (warp .entry))
         (now (scratch .entry)) (now (tmp .entry)) «tmp_stride» r (now (scratch .exit)) (now (tmp .exit)) ⌝ }
 {
     let number = check_order(
@@ -225,7 +231,8 @@ pub fn order_prep16(
     tmp: &mut [i16],
     tmp_stride: usize,
 ) -> u32
-    ensures { λ r. ⌜ OrderPrepAnswer (depthOk depth) named (up depth) f «plane_no» (now (plane .entry)) «plane_stride» o (now (subpel .entry)) (now (ext .entry)) (now (warp .entry))
+    ensures { λ r. ⌜ OrderPrepAnswer (depthOk depth) named (up depth) f «plane_no» (now (plane .entry)) «plane_stride» o (now (subpel .entry))
+        (now (ext .entry)) (now (warp .entry))
         (now (scratch .entry)) (now (tmp .entry)) «tmp_stride» r (now (scratch .exit)) (now (tmp .exit)) ⌝ }
 {
     let number = check_order(
@@ -282,9 +289,11 @@ pub extern "C" fn hv_order_put_8bpc(
     dst: &mut [u8],
     dst_stride: usize,
 ) -> u32
-    ensures { λ r. ⌜ OrderPutAnswer true (leb kind 3) 8 (record { «luma_w» = «luma_w»; «luma_h» = «luma_h»; «ss_hor» = «ss_hor»; «ss_ver» = «ss_ver» }) «plane_no»
+    ensures { λ r. ⌜ OrderPutAnswer true (leb kind 3) 8 (record { «luma_w» = «luma_w»; «luma_h» = «luma_h»; «ss_hor» = «ss_hor»; «ss_ver» = «ss_ver» })
+        «plane_no»
         (now (plane .entry)) «plane_stride» (record { x = x; y = y; w = w; h = h; kind = kindOf kind mx my «filter_type» a b c d })
-        (now (subpel .entry)) (now (ext .entry)) (now (warp .entry)) (now (scratch .entry)) (now (dst .entry)) «dst_stride» r (now (scratch .exit)) (now (dst .exit)) ⌝ }
+        (now (subpel .entry)) (now (ext .entry)) (now (warp .entry)) (now (scratch .entry)) (now (dst .entry)) «dst_stride» r (now (scratch .exit))
+        (now (dst .exit)) ⌝ }
 {
     let f = Frame {
         luma_w,
@@ -345,9 +354,11 @@ pub extern "C" fn hv_order_put_16bpc(
     dst: &mut [u16],
     dst_stride: usize,
 ) -> u32
-    ensures { λ r. ⌜ OrderPutAnswer (depthOk depth) (leb kind 3) (up depth) (record { «luma_w» = «luma_w»; «luma_h» = «luma_h»; «ss_hor» = «ss_hor»; «ss_ver» = «ss_ver» }) «plane_no»
+    ensures { λ r. ⌜ OrderPutAnswer (depthOk depth) (leb kind 3) (up depth)
+        (record { «luma_w» = «luma_w»; «luma_h» = «luma_h»; «ss_hor» = «ss_hor»; «ss_ver» = «ss_ver» }) «plane_no»
         (now (plane .entry)) «plane_stride» (record { x = x; y = y; w = w; h = h; kind = kindOf kind mx my «filter_type» a b c d })
-        (now (subpel .entry)) (now (ext .entry)) (now (warp .entry)) (now (scratch .entry)) (now (dst .entry)) «dst_stride» r (now (scratch .exit)) (now (dst .exit)) ⌝ }
+        (now (subpel .entry)) (now (ext .entry)) (now (warp .entry)) (now (scratch .entry)) (now (dst .entry)) «dst_stride» r (now (scratch .exit))
+        (now (dst .exit)) ⌝ }
 {
     let f = Frame {
         luma_w,
@@ -408,9 +419,11 @@ pub extern "C" fn hv_order_prep_8bpc(
     tmp: &mut [i16],
     tmp_stride: usize,
 ) -> u32
-    ensures { λ r. ⌜ OrderPrepAnswer true (leb kind 3) 8 (record { «luma_w» = «luma_w»; «luma_h» = «luma_h»; «ss_hor» = «ss_hor»; «ss_ver» = «ss_ver» }) «plane_no»
+    ensures { λ r. ⌜ OrderPrepAnswer true (leb kind 3) 8 (record { «luma_w» = «luma_w»; «luma_h» = «luma_h»; «ss_hor» = «ss_hor»; «ss_ver» = «ss_ver» })
+        «plane_no»
         (now (plane .entry)) «plane_stride» (record { x = x; y = y; w = w; h = h; kind = kindOf kind mx my «filter_type» a b c d })
-        (now (subpel .entry)) (now (ext .entry)) (now (warp .entry)) (now (scratch .entry)) (now (tmp .entry)) «tmp_stride» r (now (scratch .exit)) (now (tmp .exit)) ⌝ }
+        (now (subpel .entry)) (now (ext .entry)) (now (warp .entry)) (now (scratch .entry)) (now (tmp .entry)) «tmp_stride» r (now (scratch .exit))
+        (now (tmp .exit)) ⌝ }
 {
     let f = Frame {
         luma_w,
@@ -471,9 +484,11 @@ pub extern "C" fn hv_order_prep_16bpc(
     tmp: &mut [i16],
     tmp_stride: usize,
 ) -> u32
-    ensures { λ r. ⌜ OrderPrepAnswer (depthOk depth) (leb kind 3) (up depth) (record { «luma_w» = «luma_w»; «luma_h» = «luma_h»; «ss_hor» = «ss_hor»; «ss_ver» = «ss_ver» }) «plane_no»
+    ensures { λ r. ⌜ OrderPrepAnswer (depthOk depth) (leb kind 3) (up depth)
+        (record { «luma_w» = «luma_w»; «luma_h» = «luma_h»; «ss_hor» = «ss_hor»; «ss_ver» = «ss_ver» }) «plane_no»
         (now (plane .entry)) «plane_stride» (record { x = x; y = y; w = w; h = h; kind = kindOf kind mx my «filter_type» a b c d })
-        (now (subpel .entry)) (now (ext .entry)) (now (warp .entry)) (now (scratch .entry)) (now (tmp .entry)) «tmp_stride» r (now (scratch .exit)) (now (tmp .exit)) ⌝ }
+        (now (subpel .entry)) (now (ext .entry)) (now (warp .entry)) (now (scratch .entry)) (now (tmp .entry)) «tmp_stride» r (now (scratch .exit))
+        (now (tmp .exit)) ⌝ }
 {
     let f = Frame {
         luma_w,

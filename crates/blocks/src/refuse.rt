@@ -23,7 +23,7 @@ pub fn size_ok(most: usize, n: usize) -> bool
 }
 
 // A stride of rows of `row` pixels.
-pub fn stride_ok(row: usize, s: usize) -> bool
+fn stride_ok(row: usize, s: usize) -> bool
     ensures { λ r. ⌜ r ≡ strideOk row s ⌝ }
 {
     if row <= s { s <= 32768 } else { false }

@@ -96,7 +96,8 @@ pub extern "C" fn hv_row_8bpc(
     stride: &mut usize,
     len: &mut usize,
 ) -> u32
-    ensures { λ r. ⌜ PartAnswer (rowAt (record { «luma_w» = «luma_w»; «luma_h» = «luma_h»; «ss_hor» = «ss_hor»; «ss_ver» = «ss_ver» }) «plane_no» (length (now (plane .entry))) «plane_stride» row) r (now (buffer .exit)) (now (place .exit)) (now (stride .exit)) (now (len .exit)) ⌝ }
+    ensures { λ r. ⌜ PartAnswer (rowAt (record { «luma_w» = «luma_w»; «luma_h» = «luma_h»; «ss_hor» = «ss_hor»; «ss_ver» = «ss_ver» }) «plane_no»
+        (length (now (plane .entry))) «plane_stride» row) r (now (buffer .exit)) (now (place .exit)) (now (stride .exit)) (now (len .exit)) ⌝ }
 {
     let f = Frame {
         luma_w,
@@ -127,7 +128,8 @@ pub extern "C" fn hv_row_16bpc(
     stride: &mut usize,
     len: &mut usize,
 ) -> u32
-    ensures { λ r. ⌜ PartAnswer (rowAt (record { «luma_w» = «luma_w»; «luma_h» = «luma_h»; «ss_hor» = «ss_hor»; «ss_ver» = «ss_ver» }) «plane_no» (length (now (plane .entry))) «plane_stride» row) r (now (buffer .exit)) (now (place .exit)) (now (stride .exit)) (now (len .exit)) ⌝ }
+    ensures { λ r. ⌜ PartAnswer (rowAt (record { «luma_w» = «luma_w»; «luma_h» = «luma_h»; «ss_hor» = «ss_hor»; «ss_ver» = «ss_ver» }) «plane_no»
+        (length (now (plane .entry))) «plane_stride» row) r (now (buffer .exit)) (now (place .exit)) (now (stride .exit)) (now (len .exit)) ⌝ }
 {
     let f = Frame {
         luma_w,

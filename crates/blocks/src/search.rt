@@ -344,7 +344,8 @@ fn sad_sum16(
     h: usize,
 ) -> u32
     requires { ⌜ Blocks (length (now p0)) o0 s0 (length (now p1)) o1 s1 w h × Deep depth ⌝ }
-    ensures { λ r. ⌜ (r ≡ sad depth (λ i j. getD (now (p0 .entry)) (o0 + j * s0 + i) 0) (λ i j. getD (now (p1 .entry)) (o1 + j * s1 + i) 0) w h) × (r ≤ 2 ^ 28) ⌝ }
+    ensures { λ r. ⌜ (r ≡ sad depth (λ i j. getD (now (p0 .entry)) (o0 + j * s0 + i) 0) (λ i j. getD (now (p1 .entry)) (o1 + j * s1 + i) 0) w h)
+        × (r ≤ 2 ^ 28) ⌝ }
 {
     let n = (h + 1) / 2;
     let mut s: u32 = 0;
@@ -525,7 +526,8 @@ pub extern "C" fn hv_sad_refine_mv_16bpc(
     dx: &mut i32,
     dy: &mut i32,
 ) -> u32
-    ensures { λ r. ⌜ RefineAnswer (depthOk depth) (up depth) (now (p0 .entry)) «p0_stride» (now (p1 .entry)) «p1_stride» w h «is_implicit» r (now (dx .exit)) (now (dy .exit)) ⌝ }
+    ensures { λ r. ⌜ RefineAnswer (depthOk depth) (up depth) (now (p0 .entry)) «p0_stride» (now (p1 .entry)) «p1_stride» w h «is_implicit» r (now (dx .exit))
+        (now (dy .exit)) ⌝ }
 {
     let number = check_sads(
         8,

@@ -47,7 +47,7 @@ fn clip_wmp(v: i32) -> i16
 }
 
 // Q
-pub fn iclip_wmp(v: i32) -> i16
+fn iclip_wmp(v: i32) -> i16
     ensures { λ r. ⌜ r ≡ Q v ⌝ }
 {
     clip_wmp((keep32(v as i64 + 32 - (v < 0) as i64) >> 6) * 64)

@@ -32,7 +32,8 @@ use rows::warp::half_power;
 // A row by one filter at most: without one, step is 0.
 fn put_line_row8(dst: &mut [u8], src: &[u8], o: usize, step: usize, f: &[i8; 8], r: u32, n: u32)
     requires { ⌜ (o + length (now dst) + 7 * step ≤ length (now src)) × (r < 2 ^ 20) × (n < 32) ⌝ }
-    ensures { λ _. ⌜ now (dst .exit) ≡ rowOf (length (now (dst .entry))) (λ i. putLine 255 (now (f .entry)) r n step (λ t. getD (now (src .entry)) (o + i + t * step) 0)) ⌝ }
+    ensures { λ _. ⌜ now (dst .exit)
+        ≡ rowOf (length (now (dst .entry))) (λ i. putLine 255 (now (f .entry)) r n step (λ t. getD (now (src .entry)) (o + i + t * step) 0)) ⌝ }
 {
     if step == 0 {
         copy_row8(dst, src, o);
@@ -43,7 +44,8 @@ fn put_line_row8(dst: &mut [u8], src: &[u8], o: usize, step: usize, f: &[i8; 8],
 
 fn prep_line_row8(tmp: &mut [i16], src: &[u8], o: usize, step: usize, f: &[i8; 8], n: u32)
     requires { ⌜ (o + length (now tmp) + 7 * step ≤ length (now src)) × (1 ≤ n) × (n ≤ 11) ⌝ }
-    ensures { λ _. ⌜ now (tmp .exit) ≡ rowOf (length (now (tmp .entry))) (λ i. prepLine 4 0 (now (f .entry)) n step (λ t. getD (now (src .entry)) (o + i + t * step) 0)) ⌝ }
+    ensures { λ _. ⌜ now (tmp .exit)
+        ≡ rowOf (length (now (tmp .entry))) (λ i. prepLine 4 0 (now (f .entry)) n step (λ t. getD (now (src .entry)) (o + i + t * step) 0)) ⌝ }
 {
     if step == 0 {
         prep_row8(tmp, src, o);
@@ -62,8 +64,11 @@ fn put_lines8(
     w: usize,
     h: usize,
 )
-    requires { ⌜ Lines (length (now dst)) «dst_stride» (length (now src)) (p .start) «src_stride» (p .step) w h × (p .round < 2 ^ 20) × (6 ≤ p .bits) × (p .bits ≤ 7) ⌝ }
-    ensures { λ _. ⌜ now (dst .exit) ≡ fill (now (dst .entry)) «dst_stride» w h (λ i j. putLine 255 (p .first) (p .round) (p .bits) (p .step) (along (now (src .entry)) (p .start) «src_stride» (p .step) i j)) ⌝ }
+    requires { ⌜ Lines (length (now dst)) «dst_stride» (length (now src)) (p .start) «src_stride» (p .step) w h × (p .round < 2 ^ 20) × (6 ≤ p .bits)
+        × (p .bits ≤ 7) ⌝ }
+    ensures { λ _. ⌜ now (dst .exit)
+        ≡ fill (now (dst .entry)) «dst_stride» w h
+        (λ i j. putLine 255 (p .first) (p .round) (p .bits) (p .step) (along (now (src .entry)) (p .start) «src_stride» (p .step) i j)) ⌝ }
 {
     let f = p.first;
     let mut y = 0;
@@ -85,7 +90,9 @@ fn prep_lines8(
     h: usize,
 )
     requires { ⌜ Lines (length (now tmp)) «tmp_stride» (length (now src)) (p .start) «src_stride» (p .step) w h × (6 ≤ p .bits) × (p .bits ≤ 7) ⌝ }
-    ensures { λ _. ⌜ now (tmp .exit) ≡ fill (now (tmp .entry)) «tmp_stride» w h (λ i j. prepLine 4 0 (p .first) (p .bits - 4) (p .step) (along (now (src .entry)) (p .start) «src_stride» (p .step) i j)) ⌝ }
+    ensures { λ _. ⌜ now (tmp .exit)
+        ≡ fill (now (tmp .entry)) «tmp_stride» w h
+        (λ i j. prepLine 4 0 (p .first) (p .bits - 4) (p .step) (along (now (src .entry)) (p .start) «src_stride» (p .step) i j)) ⌝ }
 {
     let f = p.first;
     let n = p.bits - 4;
@@ -109,7 +116,9 @@ fn mid_lines8(
     h: usize,
 )
     requires { ⌜ Lines (length (now dst)) «dst_stride» (length (now mid)) 0 64 64 w h × (1 ≤ n) × (n ≤ 11) ⌝ }
-    ensures { λ _. ⌜ now (dst .exit) ≡ fill (now (dst .entry)) «dst_stride» w h (λ i j. clip 255 (tapped (now (f .entry)) (half n) n (λ t. at (now (mid .entry)) (j * 64 + i + t * 64)))) ⌝ }
+    ensures { λ _. ⌜ now (dst .exit)
+        ≡ fill (now (dst .entry)) «dst_stride» w h
+        (λ i j. clip 255 (tapped (now (f .entry)) (half n) n (λ t. at (now (mid .entry)) (j * 64 + i + t * 64)))) ⌝ }
 {
     let r = half_power(n);
     let mut y = 0;
@@ -131,7 +140,9 @@ fn mid_prep_lines(
     h: usize,
 )
     requires { ⌜ Lines (length (now tmp)) «tmp_stride» (length (now mid)) 0 64 64 w h × (1 ≤ n) × (n ≤ 11) × (bias ≤ 8192) ⌝ }
-    ensures { λ _. ⌜ now (tmp .exit) ≡ fill (now (tmp .entry)) «tmp_stride» w h (λ i j. minus16 (low16 (tapped (now (f .entry)) (half n) n (λ t. at (now (mid .entry)) (j * 64 + i + t * 64)))) (pos bias)) ⌝ }
+    ensures { λ _. ⌜ now (tmp .exit)
+        ≡ fill (now (tmp .entry)) «tmp_stride» w h
+        (λ i j. minus16 (low16 (tapped (now (f .entry)) (half n) n (λ t. at (now (mid .entry)) (j * 64 + i + t * 64)))) (pos bias)) ⌝ }
 {
     let r = half_power(n);
     let p = bias as i16;
@@ -158,8 +169,11 @@ pub fn put_8tap_rows8(
     subpel: &[i8],
     ext: &[i8],
 )
-    requires { ⌜ Block w h × Rows (length (now dst)) «dst_stride» w h × Taps (length (now src)) o s w h mx my «filter_type» (length (now subpel)) (length (now ext)) ⌝ }
-    ensures { λ _. ⌜ now (dst .exit) ≡ fill (now (dst .entry)) «dst_stride» w h (λ i j. put8Rule 255 4 (now (subpel .entry)) (now (ext .entry)) mx my «filter_type» w h (around 3 (now (src .entry)) o s i j)) ⌝ }
+    requires { ⌜ Block w h × Rows (length (now dst)) «dst_stride» w h
+        × Taps (length (now src)) o s w h mx my «filter_type» (length (now subpel)) (length (now ext)) ⌝ }
+    ensures { λ _. ⌜ now (dst .exit)
+        ≡ fill (now (dst .entry)) «dst_stride» w h
+        (λ i j. put8Rule 255 4 (now (subpel .entry)) (now (ext .entry)) mx my «filter_type» w h (around 3 (now (src .entry)) o s i j)) ⌝ }
 {
     let p = plan_8tap(o, s, w, h, mx, my, filter_type, 4, subpel, ext);
     if p.both {
@@ -187,8 +201,11 @@ pub fn prep_8tap_rows8(
     subpel: &[i8],
     ext: &[i8],
 )
-    requires { ⌜ Block w h × Rows (length (now tmp)) «tmp_stride» w h × Taps (length (now src)) o s w h mx my «filter_type» (length (now subpel)) (length (now ext)) ⌝ }
-    ensures { λ _. ⌜ now (tmp .exit) ≡ fill (now (tmp .entry)) «tmp_stride» w h (λ i j. prep8Rule 4 0 (now (subpel .entry)) (now (ext .entry)) mx my «filter_type» w h (around 3 (now (src .entry)) o s i j)) ⌝ }
+    requires { ⌜ Block w h × Rows (length (now tmp)) «tmp_stride» w h
+        × Taps (length (now src)) o s w h mx my «filter_type» (length (now subpel)) (length (now ext)) ⌝ }
+    ensures { λ _. ⌜ now (tmp .exit)
+        ≡ fill (now (tmp .entry)) «tmp_stride» w h
+        (λ i j. prep8Rule 4 0 (now (subpel .entry)) (now (ext .entry)) mx my «filter_type» w h (around 3 (now (src .entry)) o s i j)) ⌝ }
 {
     let p = plan_8tap(o, s, w, h, mx, my, filter_type, 4, subpel, ext);
     if p.both {
@@ -217,7 +234,8 @@ pub extern "C" fn hv_put_8tap_8bpc(
     subpel: &[i8],
     ext: &[i8],
 ) -> u32
-    ensures { λ r. ⌜ Put8Answer true 8 (now (dst .entry)) «dst_stride» (now (src .entry)) «src_off» «src_stride» w h mx my «filter_type» (now (subpel .entry)) (now (ext .entry)) r (now (dst .exit)) ⌝ }
+    ensures { λ r. ⌜ Put8Answer true 8 (now (dst .entry)) «dst_stride» (now (src .entry)) «src_off» «src_stride» w h mx my «filter_type» (now (subpel .entry))
+        (now (ext .entry)) r (now (dst .exit)) ⌝ }
 {
     let number = check_8tap(
         true,
@@ -268,7 +286,8 @@ pub extern "C" fn hv_prep_8tap_8bpc(
     subpel: &[i8],
     ext: &[i8],
 ) -> u32
-    ensures { λ r. ⌜ Prep8Answer true 8 (now (tmp .entry)) «tmp_stride» (now (src .entry)) «src_off» «src_stride» w h mx my «filter_type» (now (subpel .entry)) (now (ext .entry)) r (now (tmp .exit)) ⌝ }
+    ensures { λ r. ⌜ Prep8Answer true 8 (now (tmp .entry)) «tmp_stride» (now (src .entry)) «src_off» «src_stride» w h mx my «filter_type»
+        (now (subpel .entry)) (now (ext .entry)) r (now (tmp .exit)) ⌝ }
 {
     let number = check_8tap(
         true,
@@ -316,7 +335,8 @@ fn put_line_row16(
     max: u16,
 )
     requires { ⌜ (o + length (now dst) + 7 * step ≤ length (now src)) × (r < 2 ^ 20) × (n < 32) × (max < 2 ^ 15) ⌝ }
-    ensures { λ _. ⌜ now (dst .exit) ≡ rowOf (length (now (dst .entry))) (λ i. putLine max (now (f .entry)) r n step (λ t. getD (now (src .entry)) (o + i + t * step) 0)) ⌝ }
+    ensures { λ _. ⌜ now (dst .exit)
+        ≡ rowOf (length (now (dst .entry))) (λ i. putLine max (now (f .entry)) r n step (λ t. getD (now (src .entry)) (o + i + t * step) 0)) ⌝ }
 {
     if step == 0 {
         copy_row16(dst, src, o);
@@ -336,7 +356,8 @@ fn prep_line_row16(
     bias: u32,
 )
     requires { ⌜ (o + length (now tmp) + 7 * step ≤ length (now src)) × (1 ≤ n) × (n ≤ 11) × Bits bits bias ⌝ }
-    ensures { λ _. ⌜ now (tmp .exit) ≡ rowOf (length (now (tmp .entry))) (λ i. prepLine bits bias (now (f .entry)) n step (λ t. getD (now (src .entry)) (o + i + t * step) 0)) ⌝ }
+    ensures { λ _. ⌜ now (tmp .exit)
+        ≡ rowOf (length (now (tmp .entry))) (λ i. prepLine bits bias (now (f .entry)) n step (λ t. getD (now (src .entry)) (o + i + t * step) 0)) ⌝ }
 {
     if step == 0 {
         prep_row16(tmp, src, o, bits, bias);
@@ -356,8 +377,11 @@ fn put_lines16(
     w: usize,
     h: usize,
 )
-    requires { ⌜ Lines (length (now dst)) «dst_stride» (length (now src)) (p .start) «src_stride» (p .step) w h × (p .round < 2 ^ 20) × (6 ≤ p .bits) × (p .bits ≤ 7) × (max < 2 ^ 15) ⌝ }
-    ensures { λ _. ⌜ now (dst .exit) ≡ fill (now (dst .entry)) «dst_stride» w h (λ i j. putLine max (p .first) (p .round) (p .bits) (p .step) (along (now (src .entry)) (p .start) «src_stride» (p .step) i j)) ⌝ }
+    requires { ⌜ Lines (length (now dst)) «dst_stride» (length (now src)) (p .start) «src_stride» (p .step) w h × (p .round < 2 ^ 20) × (6 ≤ p .bits)
+        × (p .bits ≤ 7) × (max < 2 ^ 15) ⌝ }
+    ensures { λ _. ⌜ now (dst .exit)
+        ≡ fill (now (dst .entry)) «dst_stride» w h
+        (λ i j. putLine max (p .first) (p .round) (p .bits) (p .step) (along (now (src .entry)) (p .start) «src_stride» (p .step) i j)) ⌝ }
 {
     let f = p.first;
     let mut y = 0;
@@ -380,8 +404,11 @@ fn prep_lines16(
     w: usize,
     h: usize,
 )
-    requires { ⌜ Lines (length (now tmp)) «tmp_stride» (length (now src)) (p .start) «src_stride» (p .step) w h × (6 ≤ p .bits) × (p .bits ≤ 7) × Bits bits bias ⌝ }
-    ensures { λ _. ⌜ now (tmp .exit) ≡ fill (now (tmp .entry)) «tmp_stride» w h (λ i j. prepLine bits bias (p .first) (p .bits - bits) (p .step) (along (now (src .entry)) (p .start) «src_stride» (p .step) i j)) ⌝ }
+    requires { ⌜ Lines (length (now tmp)) «tmp_stride» (length (now src)) (p .start) «src_stride» (p .step) w h × (6 ≤ p .bits) × (p .bits ≤ 7)
+        × Bits bits bias ⌝ }
+    ensures { λ _. ⌜ now (tmp .exit)
+        ≡ fill (now (tmp .entry)) «tmp_stride» w h
+        (λ i j. prepLine bits bias (p .first) (p .bits - bits) (p .step) (along (now (src .entry)) (p .start) «src_stride» (p .step) i j)) ⌝ }
 {
     let f = p.first;
     let n = p.bits - bits;
@@ -406,7 +433,9 @@ fn mid_lines16(
     h: usize,
 )
     requires { ⌜ Lines (length (now dst)) «dst_stride» (length (now mid)) 0 64 64 w h × (1 ≤ n) × (n ≤ 11) × (max < 2 ^ 15) ⌝ }
-    ensures { λ _. ⌜ now (dst .exit) ≡ fill (now (dst .entry)) «dst_stride» w h (λ i j. clip max (tapped (now (f .entry)) (half n) n (λ t. at (now (mid .entry)) (j * 64 + i + t * 64)))) ⌝ }
+    ensures { λ _. ⌜ now (dst .exit)
+        ≡ fill (now (dst .entry)) «dst_stride» w h
+        (λ i j. clip max (tapped (now (f .entry)) (half n) n (λ t. at (now (mid .entry)) (j * 64 + i + t * 64)))) ⌝ }
 {
     let r = half_power(n);
     let mut y = 0;
@@ -433,8 +462,11 @@ pub fn put_8tap_rows16(
     subpel: &[i8],
     ext: &[i8],
 )
-    requires { ⌜ Bits (d .bits) (d .bias) × Block w h × Rows (length (now dst)) «dst_stride» w h × Taps (length (now src)) o s w h mx my «filter_type» (length (now subpel)) (length (now ext)) × (d .max < 2 ^ 15) ⌝ }
-    ensures { λ _. ⌜ now (dst .exit) ≡ fill (now (dst .entry)) «dst_stride» w h (λ i j. put8Rule (d .max) (d .bits) (now (subpel .entry)) (now (ext .entry)) mx my «filter_type» w h (around 3 (now (src .entry)) o s i j)) ⌝ }
+    requires { ⌜ Bits (d .bits) (d .bias) × Block w h × Rows (length (now dst)) «dst_stride» w h
+        × Taps (length (now src)) o s w h mx my «filter_type» (length (now subpel)) (length (now ext)) × (d .max < 2 ^ 15) ⌝ }
+    ensures { λ _. ⌜ now (dst .exit)
+        ≡ fill (now (dst .entry)) «dst_stride» w h
+        (λ i j. put8Rule (d .max) (d .bits) (now (subpel .entry)) (now (ext .entry)) mx my «filter_type» w h (around 3 (now (src .entry)) o s i j)) ⌝ }
 {
     let bits = d.bits;
     let p = plan_8tap(o, s, w, h, mx, my, filter_type, bits, subpel, ext);
@@ -464,8 +496,11 @@ pub fn prep_8tap_rows16(
     subpel: &[i8],
     ext: &[i8],
 )
-    requires { ⌜ Bits (d .bits) (d .bias) × Block w h × Rows (length (now tmp)) «tmp_stride» w h × Taps (length (now src)) o s w h mx my «filter_type» (length (now subpel)) (length (now ext)) ⌝ }
-    ensures { λ _. ⌜ now (tmp .exit) ≡ fill (now (tmp .entry)) «tmp_stride» w h (λ i j. prep8Rule (d .bits) (d .bias) (now (subpel .entry)) (now (ext .entry)) mx my «filter_type» w h (around 3 (now (src .entry)) o s i j)) ⌝ }
+    requires { ⌜ Bits (d .bits) (d .bias) × Block w h × Rows (length (now tmp)) «tmp_stride» w h
+        × Taps (length (now src)) o s w h mx my «filter_type» (length (now subpel)) (length (now ext)) ⌝ }
+    ensures { λ _. ⌜ now (tmp .exit)
+        ≡ fill (now (tmp .entry)) «tmp_stride» w h
+        (λ i j. prep8Rule (d .bits) (d .bias) (now (subpel .entry)) (now (ext .entry)) mx my «filter_type» w h (around 3 (now (src .entry)) o s i j)) ⌝ }
 {
     let bits = d.bits;
     let p = plan_8tap(o, s, w, h, mx, my, filter_type, bits, subpel, ext);
@@ -496,7 +531,8 @@ pub extern "C" fn hv_put_8tap_16bpc(
     subpel: &[i8],
     ext: &[i8],
 ) -> u32
-    ensures { λ r. ⌜ Put8Answer (depthOk depth) (up depth) (now (dst .entry)) «dst_stride» (now (src .entry)) «src_off» «src_stride» w h mx my «filter_type» (now (subpel .entry)) (now (ext .entry)) r (now (dst .exit)) ⌝ }
+    ensures { λ r. ⌜ Put8Answer (depthOk depth) (up depth) (now (dst .entry)) «dst_stride» (now (src .entry)) «src_off» «src_stride» w h mx my «filter_type»
+        (now (subpel .entry)) (now (ext .entry)) r (now (dst .exit)) ⌝ }
 {
     let number = check_8tap(
         depth_ok(depth),
@@ -550,7 +586,8 @@ pub extern "C" fn hv_prep_8tap_16bpc(
     subpel: &[i8],
     ext: &[i8],
 ) -> u32
-    ensures { λ r. ⌜ Prep8Answer (depthOk depth) (up depth) (now (tmp .entry)) «tmp_stride» (now (src .entry)) «src_off» «src_stride» w h mx my «filter_type» (now (subpel .entry)) (now (ext .entry)) r (now (tmp .exit)) ⌝ }
+    ensures { λ r. ⌜ Prep8Answer (depthOk depth) (up depth) (now (tmp .entry)) «tmp_stride» (now (src .entry)) «src_off» «src_stride» w h mx my «filter_type»
+        (now (subpel .entry)) (now (ext .entry)) r (now (tmp .exit)) ⌝ }
 {
     let number = check_8tap(
         depth_ok(depth),

@@ -370,7 +370,8 @@ pub fn warp_put16(
     bits: u32,
     max: u16,
 )
-    requires { ⌜ Warps (length (now dst)) «dst_stride» (length (now src)) «src_off» «src_stride» (length (now warp) / 8) a b c d mx my × (bits ≤ 4) × (max < 2 ^ 15) ⌝ }
+    requires { ⌜ Warps (length (now dst)) «dst_stride» (length (now src)) «src_off» «src_stride» (length (now warp) / 8) a b c d mx my × (bits ≤ 4)
+        × (max < 2 ^ 15) ⌝ }
     ensures { λ _. ⌜ now (dst .exit) ≡ fill (now (dst .entry)) «dst_stride» 8 8
         (λ i j. warpPut max bits (now (warp .entry)) mx my a b c d i j (around 3 (now (src .entry)) «src_off» «src_stride» i j)) ⌝ }
 {

@@ -35,7 +35,9 @@ pub struct Part {
 
 // The links of a window's tests: the sizes and the stride, on which the later ones rely; the other numbers; the buffers.
 fn window_sizes(f: Frame, plane_no: u32, plane_stride: usize, w: usize, h: usize) -> u32
-    ensures { λ r. ⌜ r ≡ need (frameSizesOk f «plane_no») 1 (need (sizeOk blockSide w) 1 (need (sizeOk blockSide h) 1 (need (strideOk (planeW f «plane_no») «plane_stride») 2 0))) ⌝ }
+    ensures { λ r. ⌜ r
+        ≡ need (frameSizesOk f «plane_no») 1 (need (sizeOk blockSide w) 1
+        (need (sizeOk blockSide h) 1 (need (strideOk (planeW f «plane_no») «plane_stride») 2 0))) ⌝ }
 {
     needed(
         frame_sizes_ok(f, plane_no),
@@ -66,7 +68,8 @@ pub fn window_held(
     rest: u32,
 ) -> u32
     requires { ⌜ (w ≤ 64) × (h ≤ 64) ⌝ }
-    ensures { λ r. ⌜ r ≡ need (holds pl «plane_stride» (planeW f «plane_no») (planeH f «plane_no»)) 5 (need (holdsAll sl (windowSide kind w) (windowSide kind h)) 6 rest) ⌝ }
+    ensures { λ r. ⌜ r
+        ≡ need (holds pl «plane_stride» (planeW f «plane_no») (planeH f «plane_no»)) 5 (need (holdsAll sl (windowSide kind w) (windowSide kind h)) 6 rest) ⌝ }
 {
     let ww = window_side(kind, w);
     let wh = window_side(kind, h);
@@ -208,7 +211,8 @@ pub fn window8(
     mode: u32,
     scratch: &mut [u8],
 ) -> Part
-    ensures { λ r. ⌜ (r ≡ windowOf f «plane_no» (length (now (plane .entry))) «plane_stride» kind w h x y mode (length (now (scratch .entry)))) × (now (scratch .exit) ≡ scratchOf (r .number) f «plane_no» (now (plane .entry)) «plane_stride» kind w h x y mode (now (scratch .entry))) ⌝ }
+    ensures { λ r. ⌜ (r ≡ windowOf f «plane_no» (length (now (plane .entry))) «plane_stride» kind w h x y mode (length (now (scratch .entry))))
+        × (now (scratch .exit) ≡ scratchOf (r .number) f «plane_no» (now (plane .entry)) «plane_stride» kind w h x y mode (now (scratch .entry))) ⌝ }
 {
     let part = find_window(
         f,
@@ -254,7 +258,8 @@ pub fn window16(
     mode: u32,
     scratch: &mut [u16],
 ) -> Part
-    ensures { λ r. ⌜ (r ≡ windowOf f «plane_no» (length (now (plane .entry))) «plane_stride» kind w h x y mode (length (now (scratch .entry)))) × (now (scratch .exit) ≡ scratchOf (r .number) f «plane_no» (now (plane .entry)) «plane_stride» kind w h x y mode (now (scratch .entry))) ⌝ }
+    ensures { λ r. ⌜ (r ≡ windowOf f «plane_no» (length (now (plane .entry))) «plane_stride» kind w h x y mode (length (now (scratch .entry))))
+        × (now (scratch .exit) ≡ scratchOf (r .number) f «plane_no» (now (plane .entry)) «plane_stride» kind w h x y mode (now (scratch .entry))) ⌝ }
 {
     let part = find_window(
         f,
@@ -334,7 +339,9 @@ pub fn window_part8<'a>(
     mode: u32,
     scratch: &'a [u8],
 ) -> &'a [u8]
-    ensures { λ r. ⌜ now r ≡ partOf (windowOf f «plane_no» (length (now (plane .entry))) «plane_stride» kind w h x y mode (length (now (scratch .entry)))) (now (plane .entry)) (now (scratch .entry)) ⌝ }
+    ensures { λ r. ⌜ now r
+        ≡ partOf (windowOf f «plane_no» (length (now (plane .entry))) «plane_stride» kind w h x y mode (length (now (scratch .entry)))) (now (plane .entry))
+        (now (scratch .entry)) ⌝ }
 {
     let part = find_window(
         f,
@@ -365,7 +372,9 @@ pub fn window_part16<'a>(
     mode: u32,
     scratch: &'a [u16],
 ) -> &'a [u16]
-    ensures { λ r. ⌜ now r ≡ partOf (windowOf f «plane_no» (length (now (plane .entry))) «plane_stride» kind w h x y mode (length (now (scratch .entry)))) (now (plane .entry)) (now (scratch .entry)) ⌝ }
+    ensures { λ r. ⌜ now r
+        ≡ partOf (windowOf f «plane_no» (length (now (plane .entry))) «plane_stride» kind w h x y mode (length (now (scratch .entry)))) (now (plane .entry))
+        (now (scratch .entry)) ⌝ }
 {
     let part = find_window(
         f,
@@ -404,7 +413,9 @@ pub extern "C" fn hv_window_8bpc(
     stride: &mut usize,
     len: &mut usize,
 ) -> u32
-    ensures { λ r. ⌜ WindowAnswer (record { «luma_w» = «luma_w»; «luma_h» = «luma_h»; «ss_hor» = «ss_hor»; «ss_ver» = «ss_ver» }) «plane_no» (now (plane .entry)) «plane_stride» kind w h x y mode (now (scratch .entry)) r (now (buffer .exit)) (now (place .exit)) (now (stride .exit)) (now (len .exit)) (now (scratch .exit)) ⌝ }
+    ensures { λ r. ⌜ WindowAnswer (record { «luma_w» = «luma_w»; «luma_h» = «luma_h»; «ss_hor» = «ss_hor»; «ss_ver» = «ss_ver» }) «plane_no»
+        (now (plane .entry)) «plane_stride» kind w h x y mode (now (scratch .entry)) r (now (buffer .exit)) (now (place .exit)) (now (stride .exit))
+        (now (len .exit)) (now (scratch .exit)) ⌝ }
 {
     let f = Frame {
         luma_w,
@@ -453,7 +464,9 @@ pub extern "C" fn hv_window_16bpc(
     stride: &mut usize,
     len: &mut usize,
 ) -> u32
-    ensures { λ r. ⌜ WindowAnswer (record { «luma_w» = «luma_w»; «luma_h» = «luma_h»; «ss_hor» = «ss_hor»; «ss_ver» = «ss_ver» }) «plane_no» (now (plane .entry)) «plane_stride» kind w h x y mode (now (scratch .entry)) r (now (buffer .exit)) (now (place .exit)) (now (stride .exit)) (now (len .exit)) (now (scratch .exit)) ⌝ }
+    ensures { λ r. ⌜ WindowAnswer (record { «luma_w» = «luma_w»; «luma_h» = «luma_h»; «ss_hor» = «ss_hor»; «ss_ver» = «ss_ver» }) «plane_no»
+        (now (plane .entry)) «plane_stride» kind w h x y mode (now (scratch .entry)) r (now (buffer .exit)) (now (place .exit)) (now (stride .exit))
+        (now (len .exit)) (now (scratch .exit)) ⌝ }
 {
     let f = Frame {
         luma_w,

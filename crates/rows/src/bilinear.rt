@@ -86,7 +86,7 @@ fn bilin_rnd(s: i32, n: u32) -> i32
     rounded(s, half_of(n), n)
 }
 
-// clip((R(n) + r) >> k): with r = 2^(B-1) and k = B put's horizontal case of bytes, with r = 0 and k = 0 their vertical one and put's second pass
+// clip((R(n) + r) >> k) of bytes: with r = 2^(B-1) and k = B put's horizontal case, with r = 0 and k = 0 its others
 fn bilin_px8(s: i32, n: u32, r: u32, k: u32) -> u8
     requires { ⌜ (mag s < 2 ^ 22) × (n ≤ 8) × (r ≤ 8) × (k ≤ 4) ⌝ }
     ensures { λ v. ⌜ v ≡ clip 255 (shrZ (R n s +ℤ pos r) (2 ^ k)) ⌝ }
@@ -94,11 +94,12 @@ fn bilin_px8(s: i32, n: u32, r: u32, k: u32) -> u8
     clip8(rounded(bilin_rnd(s, n), r, k))
 }
 
-fn bilin_px16(s: i32, n: u32, r: u32, k: u32, max: u16) -> u16
-    requires { ⌜ (mag s < 2 ^ 22) × (n ≤ 8) × (r ≤ 8) × (k ≤ 4) × (max < 2 ^ 15) ⌝ }
-    ensures { λ v. ⌜ v ≡ clip max (shrZ (R n s +ℤ pos r) (2 ^ k)) ⌝ }
+// clip(R(n)) of 16-bit pixels: put's second pass
+fn bilin_px16(s: i32, n: u32, max: u16) -> u16
+    requires { ⌜ (mag s < 2 ^ 22) × (n ≤ 8) × (max < 2 ^ 15) ⌝ }
+    ensures { λ v. ⌜ v ≡ clip max (R n s) ⌝ }
 {
-    clip16(rounded(bilin_rnd(s, n), r, k), max)
+    clip16(bilin_rnd(s, n), max)
 }
 
 // What put adds to a sum for both of its shifts, which make one shift by 4.
@@ -254,7 +255,7 @@ pub fn mid_bilin_row16(
     let w = dst.len();
     let mut i = 0;
     while i < w {
-        let v = bilin_px16(between_i16(mid, o + i, step, f), n, 0, 0, max);
+        let v = bilin_px16(between_i16(mid, o + i, step, f), n, max);
         dst[i] = v;
         i += 1;
     }

@@ -29,7 +29,9 @@ fn blend_px8(m: u8, d: u8, t: u8) -> u8
 // tmp and mask are read from place q on.
 pub fn blend_row8(dst: &mut [u8], tmp: &[u8], mask: &[u8], q: usize)
     requires { ⌜ (q + length (now dst) ≤ length (now tmp)) × (q + length (now dst) ≤ length (now mask)) × AtMost 64 (now mask) q (length (now dst)) ⌝ }
-    ensures { λ _. ⌜ now (dst .exit) ≡ rowOf (length (now (dst .entry))) (λ i. blend (getD (now (mask .entry)) (q + i) 0) (getD (now (dst .entry)) i 0) (getD (now (tmp .entry)) (q + i) 0)) ⌝ }
+    ensures { λ _. ⌜ now (dst .exit)
+        ≡ rowOf (length (now (dst .entry)))
+        (λ i. blend (getD (now (mask .entry)) (q + i) 0) (getD (now (dst .entry)) i 0) (getD (now (tmp .entry)) (q + i) 0)) ⌝ }
 {
     let n = dst.len();
     let mut i = 0;
@@ -41,7 +43,9 @@ pub fn blend_row8(dst: &mut [u8], tmp: &[u8], mask: &[u8], q: usize)
 
 pub fn blend_row16(dst: &mut [u16], tmp: &[u16], mask: &[u8], q: usize)
     requires { ⌜ (q + length (now dst) ≤ length (now tmp)) × (q + length (now dst) ≤ length (now mask)) × AtMost 64 (now mask) q (length (now dst)) ⌝ }
-    ensures { λ _. ⌜ now (dst .exit) ≡ rowOf (length (now (dst .entry))) (λ i. blend (getD (now (mask .entry)) (q + i) 0) (getD (now (dst .entry)) i 0) (getD (now (tmp .entry)) (q + i) 0)) ⌝ }
+    ensures { λ _. ⌜ now (dst .exit)
+        ≡ rowOf (length (now (dst .entry)))
+        (λ i. blend (getD (now (mask .entry)) (q + i) 0) (getD (now (dst .entry)) i 0) (getD (now (tmp .entry)) (q + i) 0)) ⌝ }
 {
     let n = dst.len();
     let mut i = 0;
@@ -59,7 +63,7 @@ fn scaled(alpha: i32, beta: i32, d: i32) -> i32
     (alpha * d + beta) >> 8
 }
 
-pub fn morph_px(alpha: i32, beta: i32, d: u16, max: u16) -> u16
+fn morph_px(alpha: i32, beta: i32, d: u16, max: u16) -> u16
     requires { ⌜ (natAbs alpha ≤ 2 ^ 14) × (natAbs beta ≤ 2 ^ 22) × (max < 2 ^ 15) ⌝ }
     ensures { λ r. ⌜ r ≡ morph max alpha beta d ⌝ }
 {

@@ -25,14 +25,14 @@ fn rounding(h: u32, bits: u32, bias: u32) -> u32
     (h << bits) + 2 * h * bias
 }
 
-pub fn avg_px(a: i16, b: i16, bits: u32, bias: u32, max: u16) -> u16
+fn avg_px(a: i16, b: i16, bits: u32, bias: u32, max: u16) -> u16
     requires { ⌜ (bits ≤ 4) × (bias ≤ 8192) × (max < 2 ^ 15) ⌝ }
     ensures { λ r. ⌜ r ≡ avg max bits bias a b ⌝ }
 {
     clip16(mix(a, b, 1, 2, rounding(1, bits, bias), bits + 1), max)
 }
 
-pub fn mask_px(a: i16, b: i16, m: u8, bits: u32, bias: u32, max: u16) -> u16
+fn mask_px(a: i16, b: i16, m: u8, bits: u32, bias: u32, max: u16) -> u16
     requires { ⌜ (bits ≤ 4) × (bias ≤ 8192) × (max < 2 ^ 15) ⌝ }
     ensures { λ r. ⌜ r ≡ masked max bits bias m a b ⌝ }
 {
@@ -90,7 +90,9 @@ pub fn avg_row16(
 // The mask is read from place o on.
 pub fn mask_row8(dst: &mut [u8], tmp1: &[i16], tmp2: &[i16], q: usize, mask: &[u8], o: usize)
     requires { ⌜ (q + length (now dst) ≤ length (now tmp1)) × (q + length (now dst) ≤ length (now tmp2)) × (o + length (now dst) ≤ length (now mask)) ⌝ }
-    ensures { λ _. ⌜ now (dst .exit) ≡ rowOf (length (now (dst .entry))) (λ i. both (masked 255 4 0 (getD (now (mask .entry)) (o + i) 0)) (now (tmp1 .entry)) (now (tmp2 .entry)) q i) ⌝ }
+    ensures { λ _. ⌜ now (dst .exit)
+        ≡ rowOf (length (now (dst .entry)))
+        (λ i. both (masked 255 4 0 (getD (now (mask .entry)) (o + i) 0)) (now (tmp1 .entry)) (now (tmp2 .entry)) q i) ⌝ }
 {
     let n = dst.len();
     let mut i = 0;
@@ -113,7 +115,9 @@ pub fn mask_row16(
 )
     requires { ⌜ (q + length (now dst) ≤ length (now tmp1)) × (q + length (now dst) ≤ length (now tmp2)) × (o + length (now dst) ≤ length (now mask)) ⌝ }
     requires { ⌜ (bits ≤ 4) × (bias ≤ 8192) × (max < 2 ^ 15) ⌝ }
-    ensures { λ _. ⌜ now (dst .exit) ≡ rowOf (length (now (dst .entry))) (λ i. both (masked max bits bias (getD (now (mask .entry)) (o + i) 0)) (now (tmp1 .entry)) (now (tmp2 .entry)) q i) ⌝ }
+    ensures { λ _. ⌜ now (dst .exit)
+        ≡ rowOf (length (now (dst .entry)))
+        (λ i. both (masked max bits bias (getD (now (mask .entry)) (o + i) 0)) (now (tmp1 .entry)) (now (tmp2 .entry)) q i) ⌝ }
 {
     let n = dst.len();
     let mut i = 0;

@@ -127,7 +127,7 @@ pub fn copy_row16(dst: &mut [u16], src: &[u16], o: usize)
 }
 
 // low16((s << B) - P)
-pub fn prep_px(s: u16, bits: u32, bias: u32) -> i16
+fn prep_px(s: u16, bits: u32, bias: u32) -> i16
     requires { ⌜ (bits ≤ 4) × (bias ≤ 8192) ⌝ }
     ensures { λ r. ⌜ r ≡ prep bits bias s ⌝ }
 {

@@ -9,7 +9,7 @@ use crate::copy::copy_row8;
 use crate::copy::copy_row16;
 
 // One pixel everywhere.
-pub fn fill_row8(dst: &mut [u8], v: u8)
+fn fill_row8(dst: &mut [u8], v: u8)
     ensures { λ _. ⌜ now (dst .exit) ≡ rowOf (length (now (dst .entry))) (λ i. v) ⌝ }
 {
     let n = dst.len();
@@ -20,7 +20,7 @@ pub fn fill_row8(dst: &mut [u8], v: u8)
     }
 }
 
-pub fn fill_row16(dst: &mut [u16], v: u16)
+fn fill_row16(dst: &mut [u16], v: u16)
     ensures { λ _. ⌜ now (dst .exit) ≡ rowOf (length (now (dst .entry))) (λ i. v) ⌝ }
 {
     let n = dst.len();

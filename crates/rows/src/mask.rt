@@ -17,7 +17,7 @@ pub fn abs_diff16(a: i16, b: i16) -> u32
 
 // min(38 + ((|a-b| + 2^(T-5)) >> T), 64) with T = depth + B - 4. The shift is done in two steps, of which the first makes 2^(T-5) a 1:
 // so sixteen bits hold all numbers.
-pub fn weight_px(a: i16, b: i16, depth: u32, bits: u32) -> u8
+fn weight_px(a: i16, b: i16, depth: u32, bits: u32) -> u8
     requires { ⌜ (8 ≤ depth) × (depth ≤ 12) × (2 ≤ bits) × (bits ≤ 4) ⌝ }
     ensures { λ r. ⌜ (r ≡ weightOf depth bits a b) × (r ≤ 64) ⌝ }
 {
@@ -53,7 +53,8 @@ fn pair_px(m: u8, n: u8, sign: u32) -> u8
 // Pairs of the weights m, which begin at place 0.
 pub fn pair_row(mask: &mut [u8], m: &[u8], sign: u32)
     requires { ⌜ (2 * length (now mask) ≤ length (now m)) × (sign ≤ 1) ⌝ }
-    ensures { λ _. ⌜ now (mask .exit) ≡ rowOf (length (now (mask .entry))) (λ i. pairOf sign (getD (now (m .entry)) (2 * i) 0) (getD (now (m .entry)) (2 * i + 1) 0)) ⌝ }
+    ensures { λ _. ⌜ now (mask .exit)
+        ≡ rowOf (length (now (mask .entry))) (λ i. pairOf sign (getD (now (m .entry)) (2 * i) 0) (getD (now (m .entry)) (2 * i + 1) 0)) ⌝ }
 {
     let n = mask.len();
     let mut i = 0;
@@ -75,7 +76,10 @@ fn four_px(a: u8, b: u8, c: u8, d: u8, sign: u32) -> u8
 // Fours of the weights m of a row and n of the next.
 pub fn four_row(mask: &mut [u8], m: &[u8], n: &[u8], sign: u32)
     requires { ⌜ (2 * length (now mask) ≤ length (now m)) × (2 * length (now mask) ≤ length (now n)) × (sign ≤ 1) ⌝ }
-    ensures { λ _. ⌜ now (mask .exit) ≡ rowOf (length (now (mask .entry))) (λ i. fourOf sign (getD (now (m .entry)) (2 * i) 0 + getD (now (m .entry)) (2 * i + 1) 0 + getD (now (n .entry)) (2 * i) 0 + getD (now (n .entry)) (2 * i + 1) 0)) ⌝ }
+    ensures { λ _. ⌜ now (mask .exit)
+        ≡ rowOf (length (now (mask .entry)))
+        (λ i. fourOf sign (getD (now (m .entry)) (2 * i) 0 + getD (now (m .entry)) (2 * i + 1) 0 + getD (now (n .entry)) (2 * i) 0 + getD (now (n .entry))
+        (2 * i + 1) 0)) ⌝ }
 {
     let l = mask.len();
     let mut i = 0;

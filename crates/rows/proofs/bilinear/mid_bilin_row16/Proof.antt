@@ -7,7 +7,6 @@ use mir.Val.{SFits}
 use Rattle.rows.specs.Numbers.{clip, at}
 use Rattle.rows.specs.Bilinear.{R, bilinAt}
 use Rattle.rows.proofs.Laws.Row.{Upto, upto-none, upto-more, upto-all}
-use Rattle.rows.proofs.Laws.Bilinear.{shr-none}
 use Rattle.rows.proofs.Laws.Signed.{back}
 use Rattle.rows.proofs.bilinear.mid_bilin_row16.Statement.{statement}
 use Rattle.rows.proofs.bilinear.mid_bilin_row16.Tie as tie
@@ -23,7 +22,7 @@ loop-again : tie.Need-loop-again Inv-loop μ-loop
 loop-again c =
     let b = c .before in
     let fb : SFits w32 (b .between-i16 .result) = omega arith in
-    upto-more (b .before .before .loop .inv) (omega arith) (rw (back fb, b .between-i16 .ensures .0, shr-none) at (c .bilin-px16 .ensures))
+    upto-more (b .before .before .loop .inv) (omega arith) (rw (back fb, b .between-i16 .ensures .0) at (c .bilin-px16 .ensures))
 
 pub mid-bilin-row16-spec : {M : Type 1} → statement M
 mid-bilin-row16-spec =
