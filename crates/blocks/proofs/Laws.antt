@@ -6,6 +6,7 @@ pub mod Answer
 pub mod Deep
 pub mod Rows
 pub mod Ready
+pub mod Told
 pub mod Gapless
 pub mod InPlace
 pub mod CopyReady

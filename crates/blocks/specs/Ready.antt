@@ -13,6 +13,7 @@ use Rattle.blocks.specs.Order.{kindNumber, kindSizeOk, motionOk, filters
 use Rattle.blocks.specs.declared.window.Part.{Part}
 use Rattle.blocks.specs.declared.order.Kind.{Kind}
 use Rattle.blocks.specs.declared.refuse.DepthNumbers.{DepthNumbers}
+use Rattle.blocks.specs.declared.warp.Shears.{Shears}
 
 -- a block of w columns and h rows
 pub record Block (w h : ℕ) : Type 0 where
@@ -80,11 +81,11 @@ pub record Margins (sl o s : ℕ) : Type 0 where
   pub after : o + 11 * s + 11 < sl
 
 -- a block of warp: what is written and read, and its two passes
-pub record Warps (dl ds sl off ss n : ℕ) (a b c d mx my : ℤ) : Type 0 where
+pub record Warps (dl ds sl off ss n : ℕ) (m : Shears) : Type 0 where
   pub dst : Rows dl ds 8 8
   pub src : Margins sl off ss
-  pub first : Pass n mx a b 15
-  pub second : Pass n my c d 8
+  pub first : Pass n (m .mx) (m .a) (m .b) 15
+  pub second : Pass n (m .my) (m .c) (m .d) 8
 
 -- a divisor, and a table of reciprocals that has its place
 pub record Divides (d rl : ℕ) : Type 0 where
@@ -138,8 +139,7 @@ pub record Taps (sl o s w h : ℕ) (mx my filterType : ℤ) (tl el : ℕ) : Type
 
 -- a depth and its bits, as the weights of w_mask take them
 pub record Depths (depth bits : ℕ) : Type 0 where
-  pub depth8 : 8 ≤ depth
-  pub depth12 : depth ≤ 12
+  pub deep : Deep depth
   pub bits2 : 2 ≤ bits
   pub bits4 : bits ≤ 4
 

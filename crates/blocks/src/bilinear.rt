@@ -30,7 +30,7 @@ use rows::bilinear::prep_bilin_row8;
 use rows::bilinear::prep_bilin_row16;
 use rows::bilinear::put_bilin_row8;
 use rows::bilinear::put_bilin_row16;
-use rows::warp::half_power;
+use rows::numbers::half_power;
 
 // A fraction of sixteenths.
 pub fn sixteenth_ok(f: i32) -> bool

@@ -11,8 +11,15 @@ use crate::refuse::held;
 use crate::refuse::needed;
 use crate::refuse::sizes;
 use crate::refuse::stride;
+use rows::numbers::half_power;
 use rows::subpel::eight;
-use rows::warp::half_power;
+
+// The motion of an 8-tap block: the two fractions and the filter type.
+pub struct SubpelMotion {
+    pub mx: i32,
+    pub my: i32,
+    pub filter_type: i32,
+}
 
 // A filter type.
 pub fn type_ok(filter_type: i32) -> bool
@@ -58,28 +65,28 @@ fn reads_taps(sl: usize, o: usize, s: usize, w: usize, h: usize, x: usize, y: us
 }
 
 // The tests of the motion and of the tables, as links of the chain.
-fn motion(filter_type: i32, mx: i32, my: i32, rest: u32) -> u32
-    ensures { λ r. ⌜ r ≡ need (typeOk «filter_type») 3 (need (fractionOk «filter_type» mx) 3 (need (fractionOk «filter_type» my) 3 rest)) ⌝ }
+fn motion(m: SubpelMotion, rest: u32) -> u32
+    ensures { λ r. ⌜ r ≡ need (typeOk (m .«filter_type»)) 3 (need (fractionOk (m .«filter_type») (m .mx)) 3
+        (need (fractionOk (m .«filter_type») (m .my)) 3 rest)) ⌝ }
 {
-    needed(
-        type_ok(filter_type),
+    let t = m.filter_type;
+    let fractions = needed(
+        fraction_ok(t, m.mx),
         3,
-        needed(
-            fraction_ok(filter_type, mx),
-            3,
-            needed(fraction_ok(filter_type, my), 3, rest),
-        ),
-    )
+        needed(fraction_ok(t, m.my), 3, rest),
+    );
+    needed(type_ok(t), 3, fractions)
 }
 
-fn tables(filter_type: i32, mx: i32, my: i32, tl: usize, el: usize, rest: u32) -> u32
-    ensures { λ r. ⌜ r
-        ≡ need (subpelOk tl) 4 (need (wholeFilters el) 4 (need (filterIn «filter_type» mx el) 4 (need (filterIn «filter_type» my el) 4 rest))) ⌝ }
+fn tables(m: SubpelMotion, tl: usize, el: usize, rest: u32) -> u32
+    ensures { λ r. ⌜ r ≡ need (subpelOk tl) 4 (need (wholeFilters el) 4
+        (need (filterIn (m .«filter_type») (m .mx) el) 4 (need (filterIn (m .«filter_type») (m .my) el) 4 rest))) ⌝ }
 {
+    let t = m.filter_type;
     let there = needed(
-        filter_in(filter_type, mx, el),
+        filter_in(t, m.mx, el),
         4,
-        needed(filter_in(filter_type, my, el), 4, rest),
+        needed(filter_in(t, m.my, el), 4, rest),
     );
     needed(tl == 600, 4, needed(el % 8 == 0, 4, there))
 }
@@ -93,30 +100,20 @@ pub fn check_8tap(
     src_stride: usize,
     w: usize,
     h: usize,
-    mx: i32,
-    my: i32,
-    filter_type: i32,
+    m: SubpelMotion,
     tl: usize,
     el: usize,
 ) -> u32
-    ensures { λ r. ⌜ r ≡ lowest (subpelTests deep dl «dst_stride» sl «src_off» «src_stride» w h mx my «filter_type» tl el) ⌝ }
+    ensures { λ r. ⌜ r ≡ lowest (subpelTests deep dl «dst_stride» sl «src_off» «src_stride» w h
+        (m .mx) (m .my) (m .«filter_type») tl el) ⌝ }
 {
     let shape = sizes(w, h, stride(w, dst_stride, stride(w, src_stride, 0)));
     if shape != 0 {
         return shape;
     }
-    let reads = reads_taps(sl, src_off, src_stride, w, h, on_axis(mx), on_axis(my));
+    let reads = reads_taps(sl, src_off, src_stride, w, h, on_axis(m.mx), on_axis(m.my));
     let buffers = needed(reads, 5, held(dl, dst_stride, w, h, 6, 0));
-    needed(
-        deep,
-        3,
-        motion(
-            filter_type,
-            mx,
-            my,
-            tables(filter_type, mx, my, tl, el, buffers),
-        ),
-    )
+    needed(deep, 3, motion(m, tables(m, tl, el, buffers)))
 }
 
 // The filter of an axis: none, or the number of one in a lent table.
@@ -194,22 +191,23 @@ pub fn plan_8tap(
     s: usize,
     w: usize,
     h: usize,
-    mx: i32,
-    my: i32,
-    filter_type: i32,
+    m: SubpelMotion,
     b: u32,
     subpel: &[i8],
     ext: &[i8],
 ) -> Plan
-    requires { ⌜ (b ≤ 4) × (3 * on my * s + 3 * on mx ≤ o) × Held (length (now subpel)) (length (now ext)) (filterOf «filter_type» (up mx) w)
-        × Held (length (now subpel)) (length (now ext)) (filterOf «filter_type» (up my) h) ⌝ }
-    ensures { λ r. ⌜ r ≡ planOf o s w h (now (subpel .entry)) (now (ext .entry)) «filter_type» (filterBits «filter_type») b (up mx) (up my) ⌝ }
+    requires { ⌜ (b ≤ 4) × (3 * on (m .my) * s + 3 * on (m .mx) ≤ o)
+        × Held (length (now subpel)) (length (now ext)) (filterOf (m .«filter_type») (up (m .mx)) w)
+        × Held (length (now subpel)) (length (now ext)) (filterOf (m .«filter_type») (up (m .my)) h) ⌝ }
+    ensures { λ r. ⌜ r ≡ planOf o s w h (now (subpel .entry)) (now (ext .entry))
+        (m .«filter_type») (filterBits (m .«filter_type»)) b (up (m .mx)) (up (m .my)) ⌝ }
 {
-    let n = filter_bits(filter_type);
-    let f = taps(subpel, ext, get_filter(mx, filter_type, w));
-    let g = taps(subpel, ext, get_filter(my, filter_type, h));
-    let x = on_axis(mx);
-    let y = on_axis(my);
+    let t = m.filter_type;
+    let n = filter_bits(t);
+    let f = taps(subpel, ext, get_filter(m.mx, t, w));
+    let g = taps(subpel, ext, get_filter(m.my, t, h));
+    let x = on_axis(m.mx);
+    let y = on_axis(m.my);
     let round = half_power(n);
     if x == 0 {
         if y == 0 {

@@ -44,47 +44,16 @@ pub fn put_kind8(
     ensures { λ _. ⌜ now (dst .exit) ≡ fill (now (dst .entry)) «dst_stride» w h (λ i j. putRule 255 4
         (now (subpel .entry)) (now (ext .entry)) (now (warp .entry)) k w h i j (aroundPart (kindNumber k) (now (src .entry)) s i j)) ⌝ }
 {
-    let first = 3 * s + 3; // the block's, behind a margin of 3
+    let o = 3 * s + 3; // the block's first pixel, behind a margin of 3
     match k {
         Kind::Copy => put_rows8(dst, dst_stride, src, s, w, h),
-        Kind::Subpel(m) => put_8tap_rows8(
-            dst,
-            dst_stride,
-            src,
-            first,
-            s,
-            w,
-            h,
-            m.mx,
-            m.my,
-            m.filter_type,
-            subpel,
-            ext,
-        ),
-        Kind::Bilinear(m) => put_bilin_rows8(
-            dst,
-            dst_stride,
-            src,
-            s,
-            w,
-            h,
-            above(m.mx),
-            above(m.my),
-        ),
-        Kind::Warp(m) => warp_put8(
-            dst,
-            dst_stride,
-            src,
-            s,
-            first,
-            m.a,
-            m.b,
-            m.c,
-            m.d,
-            m.mx,
-            m.my,
-            warp,
-        ),
+        Kind::Subpel(m) => put_8tap_rows8(dst, dst_stride, src, o, s, w, h, m, subpel, ext),
+        Kind::Bilinear(m) => {
+            let f = above(m.mx);
+            let g = above(m.my);
+            put_bilin_rows8(dst, dst_stride, src, s, w, h, f, g)
+        }
+        Kind::Warp(m) => warp_put8(dst, dst_stride, src, s, o, m, warp),
     }
 }
 
@@ -106,52 +75,16 @@ pub fn put_kind16(
     ensures { λ _. ⌜ now (dst .exit) ≡ fill (now (dst .entry)) «dst_stride» w h (λ i j. putRule (d .max) (d .bits)
         (now (subpel .entry)) (now (ext .entry)) (now (warp .entry)) k w h i j (aroundPart (kindNumber k) (now (src .entry)) s i j)) ⌝ }
 {
-    let first = 3 * s + 3; // the block's, behind a margin of 3
+    let o = 3 * s + 3; // the block's first pixel, behind a margin of 3
     match k {
         Kind::Copy => put_rows16(dst, dst_stride, src, s, w, h),
-        Kind::Subpel(m) => put_8tap_rows16(
-            d,
-            dst,
-            dst_stride,
-            src,
-            first,
-            s,
-            w,
-            h,
-            m.mx,
-            m.my,
-            m.filter_type,
-            subpel,
-            ext,
-        ),
-        Kind::Bilinear(m) => put_bilin_rows16(
-            dst,
-            dst_stride,
-            src,
-            s,
-            w,
-            h,
-            above(m.mx),
-            above(m.my),
-            d.bits,
-            d.max,
-        ),
-        Kind::Warp(m) => warp_put16(
-            dst,
-            dst_stride,
-            src,
-            s,
-            first,
-            m.a,
-            m.b,
-            m.c,
-            m.d,
-            m.mx,
-            m.my,
-            warp,
-            d.bits,
-            d.max,
-        ),
+        Kind::Subpel(m) => put_8tap_rows16(d, dst, dst_stride, src, o, s, w, h, m, subpel, ext),
+        Kind::Bilinear(m) => {
+            let f = above(m.mx);
+            let g = above(m.my);
+            put_bilin_rows16(dst, dst_stride, src, s, w, h, f, g, d.bits, d.max)
+        }
+        Kind::Warp(m) => warp_put16(d, dst, dst_stride, src, s, o, m, warp),
     }
 }
 
@@ -173,47 +106,16 @@ pub fn prep_kind8(
     ensures { λ _. ⌜ now (tmp .exit) ≡ fill (now (tmp .entry)) «tmp_stride» w h (λ i j. prepRule 4 0
         (now (subpel .entry)) (now (ext .entry)) (now (warp .entry)) k w h i j (aroundPart (kindNumber k) (now (src .entry)) s i j)) ⌝ }
 {
-    let first = 3 * s + 3; // the block's, behind a margin of 3
+    let o = 3 * s + 3; // the block's first pixel, behind a margin of 3
     match k {
         Kind::Copy => prep_rows8(tmp, tmp_stride, src, s, w, h),
-        Kind::Subpel(m) => prep_8tap_rows8(
-            tmp,
-            tmp_stride,
-            src,
-            first,
-            s,
-            w,
-            h,
-            m.mx,
-            m.my,
-            m.filter_type,
-            subpel,
-            ext,
-        ),
-        Kind::Bilinear(m) => prep_bilin_rows8(
-            tmp,
-            tmp_stride,
-            src,
-            s,
-            w,
-            h,
-            above(m.mx),
-            above(m.my),
-        ),
-        Kind::Warp(m) => warp_prep8(
-            tmp,
-            tmp_stride,
-            src,
-            s,
-            first,
-            m.a,
-            m.b,
-            m.c,
-            m.d,
-            m.mx,
-            m.my,
-            warp,
-        ),
+        Kind::Subpel(m) => prep_8tap_rows8(tmp, tmp_stride, src, o, s, w, h, m, subpel, ext),
+        Kind::Bilinear(m) => {
+            let f = above(m.mx);
+            let g = above(m.my);
+            prep_bilin_rows8(tmp, tmp_stride, src, s, w, h, f, g)
+        }
+        Kind::Warp(m) => warp_prep8(tmp, tmp_stride, src, s, o, m, warp),
     }
 }
 
@@ -235,51 +137,15 @@ pub fn prep_kind16(
     ensures { λ _. ⌜ now (tmp .exit) ≡ fill (now (tmp .entry)) «tmp_stride» w h (λ i j. prepRule (d .bits) (d .bias)
         (now (subpel .entry)) (now (ext .entry)) (now (warp .entry)) k w h i j (aroundPart (kindNumber k) (now (src .entry)) s i j)) ⌝ }
 {
-    let first = 3 * s + 3; // the block's, behind a margin of 3
+    let o = 3 * s + 3; // the block's first pixel, behind a margin of 3
     match k {
         Kind::Copy => prep_rows16(tmp, tmp_stride, src, s, w, h, d.bits, d.bias),
-        Kind::Subpel(m) => prep_8tap_rows16(
-            d,
-            tmp,
-            tmp_stride,
-            src,
-            first,
-            s,
-            w,
-            h,
-            m.mx,
-            m.my,
-            m.filter_type,
-            subpel,
-            ext,
-        ),
-        Kind::Bilinear(m) => prep_bilin_rows16(
-            tmp,
-            tmp_stride,
-            src,
-            s,
-            w,
-            h,
-            above(m.mx),
-            above(m.my),
-            d.bits,
-            d.bias,
-        ),
-        Kind::Warp(m) => warp_prep16(
-            tmp,
-            tmp_stride,
-            src,
-            s,
-            first,
-            m.a,
-            m.b,
-            m.c,
-            m.d,
-            m.mx,
-            m.my,
-            warp,
-            d.bits,
-            d.bias,
-        ),
+        Kind::Subpel(m) => prep_8tap_rows16(d, tmp, tmp_stride, src, o, s, w, h, m, subpel, ext),
+        Kind::Bilinear(m) => {
+            let f = above(m.mx);
+            let g = above(m.my);
+            prep_bilin_rows16(tmp, tmp_stride, src, s, w, h, f, g, d.bits, d.bias)
+        }
+        Kind::Warp(m) => warp_prep16(d, tmp, tmp_stride, src, s, o, m, warp),
     }
 }

@@ -8,6 +8,7 @@ ghost use Rattle.blocks.specs.Window.{planeW, frameSizesOk, frameNamesOk
 ghost use Rattle.blocks.specs.Order.{kindNumber, kindOf, kindSizeOk, motionOk, filtersOk, orderTests};
 use crate::bilinear::sixteenth_ok;
 use crate::edge::places;
+use crate::filters::SubpelMotion;
 use crate::filters::filter_in;
 use crate::filters::fraction_ok;
 use crate::filters::type_ok;
@@ -20,28 +21,12 @@ use crate::refuse::needed;
 use crate::refuse::sizes;
 use crate::refuse::stride;
 use crate::shear::within;
+use crate::warp::Shears;
 use crate::warp::filters_there;
 use crate::window::window_held;
 
-// The motion of an 8-tap block: the two fractions and the filter type.
-pub struct SubpelMotion {
-    pub mx: i32,
-    pub my: i32,
-    pub filter_type: i32,
-}
-
 // The motion of a bilinear block: the two fractions.
 pub struct BilinMotion {
-    pub mx: i32,
-    pub my: i32,
-}
-
-// The four shears of a warped block, and its mx and my.
-pub struct Shears {
-    pub a: i16,
-    pub b: i16,
-    pub c: i16,
-    pub d: i16,
     pub mx: i32,
     pub my: i32,
 }
@@ -143,7 +128,7 @@ fn filters_ok(k: Kind, el: usize, wl: usize) -> bool
             filter_in(t, m.mx, el) & filter_in(t, m.my, el)
         }
         Kind::Bilinear(_) => true,
-        Kind::Warp(s) => filters_there(s.a, s.b, s.c, s.d, s.mx, s.my, wl / 8),
+        Kind::Warp(s) => filters_there(s, wl / 8),
     }
 }
 

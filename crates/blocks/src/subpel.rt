@@ -11,6 +11,7 @@ ghost use Rattle.blocks.specs.Refuse.{depthOk};
 ghost use Rattle.blocks.specs.Ready.{Block, Rows, Bits, Taps, Lines};
 ghost use Rattle.blocks.specs.Subpel.{putLine, prepLine, along, put8Rule, prep8Rule, Put8Answer, Prep8Answer};
 use crate::filters::Plan;
+use crate::filters::SubpelMotion;
 use crate::filters::check_8tap;
 use crate::filters::plan_8tap;
 use crate::refuse::DepthNumbers;
@@ -20,6 +21,7 @@ use rows::copy::copy_row8;
 use rows::copy::copy_row16;
 use rows::copy::prep_row8;
 use rows::copy::prep_row16;
+use rows::numbers::half_power;
 use rows::subpel::mid_prep_row;
 use rows::subpel::mid_row8;
 use rows::subpel::mid_row16;
@@ -27,7 +29,6 @@ use rows::subpel::tap_mid_row8;
 use rows::subpel::tap_mid_row16;
 use rows::subpel::tap_row8;
 use rows::subpel::tap_row16;
-use rows::warp::half_power;
 
 // A row by one filter at most: without one, step is 0.
 fn put_line_row8(dst: &mut [u8], src: &[u8], o: usize, step: usize, f: &[i8; 8], r: u32, n: u32)
@@ -163,19 +164,18 @@ pub fn put_8tap_rows8(
     s: usize,
     w: usize,
     h: usize,
-    mx: i32,
-    my: i32,
-    filter_type: i32,
+    m: SubpelMotion,
     subpel: &[i8],
     ext: &[i8],
 )
     requires { ⌜ Block w h × Rows (length (now dst)) «dst_stride» w h
-        × Taps (length (now src)) o s w h mx my «filter_type» (length (now subpel)) (length (now ext)) ⌝ }
+        × Taps (length (now src)) o s w h (m .mx) (m .my) (m .«filter_type») (length (now subpel)) (length (now ext)) ⌝ }
     ensures { λ _. ⌜ now (dst .exit)
         ≡ fill (now (dst .entry)) «dst_stride» w h
-        (λ i j. put8Rule 255 4 (now (subpel .entry)) (now (ext .entry)) mx my «filter_type» w h (around 3 (now (src .entry)) o s i j)) ⌝ }
+        (λ i j. put8Rule 255 4 (now (subpel .entry)) (now (ext .entry)) (m .mx) (m .my) (m .«filter_type») w h
+        (around 3 (now (src .entry)) o s i j)) ⌝ }
 {
-    let p = plan_8tap(o, s, w, h, mx, my, filter_type, 4, subpel, ext);
+    let p = plan_8tap(o, s, w, h, m, 4, subpel, ext);
     if p.both {
         let n = p.bits;
         let g = p.second;
@@ -195,19 +195,18 @@ pub fn prep_8tap_rows8(
     s: usize,
     w: usize,
     h: usize,
-    mx: i32,
-    my: i32,
-    filter_type: i32,
+    m: SubpelMotion,
     subpel: &[i8],
     ext: &[i8],
 )
     requires { ⌜ Block w h × Rows (length (now tmp)) «tmp_stride» w h
-        × Taps (length (now src)) o s w h mx my «filter_type» (length (now subpel)) (length (now ext)) ⌝ }
+        × Taps (length (now src)) o s w h (m .mx) (m .my) (m .«filter_type») (length (now subpel)) (length (now ext)) ⌝ }
     ensures { λ _. ⌜ now (tmp .exit)
         ≡ fill (now (tmp .entry)) «tmp_stride» w h
-        (λ i j. prep8Rule 4 0 (now (subpel .entry)) (now (ext .entry)) mx my «filter_type» w h (around 3 (now (src .entry)) o s i j)) ⌝ }
+        (λ i j. prep8Rule 4 0 (now (subpel .entry)) (now (ext .entry)) (m .mx) (m .my) (m .«filter_type») w h
+        (around 3 (now (src .entry)) o s i j)) ⌝ }
 {
-    let p = plan_8tap(o, s, w, h, mx, my, filter_type, 4, subpel, ext);
+    let p = plan_8tap(o, s, w, h, m, 4, subpel, ext);
     if p.both {
         let n = p.bits;
         let g = p.second;
@@ -237,6 +236,11 @@ pub extern "C" fn hv_put_8tap_8bpc(
     ensures { λ r. ⌜ Put8Answer true 8 (now (dst .entry)) «dst_stride» (now (src .entry)) «src_off» «src_stride» w h mx my «filter_type» (now (subpel .entry))
         (now (ext .entry)) r (now (dst .exit)) ⌝ }
 {
+    let m = SubpelMotion {
+        mx,
+        my,
+        filter_type,
+    };
     let number = check_8tap(
         true,
         dst.len(),
@@ -246,9 +250,7 @@ pub extern "C" fn hv_put_8tap_8bpc(
         src_stride,
         w,
         h,
-        mx,
-        my,
-        filter_type,
+        m,
         subpel.len(),
         ext.len(),
     );
@@ -261,9 +263,7 @@ pub extern "C" fn hv_put_8tap_8bpc(
             src_stride,
             w,
             h,
-            mx,
-            my,
-            filter_type,
+            m,
             subpel,
             ext,
         );
@@ -289,6 +289,11 @@ pub extern "C" fn hv_prep_8tap_8bpc(
     ensures { λ r. ⌜ Prep8Answer true 8 (now (tmp .entry)) «tmp_stride» (now (src .entry)) «src_off» «src_stride» w h mx my «filter_type»
         (now (subpel .entry)) (now (ext .entry)) r (now (tmp .exit)) ⌝ }
 {
+    let m = SubpelMotion {
+        mx,
+        my,
+        filter_type,
+    };
     let number = check_8tap(
         true,
         tmp.len(),
@@ -298,9 +303,7 @@ pub extern "C" fn hv_prep_8tap_8bpc(
         src_stride,
         w,
         h,
-        mx,
-        my,
-        filter_type,
+        m,
         subpel.len(),
         ext.len(),
     );
@@ -313,9 +316,7 @@ pub extern "C" fn hv_prep_8tap_8bpc(
             src_stride,
             w,
             h,
-            mx,
-            my,
-            filter_type,
+            m,
             subpel,
             ext,
         );
@@ -456,20 +457,19 @@ pub fn put_8tap_rows16(
     s: usize,
     w: usize,
     h: usize,
-    mx: i32,
-    my: i32,
-    filter_type: i32,
+    m: SubpelMotion,
     subpel: &[i8],
     ext: &[i8],
 )
     requires { ⌜ Bits (d .bits) (d .bias) × Block w h × Rows (length (now dst)) «dst_stride» w h
-        × Taps (length (now src)) o s w h mx my «filter_type» (length (now subpel)) (length (now ext)) × (d .max < 2 ^ 15) ⌝ }
+        × Taps (length (now src)) o s w h (m .mx) (m .my) (m .«filter_type») (length (now subpel)) (length (now ext)) × (d .max < 2 ^ 15) ⌝ }
     ensures { λ _. ⌜ now (dst .exit)
         ≡ fill (now (dst .entry)) «dst_stride» w h
-        (λ i j. put8Rule (d .max) (d .bits) (now (subpel .entry)) (now (ext .entry)) mx my «filter_type» w h (around 3 (now (src .entry)) o s i j)) ⌝ }
+        (λ i j. put8Rule (d .max) (d .bits) (now (subpel .entry)) (now (ext .entry)) (m .mx) (m .my) (m .«filter_type») w h
+        (around 3 (now (src .entry)) o s i j)) ⌝ }
 {
     let bits = d.bits;
-    let p = plan_8tap(o, s, w, h, mx, my, filter_type, bits, subpel, ext);
+    let p = plan_8tap(o, s, w, h, m, bits, subpel, ext);
     if p.both {
         let n = p.bits;
         let g = p.second;
@@ -490,20 +490,19 @@ pub fn prep_8tap_rows16(
     s: usize,
     w: usize,
     h: usize,
-    mx: i32,
-    my: i32,
-    filter_type: i32,
+    m: SubpelMotion,
     subpel: &[i8],
     ext: &[i8],
 )
     requires { ⌜ Bits (d .bits) (d .bias) × Block w h × Rows (length (now tmp)) «tmp_stride» w h
-        × Taps (length (now src)) o s w h mx my «filter_type» (length (now subpel)) (length (now ext)) ⌝ }
+        × Taps (length (now src)) o s w h (m .mx) (m .my) (m .«filter_type») (length (now subpel)) (length (now ext)) ⌝ }
     ensures { λ _. ⌜ now (tmp .exit)
         ≡ fill (now (tmp .entry)) «tmp_stride» w h
-        (λ i j. prep8Rule (d .bits) (d .bias) (now (subpel .entry)) (now (ext .entry)) mx my «filter_type» w h (around 3 (now (src .entry)) o s i j)) ⌝ }
+        (λ i j. prep8Rule (d .bits) (d .bias) (now (subpel .entry)) (now (ext .entry)) (m .mx) (m .my) (m .«filter_type») w h
+        (around 3 (now (src .entry)) o s i j)) ⌝ }
 {
     let bits = d.bits;
-    let p = plan_8tap(o, s, w, h, mx, my, filter_type, bits, subpel, ext);
+    let p = plan_8tap(o, s, w, h, m, bits, subpel, ext);
     if p.both {
         let n = p.bits;
         let g = p.second;
@@ -534,6 +533,11 @@ pub extern "C" fn hv_put_8tap_16bpc(
     ensures { λ r. ⌜ Put8Answer (depthOk depth) (up depth) (now (dst .entry)) «dst_stride» (now (src .entry)) «src_off» «src_stride» w h mx my «filter_type»
         (now (subpel .entry)) (now (ext .entry)) r (now (dst .exit)) ⌝ }
 {
+    let m = SubpelMotion {
+        mx,
+        my,
+        filter_type,
+    };
     let number = check_8tap(
         depth_ok(depth),
         dst.len(),
@@ -543,9 +547,7 @@ pub extern "C" fn hv_put_8tap_16bpc(
         src_stride,
         w,
         h,
-        mx,
-        my,
-        filter_type,
+        m,
         subpel.len(),
         ext.len(),
     );
@@ -560,9 +562,7 @@ pub extern "C" fn hv_put_8tap_16bpc(
             src_stride,
             w,
             h,
-            mx,
-            my,
-            filter_type,
+            m,
             subpel,
             ext,
         );
@@ -589,6 +589,11 @@ pub extern "C" fn hv_prep_8tap_16bpc(
     ensures { λ r. ⌜ Prep8Answer (depthOk depth) (up depth) (now (tmp .entry)) «tmp_stride» (now (src .entry)) «src_off» «src_stride» w h mx my «filter_type»
         (now (subpel .entry)) (now (ext .entry)) r (now (tmp .exit)) ⌝ }
 {
+    let m = SubpelMotion {
+        mx,
+        my,
+        filter_type,
+    };
     let number = check_8tap(
         depth_ok(depth),
         tmp.len(),
@@ -598,9 +603,7 @@ pub extern "C" fn hv_prep_8tap_16bpc(
         src_stride,
         w,
         h,
-        mx,
-        my,
-        filter_type,
+        m,
         subpel.len(),
         ext.len(),
     );
@@ -615,9 +618,7 @@ pub extern "C" fn hv_prep_8tap_16bpc(
             src_stride,
             w,
             h,
-            mx,
-            my,
-            filter_type,
+            m,
             subpel,
             ext,
         );

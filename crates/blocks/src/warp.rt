@@ -10,6 +10,7 @@ ghost use Rattle.rows.specs.Warp.{filterNo, isThere, every, allThere, warped, w
 ghost use Rattle.blocks.specs.Refuse.{need, lowest, strideOk, holds, reads, wholeFilters, depthOk};
 ghost use Rattle.blocks.specs.Ready.{Rows, Bits, Pass, Warps};
 ghost use Rattle.blocks.specs.Warp.{warpPlaceOk, warpTests, WarpAnswer, WarpTAnswer};
+use crate::refuse::DepthNumbers;
 use crate::refuse::depth_numbers;
 use crate::refuse::depth_ok;
 use crate::refuse::held;
@@ -22,6 +23,16 @@ use rows::warp::warp_column16;
 use rows::warp::warp_prep_row;
 use rows::warp::warp_put_row8;
 use rows::warp::warp_put_row16;
+
+// The four shears of a warped block, and its mx and my.
+pub struct Shears {
+    pub a: i16,
+    pub b: i16,
+    pub c: i16,
+    pub d: i16,
+    pub mx: i32,
+    pub my: i32,
+}
 
 // The filter of column c of row r of a pass is one of the table's n.
 fn corner_there(m: i32, a: i16, b: i16, r: u32, c: u32, n: usize) -> bool
@@ -43,11 +54,11 @@ fn pass_there(m: i32, a: i16, b: i16, last: u32, n: usize) -> bool
         & corner_there(m, a, b, last, 7, n)
 }
 
-pub fn filters_there(a: i16, b: i16, c: i16, d: i16, mx: i32, my: i32, n: usize) -> bool
-    requires { ⌜ (natAbs mx ≤ 2 ^ 20) × (natAbs my ≤ 2 ^ 20) ⌝ }
-    ensures { λ v. ⌜ v ≡ allThere n mx my a b c d ⌝ }
+pub fn filters_there(m: Shears, n: usize) -> bool
+    requires { ⌜ (natAbs (m .mx) ≤ 2 ^ 20) × (natAbs (m .my) ≤ 2 ^ 20) ⌝ }
+    ensures { λ v. ⌜ v ≡ allThere n (m .mx) (m .my) (m .a) (m .b) (m .c) (m .d) ⌝ }
 {
-    pass_there(mx, a, b, 14, n) & pass_there(my, c, d, 7, n)
+    pass_there(m.mx, m.a, m.b, 14, n) & pass_there(m.my, m.c, m.d, 7, n)
 }
 
 // The source holds the block at place o with its margins, exactly and without a sum that could wrap.
@@ -87,23 +98,18 @@ fn check_buffers(
     sl: usize,
     src_stride: usize,
     src_off: usize,
-    a: i16,
-    b: i16,
-    c: i16,
-    d: i16,
-    mx: i32,
-    my: i32,
+    m: Shears,
     tl: usize,
 ) -> u32
-    requires { ⌜ («src_stride» ≤ 32768) × (natAbs mx ≤ 2 ^ 20) × (natAbs my ≤ 2 ^ 20) ⌝ }
-    ensures { λ r. ⌜ r ≡ need (wholeFilters tl) 4 (need (allThere (tl / 8) mx my a b c d) 4
+    requires { ⌜ («src_stride» ≤ 32768) × (natAbs (m .mx) ≤ 2 ^ 20) × (natAbs (m .my) ≤ 2 ^ 20) ⌝ }
+    ensures { λ r. ⌜ r ≡ need (wholeFilters tl) 4 (need (allThere (tl / 8) (m .mx) (m .my) (m .a) (m .b) (m .c) (m .d)) 4
         (need (reads sl «src_off» «src_stride» 8 8 3 4 3 4) 5 (need (holds dl «dst_stride» 8 8) 6 0))) ⌝ }
 {
     needed(
         tl % 8 == 0,
         4,
         needed(
-            filters_there(a, b, c, d, mx, my, tl / 8),
+            filters_there(m, tl / 8),
             4,
             needed(
                 margins_held(sl, src_off, src_stride),
@@ -121,34 +127,17 @@ fn check_warp(
     sl: usize,
     src_stride: usize,
     src_off: usize,
-    a: i16,
-    b: i16,
-    c: i16,
-    d: i16,
-    mx: i32,
-    my: i32,
+    m: Shears,
     tl: usize,
 ) -> u32
-    ensures { λ r. ⌜ r ≡ lowest (warpTests deep dl «dst_stride» sl «src_stride» «src_off» a b c d mx my tl) ⌝ }
+    ensures { λ r. ⌜ r ≡ lowest (warpTests deep dl «dst_stride» sl «src_stride» «src_off»
+        (m .a) (m .b) (m .c) (m .d) (m .mx) (m .my) tl) ⌝ }
 {
-    let number = check_numbers(deep, dst_stride, src_stride, mx, my);
+    let number = check_numbers(deep, dst_stride, src_stride, m.mx, m.my);
     if number != 0 {
         return number;
     }
-    check_buffers(
-        dl,
-        dst_stride,
-        sl,
-        src_stride,
-        src_off,
-        a,
-        b,
-        c,
-        d,
-        mx,
-        my,
-        tl,
-    )
+    check_buffers(dl, dst_stride, sl, src_stride, src_off, m, tl)
 }
 
 // The first pass: fifteen rows of eight intermediates, column after column; the first tap of the first stands at place o.
@@ -327,17 +316,13 @@ pub fn warp_put8(
     src: &[u8],
     src_stride: usize,
     src_off: usize,
-    a: i16,
-    b: i16,
-    c: i16,
-    d: i16,
-    mx: i32,
-    my: i32,
+    m: Shears,
     warp: &[i8],
 )
-    requires { ⌜ Warps (length (now dst)) «dst_stride» (length (now src)) «src_off» «src_stride» (length (now warp) / 8) a b c d mx my ⌝ }
+    requires { ⌜ Warps (length (now dst)) «dst_stride» (length (now src)) «src_off» «src_stride» (length (now warp) / 8) m ⌝ }
     ensures { λ _. ⌜ now (dst .exit) ≡ fill (now (dst .entry)) «dst_stride» 8 8
-        (λ i j. warpPut 255 4 (now (warp .entry)) mx my a b c d i j (around 3 (now (src .entry)) «src_off» «src_stride» i j)) ⌝ }
+        (λ i j. warpPut 255 4 (now (warp .entry)) (m .mx) (m .my) (m .a) (m .b) (m .c) (m .d) i j
+        (around 3 (now (src .entry)) «src_off» «src_stride» i j)) ⌝ }
 {
     let mut mid = [0i16; 120];
     warp_mid8(
@@ -346,34 +331,29 @@ pub fn warp_put8(
         src_off - (3 * src_stride + 3),
         src_stride,
         warp,
-        mx,
-        a,
-        b,
+        m.mx,
+        m.a,
+        m.b,
         4,
     );
-    warp_put_rows8(dst, dst_stride, &mid, warp, my, c, d, 4);
+    warp_put_rows8(dst, dst_stride, &mid, warp, m.my, m.c, m.d, 4);
 }
 
 pub fn warp_put16(
+    n: DepthNumbers,
     dst: &mut [u16],
     dst_stride: usize,
     src: &[u16],
     src_stride: usize,
     src_off: usize,
-    a: i16,
-    b: i16,
-    c: i16,
-    d: i16,
-    mx: i32,
-    my: i32,
+    m: Shears,
     warp: &[i8],
-    bits: u32,
-    max: u16,
 )
-    requires { ⌜ Warps (length (now dst)) «dst_stride» (length (now src)) «src_off» «src_stride» (length (now warp) / 8) a b c d mx my × (bits ≤ 4)
-        × (max < 2 ^ 15) ⌝ }
+    requires { ⌜ Warps (length (now dst)) «dst_stride» (length (now src)) «src_off» «src_stride» (length (now warp) / 8) m
+        × (n .bits ≤ 4) × (n .max < 2 ^ 15) ⌝ }
     ensures { λ _. ⌜ now (dst .exit) ≡ fill (now (dst .entry)) «dst_stride» 8 8
-        (λ i j. warpPut max bits (now (warp .entry)) mx my a b c d i j (around 3 (now (src .entry)) «src_off» «src_stride» i j)) ⌝ }
+        (λ i j. warpPut (n .max) (n .bits) (now (warp .entry)) (m .mx) (m .my) (m .a) (m .b) (m .c) (m .d) i j
+        (around 3 (now (src .entry)) «src_off» «src_stride» i j)) ⌝ }
 {
     let mut mid = [0i16; 120];
     warp_mid16(
@@ -382,12 +362,12 @@ pub fn warp_put16(
         src_off - (3 * src_stride + 3),
         src_stride,
         warp,
-        mx,
-        a,
-        b,
-        bits,
+        m.mx,
+        m.a,
+        m.b,
+        n.bits,
     );
-    warp_put_rows16(dst, dst_stride, &mid, warp, my, c, d, bits, max);
+    warp_put_rows16(dst, dst_stride, &mid, warp, m.my, m.c, m.d, n.bits, n.max);
 }
 
 pub fn warp_prep8(
@@ -396,17 +376,13 @@ pub fn warp_prep8(
     src: &[u8],
     src_stride: usize,
     src_off: usize,
-    a: i16,
-    b: i16,
-    c: i16,
-    d: i16,
-    mx: i32,
-    my: i32,
+    m: Shears,
     warp: &[i8],
 )
-    requires { ⌜ Warps (length (now tmp)) «tmp_stride» (length (now src)) «src_off» «src_stride» (length (now warp) / 8) a b c d mx my ⌝ }
+    requires { ⌜ Warps (length (now tmp)) «tmp_stride» (length (now src)) «src_off» «src_stride» (length (now warp) / 8) m ⌝ }
     ensures { λ _. ⌜ now (tmp .exit) ≡ fill (now (tmp .entry)) «tmp_stride» 8 8
-        (λ i j. warpPrep 4 0 (now (warp .entry)) mx my a b c d i j (around 3 (now (src .entry)) «src_off» «src_stride» i j)) ⌝ }
+        (λ i j. warpPrep 4 0 (now (warp .entry)) (m .mx) (m .my) (m .a) (m .b) (m .c) (m .d) i j
+        (around 3 (now (src .entry)) «src_off» «src_stride» i j)) ⌝ }
 {
     let mut mid = [0i16; 120];
     warp_mid8(
@@ -415,34 +391,29 @@ pub fn warp_prep8(
         src_off - (3 * src_stride + 3),
         src_stride,
         warp,
-        mx,
-        a,
-        b,
+        m.mx,
+        m.a,
+        m.b,
         4,
     );
-    warp_prep_rows(tmp, tmp_stride, &mid, warp, my, c, d, 0);
+    warp_prep_rows(tmp, tmp_stride, &mid, warp, m.my, m.c, m.d, 0);
 }
 
 pub fn warp_prep16(
+    n: DepthNumbers,
     tmp: &mut [i16],
     tmp_stride: usize,
     src: &[u16],
     src_stride: usize,
     src_off: usize,
-    a: i16,
-    b: i16,
-    c: i16,
-    d: i16,
-    mx: i32,
-    my: i32,
+    m: Shears,
     warp: &[i8],
-    bits: u32,
-    bias: u32,
 )
-    requires { ⌜ Warps (length (now tmp)) «tmp_stride» (length (now src)) «src_off» «src_stride» (length (now warp) / 8) a b c d mx my
-        × Bits bits bias ⌝ }
+    requires { ⌜ Warps (length (now tmp)) «tmp_stride» (length (now src)) «src_off» «src_stride» (length (now warp) / 8) m
+        × Bits (n .bits) (n .bias) ⌝ }
     ensures { λ _. ⌜ now (tmp .exit) ≡ fill (now (tmp .entry)) «tmp_stride» 8 8
-        (λ i j. warpPrep bits bias (now (warp .entry)) mx my a b c d i j (around 3 (now (src .entry)) «src_off» «src_stride» i j)) ⌝ }
+        (λ i j. warpPrep (n .bits) (n .bias) (now (warp .entry)) (m .mx) (m .my) (m .a) (m .b) (m .c) (m .d) i j
+        (around 3 (now (src .entry)) «src_off» «src_stride» i j)) ⌝ }
 {
     let mut mid = [0i16; 120];
     warp_mid16(
@@ -451,12 +422,12 @@ pub fn warp_prep16(
         src_off - (3 * src_stride + 3),
         src_stride,
         warp,
-        mx,
-        a,
-        b,
-        bits,
+        m.mx,
+        m.a,
+        m.b,
+        n.bits,
     );
-    warp_prep_rows(tmp, tmp_stride, &mid, warp, my, c, d, bias);
+    warp_prep_rows(tmp, tmp_stride, &mid, warp, m.my, m.c, m.d, n.bias);
 }
 
 #[no_mangle]
@@ -477,6 +448,7 @@ pub extern "C" fn hv_warp_affine_8x8_8bpc(
     ensures { λ r. ⌜ WarpAnswer true 8 (now (dst .entry)) «dst_stride» (now (src .entry)) «src_stride» «src_off» a b c d mx my
         (now (warp .entry)) r (now (dst .exit)) ⌝ }
 {
+    let m = Shears { a, b, c, d, mx, my };
     let number = check_warp(
         true,
         dst.len(),
@@ -484,29 +456,11 @@ pub extern "C" fn hv_warp_affine_8x8_8bpc(
         src.len(),
         src_stride,
         src_off,
-        a,
-        b,
-        c,
-        d,
-        mx,
-        my,
+        m,
         warp.len(),
     );
     if number == 0 {
-        warp_put8(
-            dst,
-            dst_stride,
-            src,
-            src_stride,
-            src_off,
-            a,
-            b,
-            c,
-            d,
-            mx,
-            my,
-            warp,
-        );
+        warp_put8(dst, dst_stride, src, src_stride, src_off, m, warp);
     }
     number
 }
@@ -530,6 +484,7 @@ pub extern "C" fn hv_warp_affine_8x8_16bpc(
     ensures { λ r. ⌜ WarpAnswer (depthOk depth) (up depth) (now (dst .entry)) «dst_stride» (now (src .entry)) «src_stride» «src_off» a b c d mx my
         (now (warp .entry)) r (now (dst .exit)) ⌝ }
 {
+    let m = Shears { a, b, c, d, mx, my };
     let number = check_warp(
         depth_ok(depth),
         dst.len(),
@@ -537,32 +492,12 @@ pub extern "C" fn hv_warp_affine_8x8_16bpc(
         src.len(),
         src_stride,
         src_off,
-        a,
-        b,
-        c,
-        d,
-        mx,
-        my,
+        m,
         warp.len(),
     );
     if number == 0 {
         let n = depth_numbers(depth);
-        warp_put16(
-            dst,
-            dst_stride,
-            src,
-            src_stride,
-            src_off,
-            a,
-            b,
-            c,
-            d,
-            mx,
-            my,
-            warp,
-            n.bits,
-            n.max,
-        );
+        warp_put16(n, dst, dst_stride, src, src_stride, src_off, m, warp);
     }
     number
 }
@@ -585,6 +520,7 @@ pub extern "C" fn hv_warp_affine_8x8t_8bpc(
     ensures { λ r. ⌜ WarpTAnswer true 8 (now (tmp .entry)) «tmp_stride» (now (src .entry)) «src_stride» «src_off» a b c d mx my
         (now (warp .entry)) r (now (tmp .exit)) ⌝ }
 {
+    let m = Shears { a, b, c, d, mx, my };
     let number = check_warp(
         true,
         tmp.len(),
@@ -592,29 +528,11 @@ pub extern "C" fn hv_warp_affine_8x8t_8bpc(
         src.len(),
         src_stride,
         src_off,
-        a,
-        b,
-        c,
-        d,
-        mx,
-        my,
+        m,
         warp.len(),
     );
     if number == 0 {
-        warp_prep8(
-            tmp,
-            tmp_stride,
-            src,
-            src_stride,
-            src_off,
-            a,
-            b,
-            c,
-            d,
-            mx,
-            my,
-            warp,
-        );
+        warp_prep8(tmp, tmp_stride, src, src_stride, src_off, m, warp);
     }
     number
 }
@@ -638,6 +556,7 @@ pub extern "C" fn hv_warp_affine_8x8t_16bpc(
     ensures { λ r. ⌜ WarpTAnswer (depthOk depth) (up depth) (now (tmp .entry)) «tmp_stride» (now (src .entry)) «src_stride» «src_off» a b c d mx my
         (now (warp .entry)) r (now (tmp .exit)) ⌝ }
 {
+    let m = Shears { a, b, c, d, mx, my };
     let number = check_warp(
         depth_ok(depth),
         tmp.len(),
@@ -645,32 +564,12 @@ pub extern "C" fn hv_warp_affine_8x8t_16bpc(
         src.len(),
         src_stride,
         src_off,
-        a,
-        b,
-        c,
-        d,
-        mx,
-        my,
+        m,
         warp.len(),
     );
     if number == 0 {
         let n = depth_numbers(depth);
-        warp_prep16(
-            tmp,
-            tmp_stride,
-            src,
-            src_stride,
-            src_off,
-            a,
-            b,
-            c,
-            d,
-            mx,
-            my,
-            warp,
-            n.bits,
-            n.bias,
-        );
+        warp_prep16(n, tmp, tmp_stride, src, src_stride, src_off, m, warp);
     }
     number
 }

@@ -10,6 +10,7 @@ ghost use Rattle.rows.specs.Bilinear.{bilin, R, bilinAt};
 use crate::near::near_kept;
 use crate::numbers::clip8;
 use crate::numbers::clip16;
+use crate::numbers::half_power;
 use crate::subpel::kept;
 use crate::subpel::rounded;
 
@@ -70,20 +71,12 @@ fn low_between(src: &[u16], p: usize, step: usize, f: u32) -> u16
     bilin_bytes(src[p] % 256, src[p + step] % 256, f)
 }
 
-// Half of 2^n, nothing for n = 0.
-fn half_of(n: u32) -> u32
-    requires { ⌜ n ≤ 8 ⌝ }
-    ensures { λ r. ⌜ (r ≡ half n) × (r ≤ 128) ⌝ }
-{
-    (1u32 << n) >> 1
-}
-
 // R(n)
 fn bilin_rnd(s: i32, n: u32) -> i32
     requires { ⌜ (mag s < 2 ^ 22) × (n ≤ 8) ⌝ }
     ensures { λ r. ⌜ (r ≡ R n s) × (mag r < 2 ^ 23) ⌝ }
 {
-    rounded(s, half_of(n), n)
+    rounded(s, half_power(n), n)
 }
 
 // clip((R(n) + r) >> k) of bytes: with r = 2^(B-1) and k = B put's horizontal case, with r = 0 and k = 0 its others
@@ -107,7 +100,7 @@ fn both_halves(n: u32, r: u32) -> u16
     requires { ⌜ (n ≤ 4) × (half n + r * 2 ^ n ≤ 15) ⌝ }
     ensures { λ v. ⌜ v ≡ half n + r * 2 ^ n ⌝ }
 {
-    (half_of(n) + (r << n)) as u16
+    (half_power(n) + (r << n)) as u16
 }
 
 // (256 high + low + r) >> 4, no more than max: each step is of sixteen bits.
@@ -124,7 +117,7 @@ fn bilin_kept(s: i32, n: u32, bias: i16) -> i16
     requires { ⌜ (mag s < 2 ^ 22) × (n ≤ 8) ⌝ }
     ensures { λ v. ⌜ v ≡ minus16 (low16 (R n s)) bias ⌝ }
 {
-    kept(s, half_of(n), n, bias)
+    kept(s, half_power(n), n, bias)
 }
 
 // Pixels from pixels: put, one axis.
@@ -215,7 +208,7 @@ pub fn prep_bilin_row16(
         (λ i. minus16 (low16 (R n (bilinAt (px (now (src .entry))) (o + i) step f))) bias) ⌝ }
 {
     let w = tmp.len();
-    let r = half_of(n);
+    let r = half_power(n);
     let mut i = 0;
     while i < w {
         let high = high_between(src, o + i, step, f);

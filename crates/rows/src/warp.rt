@@ -11,6 +11,7 @@ ghost use Rattle.rows.specs.Subpel.{filter};
 ghost use Rattle.rows.specs.Warp.{filterNo, isThere, warped, RowThere};
 use crate::numbers::clip8;
 use crate::numbers::clip16;
+use crate::numbers::half_power;
 use crate::numbers::keep16;
 use crate::numbers::wrapping_sub16;
 use crate::subpel::rounded;
@@ -33,14 +34,6 @@ fn filter_for<'a>(table: &'a [i8], m: i32, a: i16, b: i16, r: u32, c: u32) -> &'
 {
     let q = 8 * filter_no(m, a, b, r, c) as usize;
     &table[q..q + 8]
-}
-
-// Half of 2^n, for the rounding of a shift by n.
-pub fn half_power(n: u32) -> u32
-    requires { ⌜ (1 ≤ n) × (n ≤ 11) ⌝ }
-    ensures { λ r. ⌜ (r ≡ half n) × (r ≤ 1024) ⌝ }
-{
-    1u32 << (n - 1)
 }
 
 // low16((S + half of 2^n) >> n), of a sum S

@@ -3,19 +3,15 @@
 use mathlib.Core.Path.{_≡_, ap, fun-ext}
 use mathlib.Core.Bool.{_&&_}
 use mathlib.Core.List.{List}
-use Prim.Native.Nat.{ℕ, zero, suc, _+_, _-_, _*_, _/_, _^_, _≤_, _<_}
+use Prim.Native.Nat.{ℕ, zero, suc, _+_, _-_, _*_, _/_, _≤_, _<_}
 use native.Mathlib.Omega.{arith}
 use borrow.Author.Tests.{eqb-true}
 use lib.Dec.{eqb}
-use lib.IntN.{ℤ}
 use lib.ListN.{getD}
-use lib.Signed.{mag}
-use mir.Syntax.{Width, w16, w32}
-use mir.Val.{toZ, ofZ, hbits}
+use mir.Syntax.{w16, w32}
 use Rattle.rows.specs.Numbers.{up}
 use Rattle.rows.specs.Places.{pixel, around}
 use Rattle.rows.proofs.Laws.Fill.{and-true}
-use Rattle.rows.proofs.Laws.Signed.{back, fit}
 use Rattle.blocks.specs.Subpel.{typeOk, sixteenthOk, fractionOk, filterIn, on}
 use Rattle.blocks.specs.Warp.{warpPlaceOk}
 use Rattle.blocks.specs.Window.{before, after, aroundPart}
@@ -23,11 +19,12 @@ use Rattle.blocks.specs.Order.{kindSizeOk, motionOk, filtersOk}
 use Rattle.blocks.specs.Ready.{Block, Rows, Taps, Bilin, Warps, Windowed}
 use Rattle.blocks.specs.declared.order.Kind.{Kind}
 use Rattle.blocks.specs.declared.order.Kind.the-variants.{Copy, Subpel, Bilinear, Warp}
-use Rattle.blocks.specs.declared.order.SubpelMotion.{SubpelMotion}
+use Rattle.blocks.specs.declared.filters.SubpelMotion.{SubpelMotion}
 use Rattle.blocks.specs.declared.order.BilinMotion.{BilinMotion}
-use Rattle.blocks.specs.declared.order.Shears.{Shears}
+use Rattle.blocks.specs.declared.warp.Shears.{Shears}
 use Rattle.blocks.proofs.Laws.SubpelReady.{held}
 use Rattle.blocks.proofs.Laws.BilinReady.{sixteenth-met}
+use Rattle.blocks.proofs.Laws.Told.{Told, passed, told-back}
 use Rattle.blocks.proofs.Laws.WarpReady.{passes}
 
 -- ---- a window's places hold those of each tap, with a filter on an axis where x or y is 1
@@ -57,21 +54,15 @@ pub warp-size : {k : Kind} {m : Shears} {sl s w h tl el wl : ℕ} → Windowed k
 unfolding kindSizeOk
 warp-size {k} {m} {sl} {s} {w} {h} p e = let q = and-true (eqb w 8) (eqb h 8) (rw e at (p .size)) in (eqb-true w 8 (q .0), eqb-true h 8 (q .1))
 
--- ---- a kind by its numbers as a call passes them: they are what they were, since each is in the range of its type
-abbrev Told : Width → ℤ → Type 0 → Type 0 → Type 0
-Told w z A B = (A × (mag z < 2 ^ hbits w)) × B
-
-abbrev passed : Width → ℤ → ℤ
-passed w z = toZ w (ofZ w z)
-
+-- ---- a kind by its numbers as a call passes them
 pub subpel-passed : {k : Kind} {m : SubpelMotion} {A B C D : Type 0} → k ≡ Subpel m
     → Told w32 (m .mx) A (Told w32 (m .my) B (Told w32 (m .«filter_type») C D))
     → k ≡ Subpel (record { mx = passed w32 (m .mx); my = passed w32 (m .my); «filter_type» = passed w32 (m .«filter_type») })
-subpel-passed e g = rw (back (fit w32 (g .0 .1)), back (fit w32 (g .1 .0 .1)), back (fit w32 (g .1 .1 .0 .1))) e
+subpel-passed e g = rw (told-back w32 g, told-back w32 (g .1), told-back w32 (g .1 .1)) e
 
 pub bilin-passed : {k : Kind} {m : BilinMotion} {A B C : Type 0} → k ≡ Bilinear m → Told w32 (m .mx) A (Told w32 (m .my) B C)
     → k ≡ Bilinear (record { mx = passed w32 (m .mx); my = passed w32 (m .my) })
-bilin-passed e g = rw (back (fit w32 (g .0 .1)), back (fit w32 (g .1 .0 .1))) e
+bilin-passed e g = rw (told-back w32 g, told-back w32 (g .1)) e
 
 pub warp-passed : {k : Kind} {m : Shears} {A B C D E F G : Type 0} → k ≡ Warp m
     → Told w16 (m .a) A (Told w16 (m .b) B (Told w16 (m .c) C (Told w16 (m .d) D (Told w32 (m .mx) E (Told w32 (m .my) F G)))))
@@ -86,12 +77,12 @@ pub warp-passed : {k : Kind} {m : Shears} {A B C D E F G : Type 0} → k ≡ War
 warp-passed e g =
     let n = g .1 .1 .1 .1 in
     rw (
-      back (fit w16 (g .0 .1)),
-      back (fit w16 (g .1 .0 .1)),
-      back (fit w16 (g .1 .1 .0 .1)),
-      back (fit w16 (g .1 .1 .1 .0 .1)),
-      back (fit w32 (n .0 .1)),
-      back (fit w32 (n .1 .0 .1)),
+      told-back w16 g,
+      told-back w16 (g .1),
+      told-back w16 (g .1 .1),
+      told-back w16 (g .1 .1 .1),
+      told-back w32 n,
+      told-back w32 (n .1),
     ) e
 
 -- ---- what each kind's rows rely on
@@ -141,7 +132,7 @@ module _ {k : Kind} {sl s w h tl el wl dl ds : ℕ} (p : Windowed k sl s w h tl 
         g15 = sixteenth-met (m .my) (f .1);
       }
 
-  pub warp-ready : {m : Shears} → k ≡ Warp m → Warps dl ds sl (3 * s + 3) s (wl / 8) (m .a) (m .b) (m .c) (m .d) (m .mx) (m .my)
+  pub warp-ready : {m : Shears} → k ≡ Warp m → Warps dl ds sl (3 * s + 3) s (wl / 8) m
   unfolding before after motionOk filtersOk
   warp-ready {m} e =
       let q : Windowed (Warp m) sl s w h tl el wl = rw e at p in

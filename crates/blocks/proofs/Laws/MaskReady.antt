@@ -81,8 +81,8 @@ w-mask-ready deep dl ds l1 l2 w h ml ms sign ssHor ssVer e =
 depths : (depth : ℤ) → depthOk depth ≡ true → Depths (up depth) (bitsOf (up depth))
 depths depth e =
     high (λ (n : ℕ). Depths n (bitsOf n)) (deep-high depth e)
-    (record { depth8 = omega arith; depth12 = omega arith; bits2 = omega arith; bits4 = omega arith })
-    (record { depth8 = omega arith; depth12 = omega arith; bits2 = omega arith; bits4 = omega arith })
+    (record { deep = record { least = omega arith; most = omega arith }; bits2 = omega arith; bits4 = omega arith })
+    (record { deep = record { least = omega arith; most = omega arith }; bits2 = omega arith; bits4 = omega arith })
 
 pub depths-met : (depth : ℤ) (d : ℕ) (n : DepthNumbers) → d ≡ up depth → n ≡ numbersOf (up depth) → depthOk depth ≡ true → Depths d (n .bits)
 depths-met depth d n a b e = rw (a, b) (depths depth e)

@@ -19,7 +19,7 @@ use Rattle.blocks.proofs.Laws.Ready.{block-met, rows-met}
 use Rattle.blocks.proofs.Laws.WarpReady.{place-met}
 use Rattle.blocks.specs.declared.frame.Frame.{Frame}
 use Rattle.blocks.specs.declared.order.Order.{Order}
-use Rattle.blocks.specs.declared.order.Shears.{Shears}
+use Rattle.blocks.specs.declared.warp.Shears.{Shears}
 use Rattle.blocks.specs.declared.order.Kind.{Kind}
 use Rattle.blocks.specs.declared.order.Kind.the-variants.{Copy, Subpel, Bilinear, Warp}
 

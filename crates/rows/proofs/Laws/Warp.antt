@@ -2,15 +2,14 @@
 use mathlib.Core.Path.{_≡_, sym, ap, subst, _∙_}
 use mathlib.Core.Bool.{true}
 use mathlib.Core.List.{List}
-use Prim.Native.Nat.{ℕ, _+_, _-_, _*_, _%_, _^_, _≤_, _<_}
-use native.Mathlib.Nat.{mul-le-mul-right, mul-one, one-mul, pow-suc, not-suc-le-zero}
+use Prim.Native.Nat.{ℕ, _+_, _-_, _*_, _^_, _≤_, _<_}
+use native.Mathlib.Nat.{mul-le-mul-right, mul-one, pow-suc, not-suc-le-zero}
 use native.Mathlib.Numerals.{add-one}
 use native.Mathlib.Omega.{arith}
 use borrow.Author.Tests.{ltb-true}
 use lib.Dec.{T}
 use lib.IntN.{ℤ, pos, negsuc, natAbs}
 use lib.ListN.{length}
-use lib.Pow.{shl-exact}
 use lib.Signed.{nonNeg}
 use Rattle.rows.specs.Numbers.{at, half}
 use Rattle.rows.specs.Places.{span}
@@ -26,10 +25,7 @@ unfolding isThere
 in-place n (pos k) e = (tt, ltb-true k n e)
 in-place n (negsuc k) e = absurd (subst T (sym e) tt)
 
--- half of 2^n, as a shift
-pub one-shl : (k : ℕ) → k < 32 → 1 * 2 ^ k % 4294967296 ≡ 2 ^ k
-one-shl k h = shl-exact {a = 1} 1 k 32 (omega arith) (omega arith) ∙ one-mul (2 ^ k)
-
+-- half of 2^n, as a power
 pub half-of : (n : ℕ) → 1 ≤ n → 2 ^ (n - 1) ≡ half n
 half-of n h =
     let e : n - 1 + 1 ≡ n = omega arith in

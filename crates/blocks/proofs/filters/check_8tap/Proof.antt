@@ -1,9 +1,10 @@
 use mathlib.Core.Path.{_≡_, sym, _∙_}
 use native.Mathlib.Omega.{arith}
 use borrow.Author.Needs.{needs}
-use Rattle.rows.proofs.Laws.Signed.{back}
+use mir.Syntax.{w32}
 use Rattle.blocks.specs.Refuse.{lowest}
 use Rattle.blocks.proofs.Laws.Refuse.{later, sooner}
+use Rattle.blocks.proofs.Laws.Told.{told-back}
 use Rattle.blocks.proofs.Laws.SubpelReady.{shapeTests, shape-met}
 use Rattle.blocks.proofs.filters.check_8tap.Statement.{statement}
 use Rattle.blocks.proofs.filters.check_8tap.Tie as tie
@@ -18,14 +19,14 @@ none c = sym (shape (c .before)) ∙ c .if1 .left
 
 reads-taps-requires : tie.Need-reads-taps-requires
 reads-taps-requires c κs =
-    let e = c .before .before in
-    omega (arith, shape-met _ _ _ _ (none e), c .on-axis2 .ensures, c .before .on-axis .ensures)
+    let x = c .before .before in
+    omega (arith, shape-met _ _ _ _ (none (x .before .before)), c .on-axis2 .ensures, x .on-axis .ensures)
 
 returns-2 : tie.Need-returns-2
 returns-2 c =
     let d = c .before .before .before .before .before in
-    let e = d .before .before .before in
-    let s = e .before .before .before .before in
+    let t = d .before .before in
+    let g = t .struct-told2 .given in
     rw (
       c .needed2 .ensures,
       c .before .motion .ensures,
@@ -34,12 +35,11 @@ returns-2 c =
       d .reads-taps .ensures,
       c .before .before .before .before .held .ensures,
       d .before .on-axis2 .ensures,
-      d .before .before .on-axis .ensures,
-      back (s .fits .filter-type),
-      back (s .fits .mx),
-      back (s .fits .my),
+      t .before .on-axis .ensures,
+      told-back w32 g,
+      told-back w32 (g .1),
     )
-    (later (shapeTests _ _ _ _) _ (none e))
+    (later (shapeTests _ _ _ _) _ (none (t .before .before .before)))
 
 pub check-8tap-spec : {M : Type 1} → statement M
 check-8tap-spec =

@@ -1,10 +1,23 @@
 use borrow.Author.Needs.{needs}
-use Rattle.rows.proofs.Laws.Signed.{back}
+use mir.Syntax.{w32}
+use Rattle.blocks.proofs.Laws.Told.{told-back}
 use Rattle.blocks.proofs.filters.motion.Statement.{statement}
 use Rattle.blocks.proofs.filters.motion.Tie as tie
 
 returns : tie.Need-returns
-returns c = let s = c .before .before .before .before .before .before in cc (back (s .fits .filter-type), back (s .fits .mx), back (s .fits .my))
+returns c =
+    let f = c .before .before .before .before in let g = f .before .struct-told3 .given in
+    rw (
+      c .needed3 .ensures,
+      c .before .type-ok .ensures,
+      c .before .before .needed2 .ensures,
+      c .before .before .before .needed .ensures,
+      f .fraction-ok2 .ensures,
+      f .before .before .fraction-ok .ensures,
+      told-back w32 (g .1 .1),
+      told-back w32 g,
+      told-back w32 (g .1),
+    )
 
 pub motion-spec : {M : Type 1} → statement M
 motion-spec =

@@ -6,7 +6,7 @@ use Rattle.rows.specs.Copy.{put}
 use Rattle.blocks.specs.Window.{before}
 use Rattle.blocks.specs.Order.{putRule}
 use Rattle.blocks.proofs.Laws.KindsReady.{copy-ready, subpel-ready, bilin-ready, warp-ready}
-use Rattle.blocks.proofs.Laws.KindsReady.{subpel-passed, bilin-passed, warp-passed, warp-size, from-window, no-margin}
+use Rattle.blocks.proofs.Laws.KindsReady.{bilin-passed, warp-size, from-window, no-margin}
 use Rattle.blocks.proofs.kinds.put_kind16.Statement.{statement}
 use Rattle.blocks.proofs.kinds.put_kind16.Tie as tie
 
@@ -15,24 +15,24 @@ copy-requires c κs = let p = c .before .before .before .before .before .pre in 
 
 subpel-requires : tie.Need-put-8tap-rows16-requires
 subpel-requires c κs =
-    let k = c .before .before .before .before .before in
+    let k = c .before .before in
     let p = k .before .before .before .before .pre in
-    let r = subpel-ready (p .0) (p .1) (subpel-passed (k .k .given .1) (c .struct-told3 .given)) in
+    let r = subpel-ready (p .0) (p .1) (k .k .given .1) in
     (p .3, r .0, r .1, r .2, p .4)
 
 bilin-requires : tie.Need-put-bilin-rows16-requires
 bilin-requires c κs =
-    let b = c .before in
+    let b = c .before .before in
     let a = b .before in
-    let k = a .before .before .before .before in
+    let k = a .before .before .before in
     let p = k .before .before .before .before .pre in
-    rw (a .above .ensures, c .above2 .ensures) (bilin-ready (p .0) (p .1) (bilin-passed (k .k2 .given .1) (b .struct-told5 .given)), p .2, p .3 .bits4, p .4)
+    rw (a .above .ensures, c .before .above2 .ensures) (bilin-ready (p .0) (p .1) (bilin-passed (k .k2 .given .1) (b .struct-told2 .given)), p .2, p .3 .bits4, p .4)
 
 warp-requires : tie.Need-warp-put16-requires
 warp-requires c κs =
-    let k = c .before .before .before .before .before .before .before .before in
+    let k = c .before .before in
     let p = k .before .before .before .before .pre in
-    (warp-ready (p .0) (p .1) (warp-passed (k .k3 .given .1) (c .struct-told11 .given)), p .3 .bits4, p .4)
+    (warp-ready (p .0) (p .1) (k .k3 .given .1), p .3 .bits4, p .4)
 
 copy-returns : tie.Need-returns
 unfolding putRule
@@ -42,24 +42,24 @@ subpel-returns : tie.Need-returns-2
 unfolding putRule before
 subpel-returns c =
     let t = c .before .before .before in
-    let k = t .before .before .before .before .before in
-    rw (subpel-passed (k .k .given .1) (t .struct-told3 .given)) (c .before .before .put-8tap-rows16 .ensures)
+    let k = t .before .before in
+    rw (k .k .given .1) (c .before .before .put-8tap-rows16 .ensures)
 
 bilin-returns : tie.Need-returns-3
 unfolding putRule before
 bilin-returns c =
-    let b = c .before .before .before in
+    let b = c .before .before .before .before in
     let a = b .before .before in
-    let k = a .before .before .before .before in
+    let k = a .before .before .before in
     let e = rw (a .above .ensures, b .above2 .ensures) at (c .before .before .put-bilin-rows16 .ensures) in
-    rw (bilin-passed (k .k2 .given .1) (b .before .struct-told5 .given), no-margin (k .before .before .before .before .args .s)) e
+    rw (bilin-passed (k .k2 .given .1) (b .before .struct-told2 .given), no-margin (k .before .before .before .before .args .s)) e
 
 warp-returns : tie.Need-returns-4
 unfolding putRule before
 warp-returns c =
     let t = c .before .before .before in
-    let k = t .before .before .before .before .before .before .before .before in
-    let e = warp-passed (k .k3 .given .1) (t .struct-told11 .given) in
+    let k = t .before .before in
+    let e = k .k3 .given .1 in
     let z = warp-size (k .before .before .before .before .pre .0) e in
     rw (z .0, z .1, e) (c .before .before .warp-put16 .ensures)
 

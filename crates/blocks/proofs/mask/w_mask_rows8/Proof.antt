@@ -20,7 +20,7 @@ each c =
 keep-mask-requires : tie.Need-keep-mask-requires
 keep-mask-requires c κs =
     let p = c .before .before .before .pre in
-    (p .1, p .2, p .3, record { depth8 = omega arith; depth12 = omega arith; bits2 = omega arith; bits4 = omega arith })
+    (p .1, p .2, p .3, record { deep = record { least = omega arith; most = omega arith }; bits2 = omega arith; bits4 = omega arith })
 
 weighed-rows8-requires : tie.Need-weighed-rows8-requires
 weighed-rows8-requires c κs =

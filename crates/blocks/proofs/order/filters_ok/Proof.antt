@@ -1,15 +1,15 @@
 use borrow.Author.Needs.{needs}
 use mathlib.Core.Path.{refl}
 use Rattle.blocks.specs.Order.{filtersOk}
-use Rattle.blocks.proofs.Laws.KindsReady.{subpel-passed, warp-passed}
+use Rattle.blocks.proofs.Laws.KindsReady.{subpel-passed}
 use Rattle.blocks.proofs.Laws.OrderReady.{warp-near}
 use Rattle.blocks.proofs.order.filters_ok.Statement.{statement}
 use Rattle.blocks.proofs.order.filters_ok.Tie as tie
 
 filters-there-requires : tie.Need-filters-there-requires
 filters-there-requires c κs =
-    let t = c .before .before .before .before .before in
-    warp-near _ (rw (warp-passed (t .before .before .k2 .given .1) (t .struct-told4 .given)) at (t .before .before .before .before .pre))
+    let k = c .before in
+    warp-near _ (rw (k .k2 .given .1) at (k .before .before .pre))
 
 returns : tie.Need-returns
 unfolding filtersOk
@@ -28,8 +28,8 @@ returns-3 c = rw (c .enum-told2 .given .1) refl
 returns-4 : tie.Need-returns-4
 unfolding filtersOk
 returns-4 c =
-    let t = c .before .before .before .before .before .before in
-    rw (warp-passed (t .before .before .k2 .given .1) (t .struct-told4 .given), c .filters-there .ensures)
+    let k = c .before .before in
+    rw (k .k2 .given .1, c .filters-there .ensures)
 
 pub filters-ok-spec : {M : Type 1} → statement M
 filters-ok-spec =

@@ -1,7 +1,6 @@
 use mathlib.Core.Path.{refl, _∙_}
 use native.Mathlib.Omega.{arith}
 use borrow.Author.Needs.{needs}
-use Rattle.rows.proofs.Laws.Signed.{back}
 use Rattle.blocks.proofs.Laws.SubpelCases.{Planned, bits-in, one-ready, first-ready, second-ready, prep-block, prep-two}
 use Rattle.blocks.proofs.subpel.prep_8tap_rows8.Statement.{statement}
 use Rattle.blocks.proofs.subpel.prep_8tap_rows8.Tie as tie
@@ -10,13 +9,13 @@ abbrev begin : tie.After-plan-8tap → tie.Start
 begin c = c .before .before
 
 planned : (c : tie.After-plan-8tap) → let a = begin c .args in
-    Planned (a .subpel .now) (a .ext .now) (a .o) (a .s) (a .w) (a .h) (a .mx) (a .my) (a .filter-type) 4 (c .plan-8tap .result)
-planned c = let f = begin c .fits in record { is = rw (back (f .filter-type), back (f .mx), back (f .my)) at (c .plan-8tap .ensures) }
+    Planned (a .subpel .now) (a .ext .now) (a .o) (a .s) (a .w) (a .h) (a .m .mx) (a .m .my) (a .m .«filter_type») 4 (c .plan-8tap .result)
+planned c = record { is = c .plan-8tap .ensures }
 
 plan-8tap-requires : tie.Need-plan-8tap-requires
 plan-8tap-requires c κs =
     let s = c .before in
-    rw (back (s .fits .filter-type), back (s .fits .mx), back (s .fits .my)) (omega arith, s .pre .2 .before, s .pre .2 .across, s .pre .2 .down)
+    (omega arith, s .pre .2 .before, s .pre .2 .across, s .pre .2 .down)
 
 prep-lines8-requires : tie.Need-prep-lines8-requires
 prep-lines8-requires c κs =

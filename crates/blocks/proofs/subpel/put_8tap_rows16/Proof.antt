@@ -1,7 +1,6 @@
 use mathlib.Core.Path.{refl, _∙_}
 use native.Mathlib.Omega.{arith}
 use borrow.Author.Needs.{needs}
-use Rattle.rows.proofs.Laws.Signed.{back}
 use Rattle.blocks.proofs.Laws.SubpelCases.{Planned, bits-in, one-ready, first-ready, second-ready, put-block, put-two}
 use Rattle.blocks.proofs.subpel.put_8tap_rows16.Statement.{statement}
 use Rattle.blocks.proofs.subpel.put_8tap_rows16.Tie as tie
@@ -10,13 +9,13 @@ abbrev begin : tie.After-plan-8tap → tie.Start
 begin c = c .before .before .before
 
 planned : (c : tie.After-plan-8tap) → let a = begin c .args in
-    Planned (a .subpel .now) (a .ext .now) (a .o) (a .s) (a .w) (a .h) (a .mx) (a .my) (a .filter-type) (a .d .bits) (c .plan-8tap .result)
-planned c = let f = begin c .fits in record { is = rw (back (f .filter-type), back (f .mx), back (f .my)) at (c .plan-8tap .ensures) }
+    Planned (a .subpel .now) (a .ext .now) (a .o) (a .s) (a .w) (a .h) (a .m .mx) (a .m .my) (a .m .«filter_type») (a .d .bits) (c .plan-8tap .result)
+planned c = record { is = c .plan-8tap .ensures }
 
 plan-8tap-requires : tie.Need-plan-8tap-requires
 plan-8tap-requires c κs =
     let s = c .before .before in
-    rw (back (s .fits .filter-type), back (s .fits .mx), back (s .fits .my)) (s .pre .0 .bits4, s .pre .3 .before, s .pre .3 .across, s .pre .3 .down)
+    (s .pre .0 .bits4, s .pre .3 .before, s .pre .3 .across, s .pre .3 .down)
 
 prep-lines16-requires : tie.Need-prep-lines16-requires
 prep-lines16-requires c κs =

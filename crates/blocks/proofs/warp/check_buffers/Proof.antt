@@ -1,5 +1,4 @@
 use borrow.Author.Needs.{needs}
-use Rattle.rows.proofs.Laws.Signed.{back}
 use Rattle.blocks.specs.Refuse.{wholeFilters}
 use Rattle.blocks.proofs.warp.check_buffers.Statement.{statement}
 use Rattle.blocks.proofs.warp.check_buffers.Tie as tie
@@ -8,7 +7,6 @@ returns : tie.Need-returns
 unfolding wholeFilters
 returns c =
     let h = c .before .before .before in
-    let f = h .before .before .before .fits in
     rw (
       c .needed3 .ensures,
       c .before .needed2 .ensures,
@@ -16,12 +14,6 @@ returns c =
       h .held .ensures,
       h .before .margins-held .ensures,
       h .before .before .filters-there .ensures,
-      back (f .mx),
-      back (f .my),
-      back (f .a),
-      back (f .b),
-      back (f .c),
-      back (f .d),
     )
 
 pub check-buffers-spec : {M : Type 1} → statement M

@@ -1,28 +1,24 @@
 use borrow.Author.Needs.{needs}
 use mathlib.Core.Path.{_≡_, sym, _∙_}
-use Rattle.rows.proofs.Laws.Signed.{back}
+use mir.Syntax.{w32}
 use Rattle.blocks.specs.Refuse.{lowest}
 use Rattle.blocks.proofs.Laws.WarpReady.{numberTests, numbers-ready, warp-stop, warp-go}
+use Rattle.blocks.proofs.Laws.Told.{told-back}
 use Rattle.blocks.proofs.warp.check_warp.Statement.{statement}
 use Rattle.blocks.proofs.warp.check_warp.Tie as tie
 
-is : (c : tie.After-check-numbers) → let a = c .before .args in
-    c .check-numbers .result ≡ lowest (numberTests (a .deep) (a .dst-stride) (a .src-stride) (a .mx) (a .my))
-is c = let f = c .before .fits in rw (back (f .mx), back (f .my)) at (c .check-numbers .ensures)
+is : (c : tie.After-check-numbers) → let a = c .before .before .before .args in
+    c .check-numbers .result ≡ lowest (numberTests (a .deep) (a .dst-stride) (a .src-stride) (a .m .mx) (a .m .my))
+is c = let n = c .before .struct-told2 .given .1 .1 .1 .1 in rw (told-back w32 n, told-back w32 (n .1)) at (c .check-numbers .ensures)
 
 check-buffers-requires : tie.Need-check-buffers-requires
-check-buffers-requires c κs =
-    let f = c .before .before .fits in
-    rw (back (f .mx), back (f .my)) (numbers-ready _ _ _ _ _ (sym (is (c .before)) ∙ c .if1 .left))
+check-buffers-requires c κs = numbers-ready _ _ _ _ _ (sym (is (c .before)) ∙ c .if1 .left)
 
 returns : tie.Need-returns
 returns c = let e = is (c .before) in e ∙ sym (warp-stop _ _ _ _ _ _ _ _ _ _ _ _ _ (rw e at (c .if1 .taken)))
 
 returns-2 : tie.Need-returns-2
-returns-2 c =
-    let t = c .before .before in let f = t .before .fits in
-    (rw (back (f .mx), back (f .my), back (f .a), back (f .b), back (f .c), back (f .d)) at (c .check-buffers .ensures))
-    ∙ sym (warp-go _ _ _ _ _ _ _ _ _ _ _ _ _ (sym (is t) ∙ c .before .if1 .left))
+returns-2 c = c .check-buffers .ensures ∙ sym (warp-go _ _ _ _ _ _ _ _ _ _ _ _ _ (sym (is (c .before .before)) ∙ c .before .if1 .left))
 
 pub check-warp-spec : {M : Type 1} → statement M
 check-warp-spec =

@@ -25,7 +25,7 @@ warp-put8-requires : tie.Need-warp-put8-requires
 warp-put8-requires c κs =
     let t = c .before in let f = begin (t .before) .fits in
     rw (back (f .mx), back (f .my), back (f .a), back (f .b), back (f .c), back (f .d))
-    (warp-ready _ _ _ _ _ _ _ _ _ _ _ _ _ (sym (is (t .before)) ∙ t .if1 .taken) .1)
+    (warp-ready _ _ _ _ _ _ _ _ (sym (is (t .before)) ∙ t .if1 .taken) .1)
 
 returns : tie.Need-returns
 returns c =

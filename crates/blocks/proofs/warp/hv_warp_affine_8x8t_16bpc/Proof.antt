@@ -28,8 +28,8 @@ is c =
 ready : (c : tie.Then1) → let a = begin (c .before) .args in
     (depthOk (a .depth) ≡ true)
     × Warps (length (a .tmp .now)) (a .tmp-stride) (length (a .src .now)) (a .src-off) (a .src-stride) (length (a .warp .now) / 8)
-    (a .a) (a .b) (a .c) (a .d) (a .mx) (a .my)
-ready c = warp-ready _ _ _ _ _ _ _ _ _ _ _ _ _ (sym (is (c .before)) ∙ c .if1 .taken)
+    (record { a = a .a; b = a .b; c = a .c; d = a .d; mx = a .mx; my = a .my })
+ready c = warp-ready _ _ _ _ _ _ _ _ (sym (is (c .before)) ∙ c .if1 .taken)
 
 warp-prep16-requires : tie.Need-warp-prep16-requires
 warp-prep16-requires c κs =

@@ -12,12 +12,12 @@ unfolding R
 returns c =
     let k = c .before in let s = k .before in
     let fv : SFits w16 (c .kept .result) = omega arith in
-    rw (back fv, c .kept .ensures, back (s .fits .s), k .half-of .ensures .0, back (s .fits .bias))
+    rw (back fv, c .kept .ensures, back (s .fits .s), k .half-power .ensures .0, back (s .fits .bias))
 
 pub bilin-kept-spec : {M : Type 1} → statement M
 bilin-kept-spec =
     tie.close
     (tie.spec
-    (λ c κs. search needs)  -- half-of-requires
+    (λ c κs. search needs)  -- half-power-requires
     (λ c κs. omega (arith, rd (c .before .fits .s)))  -- kept-requires
     returns)

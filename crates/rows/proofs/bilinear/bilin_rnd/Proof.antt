@@ -18,13 +18,13 @@ returns c =
     let k = c .before in let s = k .before in
     let v : ℤ = s .args .s +ℤ pos (half (s .args .n)) in
     let fr : SFits w32 (c .rounded .result) = omega arith in
-    rw (back fr, c .rounded .ensures, back (s .fits .s), k .half-of .ensures .0)
+    rw (back fr, c .rounded .ensures, back (s .fits .s), k .half-power .ensures .0)
     (refl, omega (arith, mag-shr v (2 ^ s .args .n), mag-add (s .args .s) (pos (half (s .args .n)))))
 
 pub bilin-rnd-spec : {M : Type 1} → statement M
 bilin-rnd-spec =
     tie.close
     (tie.spec
-    (λ c κs. search needs)  -- half-of-requires
+    (λ c κs. search needs)  -- half-power-requires
     (λ c κs. omega (arith, rd (c .before .fits .s)))  -- rounded-requires
     returns)

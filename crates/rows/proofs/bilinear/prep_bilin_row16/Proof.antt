@@ -24,7 +24,7 @@ abbrev μ-loop : tie.MeasureT-loop
 kept-requires : tie.Need-near-kept-requires Inv-loop μ-loop
 kept-requires c κs =
     let h = c .before in let s = h .before .before .before in
-    let r = half-small (s .half-of .ensures .0) (omega arith) in
+    let r = half-small (s .half-power .ensures .0) (omega arith) in
     rw (backn w16 (h .high-between .result) (omega arith), backn w16 (c .low-between .result) (omega arith)) (omega (arith, r))
 
 loop-again : tie.Need-loop-again Inv-loop μ-loop
@@ -33,7 +33,7 @@ loop-again c =
     let l = c .before in let h = l .before in let t = h .before .before in let s = t .before in let a = s .before .before .args in
     let e = sum-joined (a .src .now) (a .o + t .loop .i) (a .step) (a .f) (omega arith) (h .high-between .ensures .0) (l .low-between .ensures .0) in
     let fh = backn w16 (h .high-between .result) (omega arith) in let fl = backn w16 (l .low-between .result) (omega arith) in
-    let v = rw (fh, fl, s .half-of .ensures .0) at (c .near-kept .ensures) in
+    let v = rw (fh, fl, s .half-power .ensures .0) at (c .near-kept .ensures) in
     upto-kept (t .loop .inv) (omega arith) (omega arith) (v ∙ sym (ap (λ (z : ℤ). minus16 (low16 (R (a .n) z)) (toZ w16 (ofZ w16 (a .bias)))) e))
 
 pub prep-bilin-row16-spec : {M : Type 1} → statement M
@@ -42,7 +42,7 @@ prep-bilin-row16-spec =
     (tie.spec
     Inv-loop
     μ-loop
-    (λ c κs. omega arith)  -- half-of-requires
+    (λ c κs. omega arith)  -- half-power-requires
     (λ c. upto-none _ _ _)  -- loop-holds
     (λ c. omega arith)  -- o + i
     (λ c κs. omega arith)  -- high-between-requires
