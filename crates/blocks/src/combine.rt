@@ -10,6 +10,7 @@ ghost use Rattle.rows.specs.Combine.{avg, weighted, masked, both};
 ghost use Rattle.blocks.specs.Refuse.{lowest, depthOk};
 ghost use Rattle.blocks.specs.Ready.{Block, Rows, Bits};
 ghost use Rattle.blocks.specs.Combine.{combineTests, weightOk, AvgAnswer, WAvgAnswer, MaskAnswer};
+use crate::refuse::DepthNumbers;
 use crate::refuse::depth_numbers;
 use crate::refuse::depth_ok;
 use crate::refuse::held;
@@ -61,25 +62,23 @@ fn avg_rows8(dst: &mut [u8], dst_stride: usize, tmp1: &[i16], tmp2: &[i16], w: u
 }
 
 fn avg_rows16(
+    n: DepthNumbers,
     dst: &mut [u16],
     dst_stride: usize,
     tmp1: &[i16],
     tmp2: &[i16],
     w: usize,
     h: usize,
-    bits: u32,
-    bias: u32,
-    max: u16,
 )
-    requires { ⌜ Block w h × Rows (length (now dst)) «dst_stride» w h × Rows (length (now tmp1)) w w h × Rows (length (now tmp2)) w w h × Bits bits bias
-        × (max < 2 ^ 15) ⌝ }
+    requires { ⌜ Block w h × Rows (length (now dst)) «dst_stride» w h × Rows (length (now tmp1)) w w h × Rows (length (now tmp2)) w w h
+        × Bits (n .bits) (n .bias) × (n .max < 2 ^ 15) ⌝ }
     ensures { λ _. ⌜ now (dst .exit)
-        ≡ fill (now (dst .entry)) «dst_stride» w h (λ i j. both (avg max bits bias) (now (tmp1 .entry)) (now (tmp2 .entry)) (j * w) i) ⌝ }
+        ≡ fill (now (dst .entry)) «dst_stride» w h (λ i j. both (avg (n .max) (n .bits) (n .bias)) (now (tmp1 .entry)) (now (tmp2 .entry)) (j * w) i) ⌝ }
 {
     let mut y = 0;
     while y < h {
         let d = y * dst_stride;
-        avg_row16(&mut dst[d..d + w], tmp1, tmp2, y * w, bits, bias, max);
+        avg_row16(&mut dst[d..d + w], tmp1, tmp2, y * w, n.bits, n.bias, n.max);
         y += 1;
     }
 }
@@ -135,7 +134,7 @@ pub extern "C" fn hv_avg_16bpc(
     );
     if number == 0 {
         let n = depth_numbers(depth);
-        avg_rows16(dst, dst_stride, tmp1, tmp2, w, h, n.bits, n.bias, n.max);
+        avg_rows16(n, dst, dst_stride, tmp1, tmp2, w, h);
     }
     number
 }
@@ -173,6 +172,7 @@ fn w_avg_rows8(
 }
 
 fn w_avg_rows16(
+    n: DepthNumbers,
     dst: &mut [u16],
     dst_stride: usize,
     tmp1: &[i16],
@@ -180,21 +180,19 @@ fn w_avg_rows16(
     w: usize,
     h: usize,
     weight: i32,
-    bits: u32,
-    bias: u32,
-    max: u16,
 )
     requires { ⌜ Block w h × Rows (length (now dst)) «dst_stride» w h × Rows (length (now tmp1)) w w h × Rows (length (now tmp2)) w w h × (mag weight < 33)
-        × Bits bits bias × (max < 2 ^ 15) ⌝ }
+        × Bits (n .bits) (n .bias) × (n .max < 2 ^ 15) ⌝ }
     ensures { λ _. ⌜ now (dst .exit)
-        ≡ fill (now (dst .entry)) «dst_stride» w h (λ i j. both (weighted max bits bias weight) (now (tmp1 .entry)) (now (tmp2 .entry)) (j * w) i) ⌝ }
+        ≡ fill (now (dst .entry)) «dst_stride» w h
+        (λ i j. both (weighted (n .max) (n .bits) (n .bias) weight) (now (tmp1 .entry)) (now (tmp2 .entry)) (j * w) i) ⌝ }
 {
     if weight < 0 {
         let m = [mask_of(16 - weight); 64];
-        mask_rows16(dst, dst_stride, tmp2, tmp1, w, h, &m, 0, bits, bias, max);
+        mask_rows16(n, dst, dst_stride, tmp2, tmp1, w, h, &m, 0);
     } else {
         let m = [mask_of(weight); 64];
-        mask_rows16(dst, dst_stride, tmp1, tmp2, w, h, &m, 0, bits, bias, max);
+        mask_rows16(n, dst, dst_stride, tmp1, tmp2, w, h, &m, 0);
     }
 }
 
@@ -252,18 +250,7 @@ pub extern "C" fn hv_w_avg_16bpc(
     );
     if number == 0 {
         let n = depth_numbers(depth);
-        w_avg_rows16(
-            dst,
-            dst_stride,
-            tmp1,
-            tmp2,
-            w,
-            h,
-            weight,
-            n.bits,
-            n.bias,
-            n.max,
-        );
+        w_avg_rows16(n, dst, dst_stride, tmp1, tmp2, w, h, weight);
     }
     number
 }
@@ -294,6 +281,7 @@ pub fn mask_rows8(
 }
 
 pub fn mask_rows16(
+    n: DepthNumbers,
     dst: &mut [u16],
     dst_stride: usize,
     tmp1: &[i16],
@@ -302,15 +290,12 @@ pub fn mask_rows16(
     h: usize,
     mask: &[u8],
     mask_stride: usize,
-    bits: u32,
-    bias: u32,
-    max: u16,
 )
     requires { ⌜ Block w h × Rows (length (now dst)) «dst_stride» w h × Rows (length (now tmp1)) w w h × Rows (length (now tmp2)) w w h
-        × ((h - 1) * «mask_stride» + w ≤ length (now mask)) × Bits bits bias × (max < 2 ^ 15) ⌝ }
+        × ((h - 1) * «mask_stride» + w ≤ length (now mask)) × Bits (n .bits) (n .bias) × (n .max < 2 ^ 15) ⌝ }
     ensures { λ _. ⌜ now (dst .exit)
         ≡ fill (now (dst .entry)) «dst_stride» w h
-        (λ i j. both (masked max bits bias (pixel (now (mask .entry)) «mask_stride» i j)) (now (tmp1 .entry)) (now (tmp2 .entry)) (j * w) i) ⌝ }
+        (λ i j. both (masked (n .max) (n .bits) (n .bias) (pixel (now (mask .entry)) «mask_stride» i j)) (now (tmp1 .entry)) (now (tmp2 .entry)) (j * w) i) ⌝ }
 {
     let mut y = 0;
     while y < h {
@@ -322,9 +307,9 @@ pub fn mask_rows16(
             y * w,
             mask,
             y * mask_stride,
-            bits,
-            bias,
-            max,
+            n.bits,
+            n.bias,
+            n.max,
         );
         y += 1;
     }
@@ -384,19 +369,7 @@ pub extern "C" fn hv_mask_16bpc(
     );
     if number == 0 {
         let n = depth_numbers(depth);
-        mask_rows16(
-            dst,
-            dst_stride,
-            tmp1,
-            tmp2,
-            w,
-            h,
-            mask,
-            w,
-            n.bits,
-            n.bias,
-            n.max,
-        );
+        mask_rows16(n, dst, dst_stride, tmp1, tmp2, w, h, mask, w);
     }
     number
 }

@@ -417,19 +417,7 @@ fn w_mask_rows16(
     if ss_hor {
         weighed_rows16(n, dst, dst_stride, tmp1, tmp2, w, h, depth);
     } else {
-        mask_rows16(
-            dst,
-            dst_stride,
-            tmp1,
-            tmp2,
-            w,
-            h,
-            mask,
-            mask_stride,
-            n.bits,
-            n.bias,
-            n.max,
-        );
+        mask_rows16(n, dst, dst_stride, tmp1, tmp2, w, h, mask, mask_stride);
     }
 }
 

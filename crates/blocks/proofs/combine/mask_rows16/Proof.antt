@@ -10,11 +10,11 @@ use Rattle.blocks.proofs.combine.mask_rows16.Statement.{statement}
 use Rattle.blocks.proofs.combine.mask_rows16.Tie as tie
 
 abbrev Inv-loop : tie.InvT-loop
-Inv-loop dst₀ ds tmp1 tmp2 w h mask ms bits bias max y₀ dst y =
-    Filled ds w (λ i j. both (masked max bits bias (pixel mask ms i j)) tmp1 tmp2 (j * w) i) dst₀ h y dst
+Inv-loop n dst₀ ds tmp1 tmp2 w h mask ms y₀ dst y =
+    Filled ds w (λ i j. both (masked (n .max) (n .bits) (n .bias) (pixel mask ms i j)) tmp1 tmp2 (j * w) i) dst₀ h y dst
 
 abbrev μ-loop : tie.MeasureT-loop
-μ-loop dst₀ ds tmp1 tmp2 w h mask ms bits bias max y₀ dst y = h - y
+μ-loop n dst₀ ds tmp1 tmp2 w h mask ms y₀ dst y = h - y
 
 -- the function's entry, from a turn of the loop
 abbrev entry : tie.In-loop Inv-loop μ-loop → tie.Start Inv-loop μ-loop
