@@ -16,6 +16,7 @@ use crate::copy::prep_rows8;
 use crate::copy::prep_rows16;
 use crate::copy::put_rows8;
 use crate::copy::put_rows16;
+use crate::refuse::DepthNumbers;
 use crate::refuse::above;
 use crate::refuse::depth_numbers;
 use crate::refuse::depth_ok;
@@ -387,6 +388,7 @@ fn mid_bilin_rows16(
 }
 
 fn put_bilin_both16(
+    n: DepthNumbers,
     dst: &mut [u16],
     ds: usize,
     src: &[u16],
@@ -395,18 +397,17 @@ fn put_bilin_both16(
     h: usize,
     f: u32,
     g: u32,
-    bits: u32,
-    max: u16,
 )
-    requires { ⌜ Bilin (length (now dst)) ds (length (now src)) ss w h f g × (1 ≤ f) × (1 ≤ g) × (bits ≤ 4) × (max < 2 ^ 15) ⌝ }
-    ensures { λ _. ⌜ now (dst .exit) ≡ fill (now (dst .entry)) ds w h (λ i j. putBilin max bits f g (around 0 (now (src .entry)) 0 ss i j)) ⌝ }
+    requires { ⌜ Bilin (length (now dst)) ds (length (now src)) ss w h f g × (1 ≤ f) × (1 ≤ g) × (n .bits ≤ 4) × (n .max < 2 ^ 15) ⌝ }
+    ensures { λ _. ⌜ now (dst .exit) ≡ fill (now (dst .entry)) ds w h (λ i j. putBilin (n .max) (n .bits) f g (around 0 (now (src .entry)) 0 ss i j)) ⌝ }
 {
     let mut mid = [0i16; 4160];
-    prep_bilin_axis16(&mut mid, 64, src, ss, w, h + 1, 1, f, 4 - bits, 0);
-    mid_bilin_rows16(dst, ds, &mid, w, h, g, 4 + bits, max);
+    prep_bilin_axis16(&mut mid, 64, src, ss, w, h + 1, 1, f, 4 - n.bits, 0);
+    mid_bilin_rows16(dst, ds, &mid, w, h, g, 4 + n.bits, n.max);
 }
 
 fn prep_bilin_both16(
+    n: DepthNumbers,
     tmp: &mut [i16],
     ts: usize,
     src: &[u16],
@@ -415,18 +416,17 @@ fn prep_bilin_both16(
     h: usize,
     f: u32,
     g: u32,
-    bits: u32,
-    bias: u32,
 )
-    requires { ⌜ Bilin (length (now tmp)) ts (length (now src)) ss w h f g × (1 ≤ f) × (1 ≤ g) × Bits bits bias ⌝ }
-    ensures { λ _. ⌜ now (tmp .exit) ≡ fill (now (tmp .entry)) ts w h (λ i j. prepBilin bits bias f g (around 0 (now (src .entry)) 0 ss i j)) ⌝ }
+    requires { ⌜ Bilin (length (now tmp)) ts (length (now src)) ss w h f g × (1 ≤ f) × (1 ≤ g) × Bits (n .bits) (n .bias) ⌝ }
+    ensures { λ _. ⌜ now (tmp .exit) ≡ fill (now (tmp .entry)) ts w h (λ i j. prepBilin (n .bits) (n .bias) f g (around 0 (now (src .entry)) 0 ss i j)) ⌝ }
 {
     let mut mid = [0i16; 4160];
-    prep_bilin_axis16(&mut mid, 64, src, ss, w, h + 1, 1, f, 4 - bits, 0);
-    mid_bilin_prep_rows(tmp, ts, &mid, w, h, g, 4, bias as i16);
+    prep_bilin_axis16(&mut mid, 64, src, ss, w, h + 1, 1, f, 4 - n.bits, 0);
+    mid_bilin_prep_rows(tmp, ts, &mid, w, h, g, 4, n.bias as i16);
 }
 
 pub fn put_bilin_rows16(
+    n: DepthNumbers,
     dst: &mut [u16],
     ds: usize,
     src: &[u16],
@@ -435,27 +435,26 @@ pub fn put_bilin_rows16(
     h: usize,
     f: u32,
     g: u32,
-    bits: u32,
-    max: u16,
 )
-    requires { ⌜ Bilin (length (now dst)) ds (length (now src)) ss w h f g × (1 ≤ bits) × (bits ≤ 4) × (max < 2 ^ 15) ⌝ }
-    ensures { λ _. ⌜ now (dst .exit) ≡ fill (now (dst .entry)) ds w h (λ i j. putBilin max bits f g (around 0 (now (src .entry)) 0 ss i j)) ⌝ }
+    requires { ⌜ Bilin (length (now dst)) ds (length (now src)) ss w h f g × (1 ≤ n .bits) × (n .bits ≤ 4) × (n .max < 2 ^ 15) ⌝ }
+    ensures { λ _. ⌜ now (dst .exit) ≡ fill (now (dst .entry)) ds w h (λ i j. putBilin (n .max) (n .bits) f g (around 0 (now (src .entry)) 0 ss i j)) ⌝ }
 {
     if f != 0 {
         if g != 0 {
-            put_bilin_both16(dst, ds, src, ss, w, h, f, g, bits, max);
+            put_bilin_both16(n, dst, ds, src, ss, w, h, f, g);
         } else {
-            let r = half_power(bits);
-            put_bilin_axis16(dst, ds, src, ss, w, h, 1, f, 4 - bits, r, bits, max);
+            let r = half_power(n.bits);
+            put_bilin_axis16(dst, ds, src, ss, w, h, 1, f, 4 - n.bits, r, n.bits, n.max);
         }
     } else if g != 0 {
-        put_bilin_axis16(dst, ds, src, ss, w, h, ss, g, 4, 0, 0, max);
+        put_bilin_axis16(dst, ds, src, ss, w, h, ss, g, 4, 0, 0, n.max);
     } else {
         put_rows16(dst, ds, src, ss, w, h);
     }
 }
 
 pub fn prep_bilin_rows16(
+    n: DepthNumbers,
     tmp: &mut [i16],
     ts: usize,
     src: &[u16],
@@ -464,22 +463,20 @@ pub fn prep_bilin_rows16(
     h: usize,
     f: u32,
     g: u32,
-    bits: u32,
-    bias: u32,
 )
-    requires { ⌜ Bilin (length (now tmp)) ts (length (now src)) ss w h f g × Bits bits bias ⌝ }
-    ensures { λ _. ⌜ now (tmp .exit) ≡ fill (now (tmp .entry)) ts w h (λ i j. prepBilin bits bias f g (around 0 (now (src .entry)) 0 ss i j)) ⌝ }
+    requires { ⌜ Bilin (length (now tmp)) ts (length (now src)) ss w h f g × Bits (n .bits) (n .bias) ⌝ }
+    ensures { λ _. ⌜ now (tmp .exit) ≡ fill (now (tmp .entry)) ts w h (λ i j. prepBilin (n .bits) (n .bias) f g (around 0 (now (src .entry)) 0 ss i j)) ⌝ }
 {
     if f != 0 {
         if g != 0 {
-            prep_bilin_both16(tmp, ts, src, ss, w, h, f, g, bits, bias);
+            prep_bilin_both16(n, tmp, ts, src, ss, w, h, f, g);
         } else {
-            prep_bilin_axis16(tmp, ts, src, ss, w, h, 1, f, 4 - bits, bias as i16);
+            prep_bilin_axis16(tmp, ts, src, ss, w, h, 1, f, 4 - n.bits, n.bias as i16);
         }
     } else if g != 0 {
-        prep_bilin_axis16(tmp, ts, src, ss, w, h, ss, g, 4 - bits, bias as i16);
+        prep_bilin_axis16(tmp, ts, src, ss, w, h, ss, g, 4 - n.bits, n.bias as i16);
     } else {
-        prep_rows16(tmp, ts, src, ss, w, h, bits, bias);
+        prep_rows16(n, tmp, ts, src, ss, w, h);
     }
 }
 
@@ -512,7 +509,7 @@ pub extern "C" fn hv_put_bilin_16bpc(
         let n = depth_numbers(depth);
         let f = above(mx);
         let g = above(my);
-        put_bilin_rows16(dst, dst_stride, src, src_stride, w, h, f, g, n.bits, n.max);
+        put_bilin_rows16(n, dst, dst_stride, src, src_stride, w, h, f, g);
     }
     number
 }
@@ -547,7 +544,7 @@ pub extern "C" fn hv_prep_bilin_16bpc(
         let n = depth_numbers(depth);
         let f = above(mx);
         let g = above(my);
-        prep_bilin_rows16(tmp, tmp_stride, src, src_stride, w, h, f, g, n.bits, n.bias);
+        prep_bilin_rows16(n, tmp, tmp_stride, src, src_stride, w, h, f, g);
     }
     number
 }

@@ -8,6 +8,7 @@ ghost use Rattle.rows.specs.Copy.{put, prep};
 ghost use Rattle.blocks.specs.Refuse.{lowest, depthOk};
 ghost use Rattle.blocks.specs.Ready.{Block, Rows, Bits};
 ghost use Rattle.blocks.specs.Copy.{putTests, prepTests, PutAnswer, PrepAnswer};
+use crate::refuse::DepthNumbers;
 use crate::refuse::depth_numbers;
 use crate::refuse::depth_ok;
 use crate::refuse::held;
@@ -144,22 +145,22 @@ pub fn prep_rows8(
 }
 
 pub fn prep_rows16(
+    n: DepthNumbers,
     tmp: &mut [i16],
     tmp_stride: usize,
     src: &[u16],
     src_stride: usize,
     w: usize,
     h: usize,
-    bits: u32,
-    bias: u32,
 )
-    requires { ⌜ Block w h × Rows (length (now tmp)) «tmp_stride» w h × Rows (length (now src)) «src_stride» w h × Bits bits bias ⌝ }
-    ensures { λ _. ⌜ now (tmp .exit) ≡ fill (now (tmp .entry)) «tmp_stride» w h (λ i j. prep bits bias (pixel (now (src .entry)) «src_stride» i j)) ⌝ }
+    requires { ⌜ Block w h × Rows (length (now tmp)) «tmp_stride» w h × Rows (length (now src)) «src_stride» w h × Bits (n .bits) (n .bias) ⌝ }
+    ensures { λ _. ⌜ now (tmp .exit) ≡ fill (now (tmp .entry)) «tmp_stride» w h
+        (λ i j. prep (n .bits) (n .bias) (pixel (now (src .entry)) «src_stride» i j)) ⌝ }
 {
     let mut y = 0;
     while y < h {
         let d = y * tmp_stride;
-        prep_row16(&mut tmp[d..d + w], src, y * src_stride, bits, bias);
+        prep_row16(&mut tmp[d..d + w], src, y * src_stride, n.bits, n.bias);
         y += 1;
     }
 }
@@ -205,7 +206,7 @@ pub extern "C" fn hv_prep_16bpc(
     );
     if number == 0 {
         let n = depth_numbers(depth);
-        prep_rows16(tmp, tmp_stride, src, src_stride, w, h, n.bits, n.bias);
+        prep_rows16(n, tmp, tmp_stride, src, src_stride, w, h);
     }
     number
 }

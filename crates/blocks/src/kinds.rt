@@ -82,7 +82,7 @@ pub fn put_kind16(
         Kind::Bilinear(m) => {
             let f = above(m.mx);
             let g = above(m.my);
-            put_bilin_rows16(dst, dst_stride, src, s, w, h, f, g, d.bits, d.max)
+            put_bilin_rows16(d, dst, dst_stride, src, s, w, h, f, g)
         }
         Kind::Warp(m) => warp_put16(d, dst, dst_stride, src, s, o, m, warp),
     }
@@ -139,12 +139,12 @@ pub fn prep_kind16(
 {
     let o = 3 * s + 3; // the block's first pixel, behind a margin of 3
     match k {
-        Kind::Copy => prep_rows16(tmp, tmp_stride, src, s, w, h, d.bits, d.bias),
+        Kind::Copy => prep_rows16(d, tmp, tmp_stride, src, s, w, h),
         Kind::Subpel(m) => prep_8tap_rows16(d, tmp, tmp_stride, src, o, s, w, h, m, subpel, ext),
         Kind::Bilinear(m) => {
             let f = above(m.mx);
             let g = above(m.my);
-            prep_bilin_rows16(tmp, tmp_stride, src, s, w, h, f, g, d.bits, d.bias)
+            prep_bilin_rows16(d, tmp, tmp_stride, src, s, w, h, f, g)
         }
         Kind::Warp(m) => warp_prep16(d, tmp, tmp_stride, src, s, o, m, warp),
     }

@@ -13,20 +13,20 @@ abbrev entry : tie.After-mid → tie.Start
 entry c = c .before .before
 
 first-requires : tie.Need-prep-bilin-axis16-requires
-first-requires c κs = let p = entry c .pre in (first (p .0) _ (omega (arith, p .3)) _ (omega arith) (p .1) (p .2), omega (arith, p .3))
+first-requires c κs = let p = entry (c .before) .pre in (first (p .0) _ (omega (arith, p .3)) _ (omega arith) (p .1) (p .2), omega (arith, p .3))
 
 second-requires : tie.Need-mid-bilin-prep-rows-requires
 second-requires c κs =
-    let m = c .before .before .before in let s = entry (m .before) in
+    let m = c .before .before .before .before in let s = entry (m .before .before) in
     second (s .pre .0) _ (omega (arith, s .pre .3)) _ (omega (arith, m .prep-bilin-axis16 .kept .0))
 
 returns : tie.Need-returns
 returns c =
     let r = c .before in
-    let m = r .before .before .before .before in
-    let s = entry (m .before) in let a = s .args in
-    rw (m .prep-bilin-axis16 .ensures, backn w16 (a .bias) (omega (arith, s .pre .3))) at (r .mid-bilin-prep-rows .ensures)
-    ∙ prep-twice (a .bits) (a .bias) (a .src .now) (a .tmp .now) (s .pre .0) (s .pre .1) (s .pre .2) _ (omega arith)
+    let m = r .before .before .before .before .before in
+    let s = entry (m .before .before) in let a = s .args in
+    rw (m .prep-bilin-axis16 .ensures, backn w16 (a .n .bias) (omega (arith, s .pre .3))) at (r .mid-bilin-prep-rows .ensures)
+    ∙ prep-twice (a .n .bits) (a .n .bias) (a .src .now) (a .tmp .now) (s .pre .0) (s .pre .1) (s .pre .2) _ (omega arith)
 
 pub prep-bilin-both16-spec : {M : Type 1} → statement M
 prep-bilin-both16-spec =

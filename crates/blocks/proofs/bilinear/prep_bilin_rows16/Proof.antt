@@ -19,12 +19,12 @@ both-requires c κs =
 
 across-requires : tie.Need-prep-bilin-axis16-requires
 across-requires c κs =
-    let t = c .before in let s = entry (t .before .before) in
+    let t = c .before .before .before in let s = entry (t .before .before) in
     (across (s .pre .0) _ (omega (arith, s .pre)) (omega (arith, t .before .if1)) (t .if2 .left), omega (arith, s .pre .1))
 
 downward-requires : tie.Need-prep-bilin-axis16-requires-2
 downward-requires c κs =
-    let t = c .before in let s = entry (t .before .before) in
+    let t = c .before .before .before in let s = entry (t .before .before) in
     (downward (s .pre .0) _ (omega (arith, s .pre)) (t .before .if1 .left) (omega (arith, t .if3)), omega (arith, s .pre .1))
 
 copied-requires : tie.Need-prep-rows16-requires
@@ -34,21 +34,21 @@ copied-requires c κs =
 
 returns-2 : tie.Need-returns-2
 returns-2 c =
-    let r = c .before in let t = r .before .before in let s = entry (t .before .before) in let a = s .args in
-    rw (backn w16 (a .bias) (omega (arith, s .pre .1))) at (r .prep-bilin-axis16 .ensures)
-    ∙ prep-across (a .bits) (a .bias) (a .src .now) (a .tmp .now) (s .pre .0) (omega (arith, t .before .if1)) (t .if2 .left)
+    let r = c .before in let t = r .before .before .before .before in let s = entry (t .before .before) in let a = s .args in
+    rw (backn w16 (a .n .bias) (omega (arith, s .pre .1))) at (r .prep-bilin-axis16 .ensures)
+    ∙ prep-across (a .n .bits) (a .n .bias) (a .src .now) (a .tmp .now) (s .pre .0) (omega (arith, t .before .if1)) (t .if2 .left)
 
 returns-3 : tie.Need-returns-3
 returns-3 c =
-    let r = c .before in let t = r .before .before in let s = entry (t .before .before) in let a = s .args in
-    rw (backn w16 (a .bias) (omega (arith, s .pre .1))) at (r .prep-bilin-axis162 .ensures)
-    ∙ prep-downward (a .bits) (a .bias) (a .src .now) (a .tmp .now) (s .pre .0) (t .before .if1 .left) (omega (arith, t .if3))
+    let r = c .before in let t = r .before .before .before .before in let s = entry (t .before .before) in let a = s .args in
+    rw (backn w16 (a .n .bias) (omega (arith, s .pre .1))) at (r .prep-bilin-axis162 .ensures)
+    ∙ prep-downward (a .n .bits) (a .n .bias) (a .src .now) (a .tmp .now) (s .pre .0) (t .before .if1 .left) (omega (arith, t .if3))
 
 returns-4 : tie.Need-returns-4
 returns-4 c =
     let r = c .before in let t = r .before .before in let s = entry (t .before .before) in let a = s .args in
     r .prep-rows16 .ensures
-    ∙ prep-copied (a .bits) (a .bias) (a .src .now) (a .tmp .now) (s .pre .0) (t .before .if1 .left) (t .if3 .left)
+    ∙ prep-copied (a .n .bits) (a .n .bias) (a .src .now) (a .tmp .now) (s .pre .0) (t .before .if1 .left) (t .if3 .left)
 
 pub prep-bilin-rows16-spec : {M : Type 1} → statement M
 prep-bilin-rows16-spec =

@@ -11,20 +11,20 @@ abbrev entry : tie.After-mid → tie.Start
 entry c = c .before .before .before
 
 first-requires : tie.Need-prep-bilin-axis16-requires
-first-requires c κs = let p = entry c .pre in (first (p .0) _ (omega (arith, p .3)) _ (omega arith) (p .1) (p .2), omega (arith, p .3))
+first-requires c κs = let p = entry (c .before) .pre in (first (p .0) _ (omega (arith, p .3)) _ (omega arith) (p .1) (p .2), omega (arith, p .3))
 
 second-requires : tie.Need-mid-bilin-rows16-requires
 second-requires c κs =
-    let m = c .before .before .before in let s = entry (m .before) in
+    let m = c .before .before .before .before in let s = entry (m .before .before) in
     (second (s .pre .0) _ (omega (arith, s .pre .3)) _ (omega (arith, m .prep-bilin-axis16 .kept .0)), s .pre .4)
 
 returns : tie.Need-returns
 returns c =
     let r = c .before .before in
-    let m = r .before .before .before .before in
-    let s = entry (m .before) in let a = s .args in
+    let m = r .before .before .before .before .before in
+    let s = entry (m .before .before) in let a = s .args in
     rw (m .prep-bilin-axis16 .ensures) at (r .mid-bilin-rows16 .ensures)
-    ∙ put-twice (a .max) (a .bits) (a .src .now) (a .dst .now) (s .pre .0) (s .pre .1) (s .pre .2) _ (omega arith)
+    ∙ put-twice (a .n .max) (a .n .bits) (a .src .now) (a .dst .now) (s .pre .0) (s .pre .1) (s .pre .2) _ (omega arith)
 
 pub put-bilin-both16-spec : {M : Type 1} → statement M
 put-bilin-both16-spec =

@@ -18,10 +18,10 @@ both-requires c κs =
 
 across-requires : tie.Need-put-bilin-axis16-requires
 across-requires c κs =
-    let t = c .before .before in let s = entry (t .before .before) in (
+    let t = c .before .before .before in let s = entry (t .before .before) in (
       across (s .pre .0) _ (omega (arith, s .pre)) (omega (arith, t .before .if1)) (t .if2 .left),
       omega (arith, s .pre),
-      rw (c .before .half-power .ensures .0) (halves-small (s .args .bits) (s .pre .2)),
+      rw (c .before .before .half-power .ensures .0) (halves-small (s .args .n .bits) (s .pre .2)),
     )
 
 downward-requires : tie.Need-put-bilin-axis16-requires-2
@@ -36,21 +36,21 @@ copied-requires c κs =
 
 returns-2 : tie.Need-returns-2
 returns-2 c =
-    let r = c .before .before in let t = r .before .before .before in let s = entry (t .before .before) in let a = s .args in
-    rw (r .before .before .half-power .ensures .0, ← half-of (a .bits) (s .pre .1)) at (r .put-bilin-axis16 .ensures)
-    ∙ put-across (a .max) (a .bits) (a .src .now) (a .dst .now) (s .pre .0) (omega (arith, t .before .if1)) (t .if2 .left)
+    let r = c .before .before in let t = r .before .before .before .before in let s = entry (t .before .before) in let a = s .args in
+    rw (r .before .before .before .half-power .ensures .0, ← half-of (a .n .bits) (s .pre .1)) at (r .put-bilin-axis16 .ensures)
+    ∙ put-across (a .n .max) (a .n .bits) (a .src .now) (a .dst .now) (s .pre .0) (omega (arith, t .before .if1)) (t .if2 .left)
 
 returns-3 : tie.Need-returns-3
 returns-3 c =
     let r = c .before .before in let t = r .before .before in let s = entry (t .before .before) in let a = s .args in
     r .put-bilin-axis162 .ensures
-    ∙ put-downward (a .max) (a .bits) (a .src .now) (a .dst .now) (s .pre .0) (t .before .if1 .left) (omega (arith, t .if3))
+    ∙ put-downward (a .n .max) (a .n .bits) (a .src .now) (a .dst .now) (s .pre .0) (t .before .if1 .left) (omega (arith, t .if3))
 
 returns-4 : tie.Need-returns-4
 returns-4 c =
     let r = c .before .before in let t = r .before .before in let s = entry (t .before .before) in let a = s .args in
     r .put-rows16 .ensures
-    ∙ put-copied (a .max) (a .bits) (a .src .now) (a .dst .now) (s .pre .0) (t .before .if1 .left) (t .if3 .left)
+    ∙ put-copied (a .n .max) (a .n .bits) (a .src .now) (a .dst .now) (s .pre .0) (t .before .if1 .left) (t .if3 .left)
 
 pub put-bilin-rows16-spec : {M : Type 1} → statement M
 put-bilin-rows16-spec =

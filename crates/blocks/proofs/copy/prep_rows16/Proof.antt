@@ -10,10 +10,10 @@ use Rattle.blocks.proofs.copy.prep_rows16.Statement.{statement}
 use Rattle.blocks.proofs.copy.prep_rows16.Tie as tie
 
 abbrev Inv-loop : tie.InvT-loop
-Inv-loop tmp₀ ts src ss w h bits bias y₀ tmp y = Filled ts w (λ i j. prep bits bias (pixel src ss i j)) tmp₀ h y tmp
+Inv-loop n tmp₀ ts src ss w h y₀ tmp y = Filled ts w (λ i j. prep (n .bits) (n .bias) (pixel src ss i j)) tmp₀ h y tmp
 
 abbrev μ-loop : tie.MeasureT-loop
-μ-loop tmp₀ ts src ss w h bits bias y₀ tmp y = h - y
+μ-loop n tmp₀ ts src ss w h y₀ tmp y = h - y
 
 -- the function's entry, from a turn of the loop
 abbrev entry : tie.In-loop Inv-loop μ-loop → tie.Start Inv-loop μ-loop
