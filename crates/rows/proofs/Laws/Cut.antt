@@ -2,15 +2,15 @@
 use mathlib.Core.Path.{_≡_, refl, sym, ap, _∙_, subst}
 use mathlib.Core.Logic.{_⊎_, inl, ⊎-elim}
 use mathlib.Core.Bool.{Bool, true, false, _&&_, _||_, true≢false}
-use mathlib.Core.List.{List, [], _∷_, _++_, append-nil}
+use mathlib.Core.List.{List, [], _∷_, _++_}
 use Prim.Native.Nat.{ℕ, _+_, _-_, _*_, _/_, _%_, _≤_, _<_}
 use native.Mathlib.Nat.{add-mul, zero-add, mod-lt, div-add-mod'}
 use native.Mathlib.Omega.{arith}
-use lib.ListN.{length, getD, take, drop, length-append, length-drop, List·getD-append, drop-of-length-le}
-use lib.Seq.{ext-getD, getD-append-add, getD-take, getD-drop, length-take-le, take-all}
+use lib.ListN.{length, getD, take, drop, length-append, length-drop, List·getD-append}
+use lib.Seq.{ext-getD, getD-append-add, getD-take, getD-drop, length-take-le}
 use lib.Dec.{leb}
 use borrow.Author.Tests.{le-leb, leb-true}
-use Rattle.rows.specs.Places.{pick, within, fill, fillIn, span, splice, lentFrom}
+use Rattle.rows.specs.Places.{pick, within, fill, fillIn, lentFrom}
 use Rattle.rows.specs.Cut.{Rect, has, begins, Inside, covered, Each, Cut, putEach}
 use Rattle.rows.proofs.Laws.Places.{by-lt, col-of, row-of}
 use Rattle.rows.proofs.Laws.Fill.{getD-paint, within-in, within-true, within-col, within-row, and-true, length-fill, length-fillIn, fillIn-at, fillIn-is, fillIn-ext, fillIn-join, fill-same}
@@ -179,18 +179,6 @@ module _ {A : Type 0} (z : A) (s : ℕ) (pos : 0 < s) (f : ℕ → ℕ → A) wh
   cut w h rs d c ws fits =
       put-all rs d (each-both (Inside w h) (λ r. begins s r ≤ length d) (λ r. (r .x + r .w ≤ s) × (begins s r ≤ length d)) rs (λ r a b. (omega (arith, a), b)) (c .inside) fits)
       ∙ fillIn-ext z s pos d (covered rs) (within w h) f f (λ i j b k v. ap (λ (t : Bool). pick t (f i j) v) (cut-places w h rs c i j))
-
--- ---- the code's loan `&mut d[k..]`
-
-module _ {A : Type 0} where
-  pub rest-is : (d : List A) (k : ℕ) → span d k (length d) ≡ drop k d
-  rest-is d k = take-all (length d - k) (drop k d) (omega (arith, length-drop k d))
-
-  -- what is back, where the callee was lent all from k on
-  pub lent-back : (d r : List A) (k : ℕ) (g : List A → List A) → r ≡ g (span d k (length d)) → splice d k (length d) r ≡ lentFrom k g d
-  lent-back d r k g e =
-      ap (λ (l : List A). take k d ++ (r ++ l)) (drop-of-length-le (drop k d) {i = length d - k} (omega (arith, length-drop k d)))
-      ∙ ap (λ (l : List A). take k d ++ l) (append-nil r ∙ e ∙ ap g (rest-is d k))
 
 -- ---- a block by its places, whatever the stride
 
