@@ -3,9 +3,10 @@
 # make compare   compare at length: N calls of each function at each depth, and N cut blocks of each kind, made from SEED
 # make wrong     try the wrong programs of wrong/, which the prover must refuse
 # make bench     measure speed against the Rust
+# make sets      hold the byte half, which is made, to the 16-bit half, which is written (tools/sets writes it)
 # make clean     remove what the others made
 #
-# Nothing needs the network. Wanted: the kit (rt) and make; python3 for `make wrong` and tools/reading, cargo for what runs the Rust.
+# Nothing needs the network. Wanted: the kit (rt) and make; python3 for `make wrong`, tools/sets and tools/reading, cargo for what runs the Rust.
 
 RAV2D_SRC ?= ../shared/docs/src
 N ?= 20000
@@ -25,7 +26,7 @@ endef
 # An archive is made once crates/blocks exports a function.
 ARCHIVE := $(shell grep -rqs 'extern "C"' crates/blocks/src && echo dist/libblocks.a)
 
-.PHONY: all check test compare wrong bench clean
+.PHONY: all check sets test compare wrong bench clean
 
 all: check $(ARCHIVE)
 	@mkdir -p dist
@@ -43,17 +44,21 @@ check:
 	@rt check >target/check.log 2>&1 || { cat target/check.log; exit 1; }
 	@grep '^rt: ' target/check.log
 
+sets:
+	@if command -v python3 >/dev/null; then tools/sets --check; else echo "The made half was not held to the written one: there is no python3."; fi
+
 # Making it proves the crate, so it is made only after a change.
-dist/libblocks.a: crates.txt tools/native-archive $(shell find crates -name '*.rt' -o -name '*.antt')
+dist/libblocks.a: crates.txt tools/native-archive tools/kept-module $(shell find crates -name '*.rt' -o -name '*.antt')
 	@tools/native-archive blocks $@
 
 # What `make test` compares: the same code, compiled in seconds; `rt ci` proves it in the same run.
 DRAFT := $(if $(ARCHIVE),target/draft/libblocks.a)
-target/draft/libblocks.a: crates.txt tools/draft-archive $(shell find crates -name '*.rt')
+target/draft/libblocks.a: crates.txt tools/draft-archive tools/kept-module $(shell find crates -name '*.rt')
 	@tools/draft-archive blocks $@
 
-# The verdict is the last line, so rt ci comes last; it proves everything anew.
-test: $(if $(shell command -v cargo),$(DRAFT))
+# The made half is held to the written one first, before anything is compiled from it. The verdict is the last line, so rt ci comes last; it proves
+# everything anew.
+test: sets $(if $(shell command -v cargo),$(DRAFT))
 	@if command -v python3 >/dev/null; then tools/reading; fi
 	@if command -v cc >/dev/null; then cc -std=c99 -Wall -Wextra -pedantic -Werror -fsyntax-only include/hemavolups.h; fi
 	@if command -v cargo >/dev/null; then cd bindings/rust && HEMAVOLUPS_ARCHIVE='$(abspath $(DRAFT))' cargo test --offline -q; \

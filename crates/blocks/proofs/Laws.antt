@@ -3,7 +3,8 @@ pub mod Refuse
 pub mod InOrder
 pub mod Limits
 pub mod Answer
-pub mod Deep
+pub mod words
+pub mod bytes
 pub mod Rows
 pub mod Ready
 pub mod Told

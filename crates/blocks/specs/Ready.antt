@@ -32,11 +32,6 @@ pub record Rows (l s w h : ℕ) : Type 0 where
 abbrev pub numbersOf : ℕ → DepthNumbers
 numbersOf depth = record { bits = bitsOf depth; bias = biasOf depth; max = maxOf depth }
 
--- and as the rows take it
-pub record Bits (bits bias : ℕ) : Type 0 where
-  pub bits4 : bits ≤ 4
-  pub bias13 : bias ≤ 8192
-
 -- a block of the endless plane: bw columns and bh rows into a buffer of dl places, from a plane of iw columns and ih rows in pl places
 pub record Fetch (bw bh iw ih dl ds pl ps : ℕ) : Type 0 where
   pub bw1 : 1 ≤ bw

@@ -1,9 +1,7 @@
 -- The refusals: reasons with their numbers, and the tests that the entries share. Assumes nothing.
 use Prim.Native.Nat.{ℕ, zero, suc, _+_, _-_, _*_, _%_}
 use lib.Dec.{ltb, leb, eqb}
-use lib.IntN.{ℤ}
-use Rattle.rows.specs.Numbers.{up}
-use mathlib.Core.Bool.{Bool, true, false, _&&_, _||_}
+use mathlib.Core.Bool.{Bool, true, false, _&&_}
 use mathlib.Core.List.{List, [], _∷_}
 
 infix 68 _asks_
@@ -97,10 +95,6 @@ holdsAll l w h = holds l w w h
 -- c rows above to b′ columns right and c′ rows below
 unfoldable pub reads : (l o s w h : ℕ) → (b b′ c c′ : ℕ) → Bool
 reads l o s w h b b′ c c′ = leb (c * s + b) o && ltb (o + (h - 1 + c′) * s + (w - 1 + b′)) l
-
--- "Depth is 8 (bytes), 10 or 12 (16-bit pixels)": of the 16-bit set; bytes have no depth to test
-unfoldable pub depthOk : ℤ → Bool
-depthOk depth = eqb (up depth) 10 || eqb (up depth) 12
 
 -- "eight signed bytes to a filter": whole filters
 unfoldable pub wholeFilters : ℕ → Bool

@@ -1,6 +1,6 @@
 // Frames: the sides of their planes, and the area of a plane that a block with its margins takes.
 ghost use mathlib.Core.Path.{_≡_};
-ghost use Prim.Native.Nat.{_+_, _^_, _≤_};
+ghost use Prim.Native.Nat.{_^_, _≤_};
 ghost use lib.IntN.{natAbs};
 ghost use Rattle.blocks.specs.Window.{planeSide, planeW, planeH, frameSizesOk, frameNamesOk, before, after, windowSide, windowStart};
 use crate::mask::flags_ok;

@@ -1,15 +1,14 @@
-// Block kernels, windows and orders, over the contracts of the rows.
+// Block kernels, windows and orders, over the contracts of the rows. The two sets of pixels have one text: src/bytes is made from src/words by tools/sets.
 pub mod bilinear;
 pub mod blend;
+pub mod bytes;
 pub mod combine;
 pub mod copy;
 pub mod edge;
 pub mod filters;
 pub mod frame;
-pub mod kinds;
 pub mod mask;
 pub mod order;
-pub mod predict;
 pub mod refuse;
 pub mod row;
 pub mod search;
@@ -17,3 +16,4 @@ pub mod shear;
 pub mod subpel;
 pub mod warp;
 pub mod window;
+pub mod words;

@@ -1,12 +1,10 @@
-// The row helper: where a row of a plane lies, and the row itself.
+// The row helper: where a row of a plane lies, for both sets of pixels.
 ghost use mathlib.Core.Path.{_≡_};
 ghost use lib.IntN.{pos};
-ghost use lib.ListN.{length};
 ghost use lib.Signed.{leZ, ltZ};
 ghost use mathlib.Core.Bool.{_&&_};
-ghost use mathlib.Core.List.{[]};
 ghost use Rattle.blocks.specs.Refuse.{lowest};
-ghost use Rattle.blocks.specs.Window.{partOf, rowTests, rowAt, PartAnswer};
+ghost use Rattle.blocks.specs.Window.{rowTests, rowAt};
 use crate::frame::Frame;
 use crate::frame::frame_names_ok;
 use crate::frame::frame_sizes_ok;
@@ -18,8 +16,6 @@ use crate::refuse::stride;
 use crate::window::Part;
 use crate::window::above64;
 use crate::window::no_part;
-use crate::window::pick8;
-use crate::window::pick16;
 
 // A row of a plane of h rows.
 fn row_ok(row: i64, h: usize) -> bool
@@ -64,83 +60,4 @@ pub fn row_at(f: Frame, plane_no: u32, pl: usize, plane_stride: usize, row: i64)
         stride: plane_stride,
         len,
     }
-}
-
-// The row itself.
-pub fn row_part8(f: Frame, plane_no: u32, plane: &[u8], plane_stride: usize, row: i64) -> &[u8]
-    ensures { λ r. ⌜ now r ≡ partOf (rowAt f «plane_no» (length (now (plane .entry))) «plane_stride» row) (now (plane .entry)) [] ⌝ }
-{
-    let part = row_at(f, plane_no, plane.len(), plane_stride, row);
-    pick8(part, plane, &plane[0..0])
-}
-
-pub fn row_part16(f: Frame, plane_no: u32, plane: &[u16], plane_stride: usize, row: i64) -> &[u16]
-    ensures { λ r. ⌜ now r ≡ partOf (rowAt f «plane_no» (length (now (plane .entry))) «plane_stride» row) (now (plane .entry)) [] ⌝ }
-{
-    let part = row_at(f, plane_no, plane.len(), plane_stride, row);
-    pick16(part, plane, &plane[0..0])
-}
-
-#[no_mangle]
-pub extern "C" fn hv_row_8bpc(
-    luma_w: usize,
-    luma_h: usize,
-    ss_hor: bool,
-    ss_ver: bool,
-    plane_no: u32,
-    plane: &[u8],
-    plane_stride: usize,
-    row: i64,
-    buffer: &mut u32,
-    place: &mut usize,
-    stride: &mut usize,
-    len: &mut usize,
-) -> u32
-    ensures { λ r. ⌜ PartAnswer (rowAt (record { «luma_w» = «luma_w»; «luma_h» = «luma_h»; «ss_hor» = «ss_hor»; «ss_ver» = «ss_ver» }) «plane_no»
-        (length (now (plane .entry))) «plane_stride» row) r (now (buffer .exit)) (now (place .exit)) (now (stride .exit)) (now (len .exit)) ⌝ }
-{
-    let f = Frame {
-        luma_w,
-        luma_h,
-        ss_hor,
-        ss_ver,
-    };
-    let part = row_at(f, plane_no, plane.len(), plane_stride, row);
-    *buffer = part.buffer;
-    *place = part.place;
-    *stride = part.stride;
-    *len = part.len;
-    part.number
-}
-
-#[no_mangle]
-pub extern "C" fn hv_row_16bpc(
-    luma_w: usize,
-    luma_h: usize,
-    ss_hor: bool,
-    ss_ver: bool,
-    plane_no: u32,
-    plane: &[u16],
-    plane_stride: usize,
-    row: i64,
-    buffer: &mut u32,
-    place: &mut usize,
-    stride: &mut usize,
-    len: &mut usize,
-) -> u32
-    ensures { λ r. ⌜ PartAnswer (rowAt (record { «luma_w» = «luma_w»; «luma_h» = «luma_h»; «ss_hor» = «ss_hor»; «ss_ver» = «ss_ver» }) «plane_no»
-        (length (now (plane .entry))) «plane_stride» row) r (now (buffer .exit)) (now (place .exit)) (now (stride .exit)) (now (len .exit)) ⌝ }
-{
-    let f = Frame {
-        luma_w,
-        luma_h,
-        ss_hor,
-        ss_ver,
-    };
-    let part = row_at(f, plane_no, plane.len(), plane_stride, row);
-    *buffer = part.buffer;
-    *place = part.place;
-    *stride = part.stride;
-    *len = part.len;
-    part.number
 }

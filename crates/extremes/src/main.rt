@@ -1,44 +1,44 @@
 // Runs each row of the crate `rows` once on extreme values and prints what it left: the widest pixels, taps, intermediates and weights that a
 // caller can hand over meet what the rows require. What is printed is compared with document 01's arithmetic, worked out apart from this code.
 use rows::bilinear::mid_bilin_prep_row;
-use rows::bilinear::mid_bilin_row8;
-use rows::bilinear::mid_bilin_row16;
-use rows::bilinear::prep_bilin_row8;
-use rows::bilinear::prep_bilin_row16;
-use rows::bilinear::put_bilin_row8;
-use rows::bilinear::put_bilin_row16;
-use rows::blend::blend_row8;
-use rows::blend::blend_row16;
-use rows::blend::morph_row8;
-use rows::blend::morph_row16;
-use rows::combine::avg_row8;
-use rows::combine::avg_row16;
-use rows::combine::mask_row8;
-use rows::combine::mask_row16;
-use rows::copy::copy_row8;
-use rows::copy::copy_row16;
-use rows::copy::prep_row8;
-use rows::copy::prep_row16;
-use rows::edge::edge_row8;
-use rows::edge::edge_row16;
+use rows::bytes::bilinear::mid_bilin_row as mid_bilin_row8;
+use rows::bytes::bilinear::prep_bilin_row as prep_bilin_row8;
+use rows::bytes::bilinear::put_bilin_row as put_bilin_row8;
+use rows::bytes::blend::blend_row as blend_row8;
+use rows::bytes::blend::morph_row as morph_row8;
+use rows::bytes::combine::avg_row as avg_row8;
+use rows::bytes::combine::mask_row as mask_row8;
+use rows::bytes::copy::copy_row as copy_row8;
+use rows::bytes::copy::prep_row as prep_row8;
+use rows::bytes::edge::edge_row as edge_row8;
+use rows::bytes::search::sad_row as sad_row8;
+use rows::bytes::subpel::mid_row as mid_row8;
+use rows::bytes::subpel::tap_mid_row as tap_mid_row8;
+use rows::bytes::subpel::tap_row as tap_row8;
+use rows::bytes::warp::warp_column as warp_column8;
+use rows::bytes::warp::warp_put_row as warp_put_row8;
 use rows::mask::abs_diff16;
 use rows::mask::four_row;
 use rows::mask::pair_row;
 use rows::mask::weight_row;
-use rows::search::sad_row8;
-use rows::search::sad_row16;
 use rows::subpel::mid_prep_row;
-use rows::subpel::mid_row8;
-use rows::subpel::mid_row16;
-use rows::subpel::tap_mid_row8;
-use rows::subpel::tap_mid_row16;
-use rows::subpel::tap_row8;
-use rows::subpel::tap_row16;
-use rows::warp::warp_column8;
-use rows::warp::warp_column16;
 use rows::warp::warp_prep_row;
-use rows::warp::warp_put_row8;
-use rows::warp::warp_put_row16;
+use rows::words::bilinear::mid_bilin_row as mid_bilin_row16;
+use rows::words::bilinear::prep_bilin_row as prep_bilin_row16;
+use rows::words::bilinear::put_bilin_row as put_bilin_row16;
+use rows::words::blend::blend_row as blend_row16;
+use rows::words::blend::morph_row as morph_row16;
+use rows::words::combine::avg_row as avg_row16;
+use rows::words::combine::mask_row as mask_row16;
+use rows::words::copy::copy_row as copy_row16;
+use rows::words::copy::prep_row as prep_row16;
+use rows::words::edge::edge_row as edge_row16;
+use rows::words::search::sad_row as sad_row16;
+use rows::words::subpel::mid_row as mid_row16;
+use rows::words::subpel::tap_mid_row as tap_mid_row16;
+use rows::words::subpel::tap_row as tap_row16;
+use rows::words::warp::warp_column as warp_column16;
+use rows::words::warp::warp_put_row as warp_put_row16;
 
 fn wide(n: u32) -> u64 {
     n as u64
@@ -67,35 +67,36 @@ fn say_signed(v: i16) {
     }
 }
 
-// A row's name and what it left, on a line.
-fn row8(name: &[u8], row: &[u8]) {
+// What stands at place i of the row, which is one of the three; the others are empty.
+fn say_at(i: usize, bytes: &[u8], words: &[u16], signed: &[i16]) {
+    if i < bytes.len() {
+        say(wide8(bytes[i]));
+    } else if i < words.len() {
+        say(wide16(words[i]));
+    } else if i < signed.len() {
+        say_signed(signed[i]);
+    }
+}
+
+// A row's name and the n numbers that it left, on a line.
+fn line(name: &[u8], n: usize, bytes: &[u8], words: &[u16], signed: &[i16]) {
     io::write_all(1, name);
-    let mut i = 0;
-    while i < row.len() {
-        say(wide8(row[i]));
-        i += 1;
+    for i in 0..n {
+        say_at(i, bytes, words, signed);
     }
     io::write_all(1, b"\n");
+}
+
+fn row8(name: &[u8], row: &[u8]) {
+    line(name, row.len(), row, &[0u16; 0], &[0i16; 0]);
 }
 
 fn row16(name: &[u8], row: &[u16]) {
-    io::write_all(1, name);
-    let mut i = 0;
-    while i < row.len() {
-        say(wide16(row[i]));
-        i += 1;
-    }
-    io::write_all(1, b"\n");
+    line(name, row.len(), &[0u8; 0], row, &[0i16; 0]);
 }
 
 fn mids(name: &[u8], row: &[i16]) {
-    io::write_all(1, name);
-    let mut i = 0;
-    while i < row.len() {
-        say_signed(row[i]);
-        i += 1;
-    }
-    io::write_all(1, b"\n");
+    line(name, row.len(), &[0u8; 0], &[0u16; 0], row);
 }
 
 fn total(name: &[u8], n: u32) {
@@ -112,7 +113,7 @@ fn run_copy() {
     copy_row16(&mut d16, &[65535u16; 1], 0);
     row16(b"copy_row16", &d16);
     let mut t = [0i16; 1];
-    prep_row8(&mut t, &[255u8; 1], 0);
+    prep_row8(&mut t, &[255u8; 1], 0, 4, 0);
     mids(b"prep_row8", &t);
     prep_row16(&mut t, &[65535u16; 1], 0, 4, 8192);
     mids(b"prep_row16", &t);
@@ -122,9 +123,9 @@ fn run_combine() {
     let low = [-32768i16; 2];
     let high = [32767i16; 2];
     let mut d8 = [0u8; 2];
-    avg_row8(&mut d8, &high, &high, 0);
+    avg_row8(&mut d8, &high, &high, 0, 4, 0, 255);
     row8(b"avg_row8", &d8);
-    mask_row8(&mut d8, &high, &low, 0, &[255u8; 2], 0);
+    mask_row8(&mut d8, &high, &low, 0, &[255u8; 2], 0, 4, 0, 255);
     row8(b"mask_row8", &d8);
     let mut d16 = [0u16; 2];
     avg_row16(&mut d16, &low, &low, 0, 2, 8192, 4095);
@@ -140,7 +141,7 @@ fn run_blend() {
     let mut d16 = [65535u16; 2];
     blend_row16(&mut d16, &[65535u16; 2], &[63u8; 2], 0);
     row16(b"blend_row16", &d16);
-    morph_row8(&mut d8, -16384, 4194304);
+    morph_row8(&mut d8, -16384, 4194304, 255);
     row8(b"morph_row8", &d8);
     morph_row16(&mut d16, 16384, 4194304, 4095);
     row16(b"morph_row16", &d16);
@@ -170,9 +171,9 @@ fn run_subpel() {
     let f = [-128i8; 8];
     let g = [127i8; 8];
     let mut d8 = [0u8; 1];
-    tap_row8(&mut d8, &[255u8; 8], 0, 1, &g, 34, 6);
+    tap_row8(&mut d8, &[255u8; 8], 0, 1, &g, 34, 6, 255);
     row8(b"tap_row8", &d8);
-    mid_row8(&mut d8, &[-32768i16; 8], 0, 1, &f, 1024, 11);
+    mid_row8(&mut d8, &[-32768i16; 8], 0, 1, &f, 1024, 11, 255);
     row8(b"mid_row8", &d8);
     let mut d16 = [0u16; 1];
     tap_row16(&mut d16, &[65535u16; 8], 0, 1, &f, 64, 7, 4095);
@@ -190,9 +191,9 @@ fn run_subpel() {
 
 fn run_bilinear() {
     let mut d8 = [0u8; 1];
-    put_bilin_row8(&mut d8, &[255u8; 2], 0, 1, 15, 0, 8, 4);
+    put_bilin_row8(&mut d8, &[255u8; 2], 0, 1, 15, 0, 8, 4, 255);
     row8(b"put_bilin_row8", &d8);
-    mid_bilin_row8(&mut d8, &[-32768i16; 2], 0, 1, 15, 8);
+    mid_bilin_row8(&mut d8, &[-32768i16; 2], 0, 1, 15, 8, 255);
     row8(b"mid_bilin_row8", &d8);
     let mut d16 = [0u16; 1];
     put_bilin_row16(&mut d16, &[65535u16; 2], 0, 1, 15, 4, 0, 0, 1023);
@@ -225,7 +226,7 @@ fn run_warp() {
     warp_column16(&mut mid, &[65535u16; 120], 0, 8, &high, 0, 0, 0, 7, 5);
     mids(b"warp_column16", &mid);
     let mut d8 = [0u8; 8];
-    warp_put_row8(&mut d8, &[-32768i16; 113], 0, &low, 0, 0, 0, 7, 11);
+    warp_put_row8(&mut d8, &[-32768i16; 113], 0, &low, 0, 0, 0, 7, 11, 255);
     row8(b"warp_put_row8", &d8);
     let mut d16 = [0u16; 8];
     warp_put_row16(&mut d16, &[32767i16; 113], 0, &high, 0, 0, 0, 7, 9, 4095);

@@ -10,19 +10,12 @@
 //   rows. Other places are left as they came.
 // - Numbers: the parameters that aren't buffers, a record's entries too, in the interface's order; then the results, and what a record is left with.
 // - Values: one byte each for u8 and i8, two for u16 and i16.
-mod bilinear;
-mod blend;
-mod combine;
-mod copy;
-mod edge;
+mod bytes;
 mod list;
-mod mask;
 mod rooms;
-mod search;
 mod shear;
-mod subpel;
 mod tally;
-mod warp;
+mod words;
 
 use crate::list::byte;
 use crate::list::called;
@@ -33,61 +26,14 @@ use crate::tally::print_all;
 use crate::tally::print_end;
 ghost use Prim.Native.Nat.{_<_};
 
-// A call of the byte set: whether it answered as the record says.
-fn bytes(id: u16, r: &[u8]) -> bool {
-    match id {
-        1 => copy::put_8bpc(r),
-        2 => copy::prep_8bpc(r),
-        3 => combine::avg_8bpc(r),
-        4 => combine::w_avg_8bpc(r),
-        5 => combine::mask_8bpc(r),
-        6 => blend::blend_8bpc(r),
-        7 => blend::morph_8bpc(r),
-        8 => mask::w_mask_8bpc(r),
-        9 => edge::emu_edge_8bpc(r),
-        10 => subpel::put_8tap_8bpc(r),
-        11 => subpel::prep_8tap_8bpc(r),
-        12 => bilinear::put_bilin_8bpc(r),
-        13 => bilinear::prep_bilin_8bpc(r),
-        14 => search::sad_nxn_8bpc(r),
-        15 => search::sad_refine_mv_8bpc(r),
-        16 => warp::warp_affine_8x8_8bpc(r),
-        17 => warp::warp_affine_8x8t_8bpc(r),
-        _ => false,
-    }
-}
-
-// The same for the 16-bit set.
-fn words(id: u16, r: &[u8]) -> bool {
-    match id {
-        18 => copy::put_16bpc(r),
-        19 => copy::prep_16bpc(r),
-        20 => combine::avg_16bpc(r),
-        21 => combine::w_avg_16bpc(r),
-        22 => combine::mask_16bpc(r),
-        23 => blend::blend_16bpc(r),
-        24 => blend::morph_16bpc(r),
-        25 => mask::w_mask_16bpc(r),
-        26 => edge::emu_edge_16bpc(r),
-        27 => subpel::put_8tap_16bpc(r),
-        28 => subpel::prep_8tap_16bpc(r),
-        29 => bilinear::put_bilin_16bpc(r),
-        30 => bilinear::prep_bilin_16bpc(r),
-        31 => search::sad_nxn_16bpc(r),
-        32 => search::sad_refine_mv_16bpc(r),
-        33 => warp::warp_affine_8x8_16bpc(r),
-        34 => warp::warp_affine_8x8t_16bpc(r),
-        _ => false,
-    }
-}
-
+// Replays a call: whether it answered as the record says.
 fn replayed(id: u16, r: &[u8]) -> bool {
     match id {
         35 => shear::resolve_divisor_32(r),
         36 => shear::get_shear_params(r),
         37 => shear::set_affine_mv2d(r),
-        18..=34 => words(id, r),
-        _ => bytes(id, r),
+        18..=34 => words::numbered::replayed(id - 17, r),
+        _ => bytes::numbered::replayed(id, r),
     }
 }
 

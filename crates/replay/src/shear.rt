@@ -5,7 +5,7 @@ use crate::list::int;
 use crate::list::short;
 use crate::list::told;
 use crate::list::word;
-use crate::rooms::fill16;
+use crate::words::rooms::fill;
 use blocks::shear::hv_get_shear_params;
 use blocks::shear::hv_resolve_divisor_32;
 use blocks::shear::hv_set_affine_mv2d;
@@ -34,39 +34,28 @@ fn same_matrix(m: &[i32; 6], n: [i32; 6]) -> bool {
         & (m[5] == n[5])
 }
 
-// Four shears whose first is number k.
-fn shears_at(r: &[u8], k: u8) -> [i16; 4]
-    requires { ⌜ k ≤ 100 ⌝ }
-{
-    [
-        short(r, k),
-        short(r, k + 1),
-        short(r, k + 2),
-        short(r, k + 3),
-    ]
-}
-
 fn same_shears(s: &[i16; 4], t: [i16; 4]) -> bool {
     (s[0] == t[0]) & (s[1] == t[1]) & (s[2] == t[2]) & (s[3] == t[3])
 }
 
 pub(crate) fn resolve_divisor_32(r: &[u8]) -> bool {
-    let mut recip = [0u16; ROOM];
+    let mut recip = [0; ROOM];
     let mut y = UNSET;
     let mut shift = UNSET;
-    let n0 = fill16(r, 0, &mut recip);
+    let n0 = fill(r, 0, &mut recip);
     let number = hv_resolve_divisor_32(word(r, 0), &recip[..n0], &mut y, &mut shift);
     told(r, number) & (y == int(r, 1)) & (shift == int(r, 2))
 }
 
 pub(crate) fn get_shear_params(r: &[u8]) -> bool {
     let mut matrix = matrix_at(r, 0);
-    let mut abcd = shears_at(r, 6);
+    let mut abcd = [short(r, 6), short(r, 7), short(r, 8), short(r, 9)];
     let mut affine = int(r, 10);
-    let mut recip = [0u16; ROOM];
-    let n0 = fill16(r, 0, &mut recip);
+    let mut recip = [0; ROOM];
+    let n0 = fill(r, 0, &mut recip);
     let number = hv_get_shear_params(&mut matrix, &mut abcd, &mut affine, &recip[..n0]);
-    let record = same_matrix(&matrix, matrix_at(r, 11)) & same_shears(&abcd, shears_at(r, 17));
+    let shears = [short(r, 17), short(r, 18), short(r, 19), short(r, 20)];
+    let record = same_matrix(&matrix, matrix_at(r, 11)) & same_shears(&abcd, shears);
     told(r, number) & record & (affine == int(r, 21))
 }
 

@@ -1,6 +1,8 @@
 -- Document 01's arithmetic, in its order. A reader who believes these files and the kit can believe the contracts.
 pub mod Numbers
 pub mod Depth
+pub mod words
+pub mod bytes
 pub mod Places
 pub mod Copy
 pub mod Combine

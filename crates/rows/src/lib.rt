@@ -1,13 +1,13 @@
-// Row arithmetic: pixels and intermediates along a row, for bytes and for 16-bit pixels.
+// Row arithmetic: pixels and intermediates along a row. The two sets of pixels have one text: src/bytes is made from src/words by tools/sets.
 pub mod bilinear;
 pub mod blend;
+pub mod bytes;
 pub mod combine;
-pub mod copy;
 pub mod depth;
 pub mod edge;
 pub mod mask;
 pub mod near;
 pub mod numbers;
-pub mod search;
 pub mod subpel;
 pub mod warp;
+pub mod words;

@@ -7,7 +7,7 @@ ghost use Prim.Native.Nat.{_+_, _*_, _/_, _^_, _<_, _≤_};
 ghost use lib.IntN.{pos, natAbs, _+ℤ_, _*ℤ_};
 ghost use lib.ListN.{length};
 ghost use lib.Signed.{mag, shrZ};
-ghost use Rattle.rows.specs.Numbers.{at, px, low16, minus16, modZ, sum};
+ghost use Rattle.rows.specs.Numbers.{at, low16, minus16, modZ, sum};
 ghost use Rattle.rows.specs.Subpel.{S, Near};
 use crate::numbers::keep16;
 use crate::numbers::wrapping_sub16;
@@ -32,13 +32,13 @@ pub fn is_near(f: &[i8; 8]) -> bool
     s <= 128
 }
 
-// The same where sums are also rounded in sixteen bits: r is small, and n most at most.
-pub fn is_short(f: &[i8; 8], r: u32, n: u32, most: u32) -> bool
-    ensures { λ b. ⌜ (b ≡ true → Near (now (f .entry)) × (r ≤ 127) × (n ≤ most)) ⌝ }
+// The same where sums are also rounded in sixteen bits: r is 127 at most, and n 8.
+pub fn is_short(f: &[i8; 8], r: u32, n: u32) -> bool
+    ensures { λ b. ⌜ (b ≡ true → Near (now (f .entry)) × (r ≤ 127) × (n ≤ 8)) ⌝ }
 {
     if r > 127 {
         false
-    } else if n > most {
+    } else if n > 8 {
         false
     } else {
         is_near(f)
@@ -53,28 +53,15 @@ fn near_tap(acc: i16, f: i8, x: i16) -> i16
     acc + f as i16 * x
 }
 
-fn near_tap_u8(acc: i16, f: i8, x: u8) -> i16
+// The same of a byte.
+pub fn near_tap_u8(acc: i16, f: i8, x: u8) -> i16
     requires { ⌜ natAbs acc + natAbs f * 255 ≤ 32640 ⌝ }
     ensures { λ r. ⌜ (r ≡ acc +ℤ f *ℤ pos x) × (natAbs (f *ℤ pos x) ≤ natAbs f * 255) ⌝ }
 {
     near_tap(acc, f, x as i16)
 }
 
-// The same of the high byte of a wider number, and of its low one.
-fn near_high_u16(acc: i16, f: i8, x: u16) -> i16
-    requires { ⌜ natAbs acc + natAbs f * 255 ≤ 32640 ⌝ }
-    ensures { λ r. ⌜ (r ≡ acc +ℤ f *ℤ shrZ (pos x) 256) × (natAbs (f *ℤ shrZ (pos x) 256) ≤ natAbs f * 255) ⌝ }
-{
-    near_tap_u8(acc, f, (x / 256) as u8)
-}
-
-fn near_low_u16(acc: i16, f: i8, x: u16) -> i16
-    requires { ⌜ natAbs acc + natAbs f * 255 ≤ 32640 ⌝ }
-    ensures { λ r. ⌜ (r ≡ acc +ℤ f *ℤ pos (modZ (pos x) 256)) × (natAbs (f *ℤ pos (modZ (pos x) 256)) ≤ natAbs f * 255) ⌝ }
-{
-    near_tap_u8(acc, f, (x % 256) as u8)
-}
-
+// The same of the high byte of a wider number.
 fn near_high_i16(acc: i16, f: i8, x: i16) -> i16
     requires { ⌜ natAbs acc + natAbs f * 255 ≤ 32640 ⌝ }
     ensures { λ r. ⌜ (r ≡ acc +ℤ f *ℤ shrZ x 256) × (natAbs (f *ℤ shrZ x 256) ≤ natAbs f * 255) ⌝ }
@@ -82,6 +69,7 @@ fn near_high_i16(acc: i16, f: i8, x: i16) -> i16
     near_tap(acc, f, x >> 8)
 }
 
+// The same of its low byte.
 fn near_low_i16(acc: i16, f: i8, x: i16) -> i16
     requires { ⌜ natAbs acc + natAbs f * 255 ≤ 32640 ⌝ }
     ensures { λ r. ⌜ (r ≡ acc +ℤ f *ℤ pos (modZ x 256)) × (natAbs (f *ℤ pos (modZ x 256)) ≤ natAbs f * 255) ⌝ }
@@ -90,53 +78,14 @@ fn near_low_i16(acc: i16, f: i8, x: i16) -> i16
 }
 
 // A number from its high byte and its low one, or a sum from the sums of these.
-fn near_whole(high: i16, low: i16) -> i32
+pub fn near_whole(high: i16, low: i16) -> i32
     requires { ⌜ (natAbs high ≤ 32640) × (natAbs low ≤ 32640) ⌝ }
     ensures { λ r. ⌜ (r ≡ high *ℤ pos 256 +ℤ low) × (mag r < 2 ^ 30) ⌝ }
 {
     high as i32 * 256 + low as i32
 }
 
-// The filter sum S by near taps.
-pub fn near_u8(src: &[u8], o: usize, step: usize, f: &[i8; 8]) -> i16
-    requires { ⌜ (o + 7 * step < length (now src)) × Near (now f) ⌝ }
-    ensures { λ r. ⌜ (r ≡ S (now (f .entry)) (λ t. px (now (src .entry)) (o + t * step))) × (natAbs r ≤ 32640) ⌝ }
-{
-    let mut s: i16 = 0;
-    let mut j = 0;
-    while j < 8 {
-        s = near_tap_u8(s, f[j], src[o + j * step]);
-        j += 1;
-    }
-    s
-}
-
-pub fn near_highs_u16(src: &[u16], o: usize, step: usize, f: &[i8; 8]) -> i16
-    requires { ⌜ (o + 7 * step < length (now src)) × Near (now f) ⌝ }
-    ensures { λ r. ⌜ (r ≡ S (now (f .entry)) (λ t. shrZ (px (now (src .entry)) (o + t * step)) 256)) × (natAbs r ≤ 32640) ⌝ }
-{
-    let mut s: i16 = 0;
-    let mut j = 0;
-    while j < 8 {
-        s = near_high_u16(s, f[j], src[o + j * step]);
-        j += 1;
-    }
-    s
-}
-
-pub fn near_lows_u16(src: &[u16], o: usize, step: usize, f: &[i8; 8]) -> i16
-    requires { ⌜ (o + 7 * step < length (now src)) × Near (now f) ⌝ }
-    ensures { λ r. ⌜ (r ≡ S (now (f .entry)) (λ t. pos (modZ (px (now (src .entry)) (o + t * step)) 256))) × (natAbs r ≤ 32640) ⌝ }
-{
-    let mut s: i16 = 0;
-    let mut j = 0;
-    while j < 8 {
-        s = near_low_u16(s, f[j], src[o + j * step]);
-        j += 1;
-    }
-    s
-}
-
+// The filter sum S of the high bytes of intermediates, by near taps.
 pub fn near_highs_i16(src: &[i16], o: usize, step: usize, f: &[i8; 8]) -> i16
     requires { ⌜ (o + 7 * step < length (now src)) × Near (now f) ⌝ }
     ensures { λ r. ⌜ (r ≡ S (now (f .entry)) (λ t. shrZ (at (now (src .entry)) (o + t * step)) 256)) × (natAbs r ≤ 32640) ⌝ }
@@ -150,6 +99,7 @@ pub fn near_highs_i16(src: &[i16], o: usize, step: usize, f: &[i8; 8]) -> i16
     s
 }
 
+// The same of their low bytes.
 pub fn near_lows_i16(src: &[i16], o: usize, step: usize, f: &[i8; 8]) -> i16
     requires { ⌜ (o + 7 * step < length (now src)) × Near (now f) ⌝ }
     ensures { λ r. ⌜ (r ≡ S (now (f .entry)) (λ t. pos (modZ (at (now (src .entry)) (o + t * step)) 256))) × (natAbs r ≤ 32640) ⌝ }
@@ -163,6 +113,7 @@ pub fn near_lows_i16(src: &[i16], o: usize, step: usize, f: &[i8; 8]) -> i16
     s
 }
 
+// The filter sum S of intermediates by near taps.
 pub fn near_i16(src: &[i16], o: usize, step: usize, f: &[i8; 8]) -> i32
     requires { ⌜ (o + 7 * step < length (now src)) × Near (now f) ⌝ }
     ensures { λ r. ⌜ (r ≡ S (now (f .entry)) (λ t. at (now (src .entry)) (o + t * step))) × (mag r < 2 ^ 30) ⌝ }
@@ -170,16 +121,6 @@ pub fn near_i16(src: &[i16], o: usize, step: usize, f: &[i8; 8]) -> i32
     near_whole(
         near_highs_i16(src, o, step, f),
         near_lows_i16(src, o, step, f),
-    )
-}
-
-pub fn near_u16(src: &[u16], o: usize, step: usize, f: &[i8; 8]) -> i32
-    requires { ⌜ (o + 7 * step < length (now src)) × Near (now f) ⌝ }
-    ensures { λ r. ⌜ (r ≡ S (now (f .entry)) (λ t. px (now (src .entry)) (o + t * step))) × (mag r < 2 ^ 30) ⌝ }
-{
-    near_whole(
-        near_highs_u16(src, o, step, f),
-        near_lows_u16(src, o, step, f),
     )
 }
 

@@ -1,13 +1,13 @@
 // Runs the code on document 01's worked numbers, C1 to C10, through the functions that the decoder calls. Prints each name, then ok or bad.
-use blocks::bilinear::hv_put_bilin_8bpc;
-use blocks::combine::hv_avg_8bpc;
-use blocks::combine::hv_avg_16bpc;
-use blocks::combine::hv_w_avg_8bpc;
-use blocks::edge::hv_emu_edge_8bpc;
-use blocks::mask::hv_w_mask_8bpc;
+use blocks::bytes::calls::hv_avg_8bpc;
+use blocks::bytes::calls::hv_prep_8tap_8bpc;
+use blocks::bytes::calls::hv_put_8tap_8bpc;
+use blocks::bytes::calls::hv_put_bilin_8bpc;
+use blocks::bytes::calls::hv_w_avg_8bpc;
+use blocks::bytes::calls::hv_w_mask_8bpc;
+use blocks::bytes::edge::hv_emu_edge_8bpc;
 use blocks::shear::hv_get_shear_params;
-use blocks::subpel::hv_prep_8tap_8bpc;
-use blocks::subpel::hv_put_8tap_8bpc;
+use blocks::words::combine::hv_avg_16bpc;
 
 fn say(name: &[u8], ok: bool) {
     io::write_all(1, name);

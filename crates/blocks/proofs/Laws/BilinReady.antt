@@ -9,17 +9,19 @@ use lib.IntN.{ℤ, pos}
 use lib.ListN.{length}
 use lib.Signed.{leZ}
 use Rattle.rows.specs.Numbers.{up, half}
+use Rattle.rows.specs.Places.{span}
 use Rattle.rows.proofs.Laws.Places.{by-lt, row-fits}
 use Rattle.rows.proofs.Laws.Fill.{and-true}
 use Rattle.rows.proofs.Laws.Signed.{le-yes, one-part}
-use Rattle.blocks.specs.Refuse.{need, lowest, sizeOk, strideOk, holds, reads, depthOk}
+use Rattle.blocks.specs.Refuse.{need, lowest, sizeOk, strideOk, holds, reads}
+use Rattle.blocks.specs.words.Depth.{depthOk}
 use Rattle.blocks.specs.Subpel.{on, sixteenthOk}
 use Rattle.blocks.specs.Bilinear.{bilinTests, PutBilinAnswer, PrepBilinAnswer}
 use Rattle.blocks.specs.Ready.{Block, Rows, Pairs, Bilin}
 use Rattle.blocks.proofs.Laws.Answer.{unique}
 use Rattle.blocks.proofs.Laws.Refuse.{all-met, stride-met, holds-met}
 use Rattle.blocks.proofs.Laws.Ready.{block-met, rows-met}
-use Rattle.blocks.proofs.Laws.Rows.{Filled, row-in}
+use Rattle.blocks.proofs.Laws.Rows.{Filled, filled-span, row-in}
 
 -- ---- the number
 
@@ -57,15 +59,17 @@ bilin-ready deep dl ds sl ss w h mx my e =
 
 -- ---- a pass over rows
 
--- in a turn at row y, the row is within the written buffer of n places, and its pairs within the read one
-pub record Turn (n ds sl ss step w y : ℕ) : Type 0 where
-  pub dst : y * ds + w ≤ n
-  pub src : y * ss + (w + step) ≤ sl
+-- in a turn at row y, the row is within the written buffer, its pairs within the read one, and the part lent is as long as the row
+module _ {A : Type 0} where
+  pub record Turn (d : List A) (ds sl ss step w y : ℕ) : Type 0 where
+    pub dst : y * ds + w ≤ length d
+    pub src : y * ss + (w + step) ≤ sl
+    pub long : length (span d (y * ds) (y * ds + w)) ≡ w
 
-pub turn : {A : Type 0} {ds sl ss step w h f n y : ℕ} {p : ℕ → ℕ → A} {d₀ d : List A}
-    → Pairs (length d₀) ds sl ss step w h f n → Filled ds w p d₀ h y d → y < h → Turn (length d) ds sl ss step w y
-turn {A} {ds} {sl} {ss} {step} {w} {h} {f} {n} {y} {p} {d₀} {d} r q lt =
-    record { dst = omega (arith, row-in y (r .dst) lt, q); src = row-fits sl ss (w + step) h y (r .src) lt }
+  pub turn : (z : A) {ds sl ss step w h f n y : ℕ} {p : ℕ → ℕ → A} {d₀ d : List A}
+      → Pairs (length d₀) ds sl ss step w h f n → Filled ds w p d₀ h y d → y < h → Turn d ds sl ss step w y
+  turn z {ds} {sl} {ss} {step} {w} {h} {f} {n} {y} {p} {d₀} {d} r q lt =
+      record { dst = omega (arith, row-in y (r .dst) lt, q); src = row-fits sl ss (w + step) h y (r .src) lt; long = filled-span z q (r .dst) lt }
 
 -- ---- what the rows of each case rely on
 module _ {dl ds sl ss w h f g : ℕ} (p : Bilin dl ds sl ss w h f g) where

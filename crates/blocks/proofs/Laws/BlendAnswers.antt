@@ -7,7 +7,8 @@ use lib.IntN.{ℤ, pos, negsuc}
 use Rattle.rows.specs.Depth.{maxOf}
 use Rattle.rows.specs.Places.{pixel, fill}
 use Rattle.rows.specs.Combine.{blend, morph}
-use Rattle.blocks.specs.Refuse.{need, lowest, orSame, sizeOk, strideOk, holds, depthOk}
+use Rattle.blocks.specs.Refuse.{need, lowest, orSame, sizeOk, strideOk, holds}
+use Rattle.blocks.specs.words.Depth.{depthOk}
 use Rattle.blocks.specs.Blend.{firstAbove, noneAbove, blendTests, spotOf, BlendAnswer, morphTests, MorphAnswer}
 use Rattle.blocks.proofs.Laws.Answer.{unique-of}
 use Rattle.blocks.specs.declared.blend.Spot.{Spot}

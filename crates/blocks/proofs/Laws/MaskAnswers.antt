@@ -9,7 +9,8 @@ use Rattle.rows.specs.Depth.{bitsOf, biasOf, maxOf}
 use Rattle.rows.specs.Places.{fill}
 use Rattle.rows.specs.Combine.{masked, both}
 use Rattle.rows.specs.Mask.{maskAt}
-use Rattle.blocks.specs.Refuse.{need, lowest, orSame, sizeOk, strideOk, holds, depthOk}
+use Rattle.blocks.specs.Refuse.{need, lowest, orSame, sizeOk, strideOk, holds}
+use Rattle.blocks.specs.words.Depth.{depthOk}
 use Rattle.blocks.specs.Mask.{evenOk, maskSide, flagsOk, signOk, wMaskTests, weights, WMaskAnswer}
 use Rattle.blocks.proofs.Laws.Answer.{unique-of}
 

@@ -9,19 +9,15 @@ use lib.IntN.{ℤ, pos}
 use lib.ListN.{length}
 use lib.Signed.{leZ}
 use Rattle.rows.specs.Numbers.{up}
-use Rattle.rows.specs.Depth.{bitsOf}
 use Rattle.rows.specs.Places.{fill}
 use Rattle.rows.specs.Mask.{maskAt}
-use Rattle.rows.proofs.Laws.Depth.{high}
 use Rattle.rows.proofs.Laws.Signed.{le-yes, one-part}
 use Rattle.rows.proofs.Laws.Fill.{and-true}
-use Rattle.blocks.specs.Refuse.{lowest, depthOk}
-use Rattle.blocks.specs.Ready.{Rows, Weighing, Depths, numbersOf}
-use Rattle.blocks.specs.declared.refuse.DepthNumbers.{DepthNumbers}
+use Rattle.blocks.specs.Refuse.{lowest}
+use Rattle.blocks.specs.Ready.{Rows, Weighing}
 use Rattle.blocks.specs.Mask.{evenOk, maskSide, flagsOk, signOk, wMaskTests}
 use Rattle.blocks.proofs.Laws.Refuse.{all-met}
 use Rattle.blocks.proofs.Laws.Ready.{block-met, rows-met}
-use Rattle.blocks.proofs.Laws.Deep.{deep-high}
 use Rattle.blocks.proofs.Laws.Gapless.{gapless-met}
 use Rattle.blocks.proofs.Laws.Weighed.{Kept}
 
@@ -76,13 +72,3 @@ w-mask-ready deep dl ds l1 l2 w h ml ms sign ssHor ssVer e =
       n .1 .1 .0,
       sign-met sign (n .1 .0),
     )
-
--- a depth that passed its test gives the weights what they rely on
-depths : (depth : ℤ) → depthOk depth ≡ true → Depths (up depth) (bitsOf (up depth))
-depths depth e =
-    high (λ (n : ℕ). Depths n (bitsOf n)) (deep-high depth e)
-    (record { deep = record { least = omega arith; most = omega arith }; bits2 = omega arith; bits4 = omega arith })
-    (record { deep = record { least = omega arith; most = omega arith }; bits2 = omega arith; bits4 = omega arith })
-
-pub depths-met : (depth : ℤ) (d : ℕ) (n : DepthNumbers) → d ≡ up depth → n ≡ numbersOf (up depth) → depthOk depth ≡ true → Depths d (n .bits)
-depths-met depth d n a b e = rw (a, b) (depths depth e)

@@ -8,7 +8,8 @@ use lib.IntN.{ℤ, pos, negsuc}
 use Rattle.rows.specs.Places.{paint, fillIn, within, fill}
 use Rattle.rows.specs.Edge.{endless, aroundAt}
 use Rattle.rows.specs.Warp.{filterNo, isThere, every, allThere}
-use Rattle.blocks.specs.Refuse.{need, lowest, orSame, sizeOk, strideOk, holds, depthOk, wholeFilters}
+use Rattle.blocks.specs.Refuse.{need, lowest, orSame, sizeOk, strideOk, holds, wholeFilters}
+use Rattle.blocks.specs.words.Depth.{depthOk}
 use Rattle.blocks.specs.Edge.{placeOk}
 use Rattle.blocks.specs.Mask.{flagsOk}
 use Rattle.blocks.specs.Subpel.{typeOk, sixteenthOk, fractionOk, subpelOk, filterIn}

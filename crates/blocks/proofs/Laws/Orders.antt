@@ -1,6 +1,6 @@
 -- An accepted order: its window is fetched and picked, its kind's rows run on it, and their picture is the order's on the endless plane. Assumes nothing.
 use mathlib.Core.Path.{_≡_, refl, sym, ap, _∙_}
-use mathlib.Core.Bool.{Bool}
+use mathlib.Core.Bool.{Bool, true}
 use mathlib.Core.List.{List}
 use Prim.Native.Nat.{ℕ, _≤_}
 use native.Mathlib.Omega.{arith}
@@ -12,12 +12,12 @@ use Rattle.rows.proofs.Laws.Fill.{fill-same}
 use Rattle.blocks.specs.Refuse.{lowest, orSame}
 use Rattle.blocks.specs.Ready.{Rows, Windowed, PartIn}
 use Rattle.blocks.specs.Window.{windowTests, windowOf, scratchOf, partOf, aroundPart}
-use Rattle.blocks.specs.Order.{kindNumber, putRule, prepRule, putPicture, prepPicture, planeOf, orderTests, orderNumber, orderScratch, orderDst, orderTmp, OrderPutAnswer, OrderPrepAnswer}
+use Rattle.blocks.specs.Order.{kindNumber, kindOf, putRule, prepRule, putPicture, prepPicture, planeOf, orderTests, orderNumber, orderScratch, orderDst, orderTmp, OrderPutAnswer, OrderPrepAnswer}
 use Rattle.blocks.proofs.Laws.Refuse.{refused}
 use Rattle.blocks.proofs.Laws.WindowReady.{window-number}
 use Rattle.blocks.proofs.Laws.Window.{picked-in, Picked, picked}
 use Rattle.blocks.proofs.Laws.Local.{putRule-local, prepRule-local}
-use Rattle.blocks.proofs.Laws.OrderReady.{order-window, order-dst, order-windowed}
+use Rattle.blocks.proofs.Laws.OrderReady.{order-deep, order-window, order-dst, order-windowed}
 use Rattle.blocks.specs.declared.frame.Frame.{Frame}
 use Rattle.blocks.specs.declared.window.Part.{Part}
 use Rattle.blocks.specs.declared.order.Order.{Order}
@@ -52,10 +52,22 @@ pub record Ordered (deep named : Bool) (f : Frame) (planeNo : ℕ) (plane : List
   pub answer : p ≡ windowOf f planeNo (length plane) ps (kindNumber (o .kind)) (o .w) (o .h) (o .x) (o .y) 0 (length scratch)
   pub full : filled ≡ scratchOf (p .number) f planeNo plane ps (kindNumber (o .kind)) (o .w) (o .h) (o .x) (o .y) 0 scratch
 
+-- from the call's number, and what its window's call ensured
+pub ordered : (deep named : Bool) (f : Frame) (planeNo : ℕ) (plane : List ℕ) (ps : ℕ) (o : Order) (tl el wl : ℕ)
+    (scratch : List ℕ) (dl ds : ℕ) (p : Part) (filled : List ℕ) {n : ℕ}
+    → n ≡ lowest (orderTests deep named f planeNo (length plane) ps o tl el wl (length scratch) dl ds) → n ≡ 0
+    → (p ≡ windowOf f planeNo (length plane) ps (kindNumber (o .kind)) (o .w) (o .h) (o .x) (o .y) 0 (length scratch))
+    × (filled ≡ scratchOf (p .number) f planeNo plane ps (kindNumber (o .kind)) (o .w) (o .h) (o .x) (o .y) 0 scratch)
+    → Ordered deep named f planeNo plane ps o tl el wl scratch dl ds p filled
+ordered deep named f planeNo plane ps o tl el wl scratch dl ds p filled is z e = record { number = sym is ∙ z; answer = e .0; full = e .1 }
+
 module _ {deep named : Bool} {f : Frame} {planeNo : ℕ} {plane : List ℕ} {ps : ℕ} {o : Order} {tl el wl : ℕ} {scratch : List ℕ} {dl ds : ℕ} {p : Part} {filled : List ℕ}
     (q : Ordered deep named f planeNo plane ps o tl el wl scratch dl ds p filled) where
   accepted : lowest (windowTests f planeNo (length plane) ps (kindNumber (o .kind)) (o .w) (o .h) (o .x) (o .y) 0 (length scratch)) ≡ 0
   accepted = order-window deep named f planeNo (length plane) ps o tl el wl (length scratch) dl ds (q .number)
+
+  pub ordered-deep : deep ≡ true
+  ordered-deep = order-deep deep named f planeNo (length plane) ps o tl el wl (length scratch) dl ds (q .number)
 
   -- the part is in its buffer
   pub order-part : PartIn p (length plane) (length filled)
@@ -84,40 +96,40 @@ module _ {deep named : Bool} {f : Frame} {planeNo : ℕ} {plane : List ℕ} {ps 
     some : 1 ≤ ds
     some = omega (arith, order-rows .0 .block, order-rows .1)
 
--- ---- what the call answers, where it is accepted and where it is refused
+-- ---- what the call answers, where it is refused and where it is accepted
 module _ (deep named : Bool) (depth : ℕ) (f : Frame) (planeNo : ℕ) (plane : List ℕ) (ps : ℕ) (o : Order) (subpel ext warp : List ℤ) (scratch : List ℕ) where
   module _ (dst : List ℕ) (ds : ℕ) {r : ℕ} (is : r ≡ orderNumber deep named f planeNo plane ps o subpel ext warp (length scratch) (length dst) ds) where
+    pub put-refused : (r ≡ 0 → ⊥) → OrderPutAnswer deep named depth f planeNo plane ps o subpel ext warp scratch dst ds r scratch dst
+    unfolding orderScratch scratchOf orderDst
+    put-refused h = (is, sym (refused r _ scratch h), sym (refused r _ dst h))
+
     pub put-done : {p : Part} {filled src dst′ : List ℕ}
         → Ordered deep named f planeNo plane ps o (length subpel) (length ext) (length warp) scratch (length dst) ds p filled
         → src ≡ partOf p plane filled → dst′ ≡ fill dst ds (o .w) (o .h) (putOn depth subpel ext warp o src (p .stride))
         → OrderPutAnswer deep named depth f planeNo plane ps o subpel ext warp scratch dst ds r filled dst′
     unfolding orderDst orSame
-    put-done q from new =
-        let z = is ∙ q .number in
-        (is, rw z (kept q), rw z (new ∙ put-shown depth subpel ext warp o (source q from) ds (some q from) dst))
-
-    pub put-refused : (r ≡ 0 → ⊥) → OrderPutAnswer deep named depth f planeNo plane ps o subpel ext warp scratch dst ds r scratch dst
-    unfolding orderScratch scratchOf orderDst
-    put-refused h = (is, sym (refused r _ scratch h), sym (refused r _ dst h))
+    put-done q from new = let z = is ∙ q .number in (is, rw z (kept q), rw z (new ∙ put-shown depth subpel ext warp o (source q from) ds (some q from) dst))
 
   module _ (tmp : List ℤ) (ts : ℕ) {r : ℕ} (is : r ≡ orderNumber deep named f planeNo plane ps o subpel ext warp (length scratch) (length tmp) ts) where
+    pub prep-refused : (r ≡ 0 → ⊥) → OrderPrepAnswer deep named depth f planeNo plane ps o subpel ext warp scratch tmp ts r scratch tmp
+    unfolding orderScratch scratchOf orderTmp
+    prep-refused h = (is, sym (refused r _ scratch h), sym (refused r _ tmp h))
+
     pub prep-done : {p : Part} {filled src : List ℕ} {tmp′ : List ℤ}
         → Ordered deep named f planeNo plane ps o (length subpel) (length ext) (length warp) scratch (length tmp) ts p filled
         → src ≡ partOf p plane filled → tmp′ ≡ fill tmp ts (o .w) (o .h) (prepOn depth subpel ext warp o src (p .stride))
         → OrderPrepAnswer deep named depth f planeNo plane ps o subpel ext warp scratch tmp ts r filled tmp′
     unfolding orderTmp orSame
-    prep-done q from new =
-        let z = is ∙ q .number in
-        (is, rw z (kept q), rw z (new ∙ prep-shown depth subpel ext warp o (source q from) ts (some q from) tmp))
-
-    pub prep-refused : (r ≡ 0 → ⊥) → OrderPrepAnswer deep named depth f planeNo plane ps o subpel ext warp scratch tmp ts r scratch tmp
-    unfolding orderScratch scratchOf orderTmp
-    prep-refused h = (is, sym (refused r _ scratch h), sym (refused r _ tmp h))
+    prep-done q from new = let z = is ∙ q .number in (is, rw z (kept q), rw z (new ∙ prep-shown depth subpel ext warp o (source q from) ts (some q from) tmp))
 
 -- ---- a call by its numbers as they are passed on: an order's, and what answers for them
 pub order-passed : {x x′ y y′ : ℤ} (w h : ℕ) {k k′ : Kind} → x ≡ x′ → y ≡ y′ → k ≡ k′
     → _≡_ {A = Order} (record { x = x; y = y; w = w; h = h; kind = k }) (record { x = x′; y = y′; w = w; h = h; kind = k′ })
 order-passed w h a b c = rw (a, b, c) refl
+
+pub kind-passed : (n : ℕ) {mx mx′ my my′ t t′ a a′ b b′ c c′ d d′ : ℤ} → mx ≡ mx′ → my ≡ my′ → t ≡ t′ → a ≡ a′ → b ≡ b′ → c ≡ c′ → d ≡ d′
+    → kindOf n mx my t a b c d ≡ kindOf n mx′ my′ t′ a′ b′ c′ d′
+kind-passed n x y t a b c d = rw (x, y, t, a, b, c, d) refl
 
 module _ (named : Bool) (f : Frame) (planeNo : ℕ) (plane : List ℕ) (ps : ℕ) (subpel ext warp : List ℤ) (scratch : List ℕ) (ds r : ℕ) (scratch′ : List ℕ)
     {deep deep′ : Bool} {depth depth′ : ℕ} {o o′ : Order} (d : deep ≡ deep′) (b : depth ≡ depth′) (e : o ≡ o′) where

@@ -16,12 +16,10 @@ use Rattle.rows.specs.Numbers.{up, dn, px, apart, sum}
 use Rattle.rows.specs.Places.{pick, pixel}
 use Rattle.rows.specs.Search.{rowApart, sad, moved, sadAt, Offset, Best, none, best, better, visit, through, steps, search, answer, centre, refine}
 use Rattle.rows.proofs.Laws.Signed.{back, backn, fit-abs, add-parts, sub-parts, one-part, abs-parts, nonNeg-of}
-use Rattle.rows.proofs.Laws.Depth.{high}
-use Rattle.blocks.specs.Refuse.{need, lowest, orSame, sizeOk, strideOk, holds, depthOk}
-use Rattle.blocks.specs.Ready.{Block, Rows, Deep, Blocks, Wider}
+use Rattle.blocks.specs.Refuse.{need, lowest, orSame, sizeOk, strideOk, holds}
+use Rattle.blocks.specs.Ready.{Block, Rows, Blocks, Wider}
 use Rattle.blocks.specs.declared.search.Best as code
 use Rattle.blocks.specs.Search.{bestOf, sadsTests, sadTests, refineTests, SadAnswer, RefineAnswer}
-use Rattle.blocks.proofs.Laws.Deep.{deep-high}
 use Rattle.blocks.proofs.Laws.Refuse.{all-met, done}
 use Rattle.blocks.proofs.Laws.Ready.{block-met, rows-met}
 use Rattle.blocks.proofs.Laws.Answer.{unique-of}
@@ -34,10 +32,6 @@ sads-ready m deep l0 s0 l1 s1 w h e =
     let r = t .1 .1 in
     let b = r .1 .1 .1 in
     (block-met w h (t .0) (t .1 .0), rows-met l0 s0 (w + m) (h + m) (r .0) (b .0), rows-met l1 s1 (w + m) (h + m) (r .1 .0) (b .1 .0), r .1 .1 .0)
-
-pub deep-limits : (depth : ℤ) → depthOk depth ≡ true → Deep (up depth)
-deep-limits depth e =
-    high Deep (deep-high depth e) (record { least = omega arith; most = omega arith }) (record { least = omega arith; most = omega arith })
 
 -- row y of both blocks is within its buffer
 pub rows-of : {l0 o0 s0 l1 o1 s1 w h : ℕ} (y : ℕ) → Blocks l0 o0 s0 l1 o1 s1 w h → y < h → (o0 + y * s0 + w ≤ l0) × (o1 + y * s1 + w ≤ l1)

@@ -4,7 +4,8 @@ use mathlib.Core.Bool.{Bool, true}
 use mathlib.Core.List.{List}
 use Prim.Native.Nat.{ℕ}
 use lib.IntN.{ℤ, pos, negsuc}
-use Rattle.blocks.specs.Refuse.{need, lowest, sizeOk, strideOk, holds, reads, depthOk, wholeFilters}
+use Rattle.blocks.specs.Refuse.{need, lowest, sizeOk, strideOk, holds, reads, wholeFilters}
+use Rattle.blocks.specs.words.Depth.{depthOk}
 use Rattle.blocks.proofs.Laws.Answer.{unique}
 use Rattle.blocks.specs.Subpel.{typeOk, sixteenthOk, fractionOk, subpelOk, filterIn, subpelTests, Put8Answer, Prep8Answer}
 

@@ -54,7 +54,7 @@ held (pos t) (pos (suc f)) side tl el a b c d =
     omega (arith, eqb-true tl 600 c)
 
 pub subpel-ready : (deep : Bool) (dl ds sl o ss w h : ℕ) (mx my t : ℤ) (tl el : ℕ) → lowest (subpelTests deep dl ds sl o ss w h mx my t tl el) ≡ 0
-    → Block w h × Rows dl ds w h × Taps sl o ss w h mx my t tl el
+    → (deep ≡ true) × Block w h × Rows dl ds w h × Taps sl o ss w h mx my t tl el
 unfolding reads
 subpel-ready deep dl ds sl o ss w h mx my t tl el e =
     let m = all-met (subpelTests deep dl ds sl o ss w h mx my t tl el) e in
@@ -64,6 +64,7 @@ subpel-ready deep dl ds sl o ss w h mx my t tl el e =
     let z = q .1 .1 .1 .1 in
     let r = and-true (leb (3 * on my * ss + 3 * on mx) o) (ltb (o + (h - 1 + 4 * on my) * ss + (w - 1 + 4 * on mx)) sl) (z .0) in
     let p = stride-met w ss (s .1 .0) in (
+      s .1 .1 .0,
       block-met w h (m .0) (m .1 .0),
       rows-met dl ds w h (s .0) (z .1 .0),
       record {
@@ -75,6 +76,3 @@ subpel-ready deep dl ds sl o ss w h mx my t tl el e =
         down = held t my h tl el (n .0) (n .1 .1 .0) (q .0) (q .1 .1 .1 .0);
       },
     )
-
-pub subpel-deep : (deep : Bool) (dl ds sl o ss w h : ℕ) (mx my t : ℤ) (tl el : ℕ) → lowest (subpelTests deep dl ds sl o ss w h mx my t tl el) ≡ 0 → deep ≡ true
-subpel-deep deep dl ds sl o ss w h mx my t tl el e = all-met (subpelTests deep dl ds sl o ss w h mx my t tl el) e .1 .1 .1 .1 .0

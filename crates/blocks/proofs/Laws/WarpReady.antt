@@ -11,7 +11,6 @@ use Rattle.rows.proofs.Laws.Fill.{and-true}
 use Rattle.blocks.specs.Refuse.{Test, stride, number, table, read, written, _asks_, lowest, strideOk, holds, reads, wholeFilters}
 use Rattle.blocks.specs.Ready.{Pass, Margins, Warps}
 use Rattle.blocks.specs.Warp.{warpPlaceOk, warpTests}
-use Rattle.blocks.specs.declared.warp.Shears.{Shears}
 use Rattle.blocks.proofs.Laws.Refuse.{all-met, later, sooner, stride-met}
 use Rattle.blocks.proofs.Laws.Ready.{rows-met}
 use Rattle.blocks.proofs.Laws.Corners.{every-at}
@@ -72,13 +71,12 @@ unfolding allThere
 passes n mx my a b c d p q e =
     let f = and-true (every 15 (λ r. every 8 (λ i. isThere n (filterNo mx a b r i)))) _ e in (pass-met n 15 mx a b p (f .0), pass-met n 8 my c d q (f .1))
 
-pub warp-ready : (deep : Bool) (dl ds sl ss off : ℕ) (m : Shears) (tl : ℕ)
-    → lowest (warpTests deep dl ds sl ss off (m .a) (m .b) (m .c) (m .d) (m .mx) (m .my) tl) ≡ 0
-    → (deep ≡ true) × Warps dl ds sl off ss (tl / 8) m
-warp-ready deep dl ds sl ss off m tl e =
-    let q = all-met (warpTests deep dl ds sl ss off (m .a) (m .b) (m .c) (m .d) (m .mx) (m .my) tl) e in
+pub warp-ready : (deep : Bool) (dl ds sl ss off : ℕ) (a b c d mx my : ℤ) (tl : ℕ) → lowest (warpTests deep dl ds sl ss off a b c d mx my tl) ≡ 0
+    → (deep ≡ true) × Warps dl ds sl off ss (tl / 8) (record { a = a; b = b; c = c; d = d; mx = mx; my = my })
+warp-ready deep dl ds sl ss off a b c d mx my tl e =
+    let q = all-met (warpTests deep dl ds sl ss off a b c d mx my tl) e in
     let p = q .1 .1 in let t = p .1 .1 .1 in let r = t .1 .1 in
-    let f = passes (tl / 8) (m .mx) (m .my) (m .a) (m .b) (m .c) (m .d) (p .1 .0) (p .1 .1 .0) (t .1 .0) in (
+    let f = passes (tl / 8) mx my a b c d (p .1 .0) (p .1 .1 .0) (t .1 .0) in (
       p .0,
       record {
         dst = rows-met dl ds 8 8 (q .0) (r .1 .0);

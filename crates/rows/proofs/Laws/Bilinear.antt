@@ -1,5 +1,5 @@
 -- What the bilinear rows share: two numbers that are widened to 32 bits, summed as they were; and pixels that are summed by their bytes. Assumes nothing.
-use mathlib.Core.Path.{_≡_, sym, ap, ap₂, _∙_}
+use mathlib.Core.Path.{_≡_, sym, ap, ap₂, subst, _∙_}
 use mathlib.Core.List.{List}
 use Prim.Native.Nat.{ℕ, _+_, _-_, _*_, _/_, _%_, _^_, _≤_, _<_, min}
 use native.Mathlib.Nat.{add-assoc, mul-assoc, mul-add, add-mul, mul-le-mul-left, add-mul-div-right, div-add-mod'}
@@ -107,6 +107,15 @@ put-once M s n r k e =
     (ap (λ (x : ℕ). x / 2 ^ k) (sym (add-mul-div-right (s + half n) r (pow-pos n)))
     ∙ shr-shr (s + half n + r * 2 ^ n) n k
     ∙ ap₂ (λ (x y : ℕ). x / y) (add-assoc s (half n) (r * 2 ^ n)) (ap (λ (x : ℕ). 2 ^ x) e))
+
+-- so they are at a place of pixels
+pub put-at : (M : ℕ) (src : List ℕ) (p step f n r k : ℕ) → f ≤ 15 → n + k ≡ 4
+    → clip M (shrZ (bilinAt (px src) p step f +ℤ pos (half n + r * 2 ^ n)) 16) ≡ clip M (shrZ (R n (bilinAt (px src) p step f) +ℤ pos r) (2 ^ k))
+put-at M src p step f n r k m e =
+    let a = getD src p 0 in let b = getD src (p + step) 0 in
+    subst (λ (z : ℤ). clip M (shrZ (z +ℤ pos (half n + r * 2 ^ n)) 16) ≡ clip M (shrZ (R n z +ℤ pos r) (2 ^ k)))
+    (weighed f (pos a) (pos b) (omega arith))
+    (sym (put-once M ((16 - f) * a + f * b) n r k e))
 
 -- what R(n) adds is small
 pub half-small : {r n : ℕ} → r ≡ half n → n ≤ 4 → r ≤ 8

@@ -10,15 +10,15 @@ use lib.IntN.{ℤ, pos, negsuc, natAbs, _+ℤ_, _-ℤ_, _*ℤ_, +ℤ-assoc}
 use lib.ListN.{getD}
 use lib.Pow.{pow-pos, pow-add}
 use lib.Signed.{shrZ}
-use mir.Syntax.{w8, w16}
+use mir.Syntax.{w8, w16, w32}
 use mir.Val.{SFits, toZ, ofZ}
 use mir.ValLaws.{toZ-ofZ}
 use mir.Facts.{sfits-widen}
-use Rattle.rows.specs.Numbers.{at, modZ, sum, sumZ, up, dn}
+use Rattle.rows.specs.Numbers.{at, modZ, sum, sumZ, up, dn, low16, minus16}
 use Rattle.rows.specs.Places.{rowOf}
-use Rattle.rows.specs.Subpel.{S, Near}
+use Rattle.rows.specs.Subpel.{S, Near, tapped}
 use Rattle.rows.proofs.Laws.Places.{row-same, row-of, getD-rowOf}
-use Rattle.rows.proofs.Laws.Signed.{abs-add, fit-abs, eq-of, add-parts, mul-up, mul-dn, mul-parts, sub-parts, mag-lt, fit}
+use Rattle.rows.proofs.Laws.Signed.{back, abs-add, fit-abs, eq-of, add-parts, mul-up, mul-dn, mul-parts, sub-parts, mag-lt, fit}
 
 -- a tap, widened to sixteen bits
 pub wide8-16 : {z : ℤ} → SFits w8 z → SFits w16 z
@@ -58,15 +58,19 @@ pub near-is : {f : List ℤ} {x : ℕ → ℤ} {j s : ℕ} → NearSum f x j s �
 near-is {f} {x} {j} p =
     ap (toZ w16) (p .is) ∙ toZ-ofZ w16 (sumZ j (λ t. at f t *ℤ x t)) (fit-abs w16 (sumZ j (λ t. at f t *ℤ x t)) (omega (arith, p .most, p .few)))
 
--- tap j's product still fits
-pub near-room : {f : List ℤ} {x : ℕ → ℤ} {j s : ℕ} → NearSum f x j s → j < 8 → Near f → natAbs (toZ w16 s) + natAbs (at f j) * 255 ≤ 32640
-near-room {f} {x} {j} p h n = rw (near-is p) (omega (arith, p .most, sizes-room f j h n))
+-- the product of tap j, which is read back from its bits, still fits
+pub near-room : {f : List ℤ} {x : ℕ → ℤ} {j s : ℕ} → NearSum f x j s → j < 8 → Near f → SFits w8 (at f j)
+    → natAbs (toZ w16 s) + natAbs (toZ w8 (ofZ w8 (at f j))) * 255 ≤ 32640
+near-room {f} {x} {j} p h n b = rw (back b, near-is p) (omega (arith, p .most, sizes-room f j h n))
 
+-- and y, what it is multiplied with, is number j
 pub near-more :
-    {f : List ℤ} {x : ℕ → ℤ} {j s : ℕ} {r : ℤ} → NearSum f x j s → j < 8 → Near f
-    → (r ≡ toZ w16 s +ℤ at f j *ℤ x j) × (natAbs (at f j *ℤ x j) ≤ natAbs (at f j) * 255) → NearSum f x (j + 1) (ofZ w16 r)
+    {f : List ℤ} {x : ℕ → ℤ} {j s : ℕ} {r y : ℤ} → NearSum f x j s → j < 8 → Near f → SFits w8 (at f j) → y ≡ x j
+    → (r ≡ toZ w16 s +ℤ toZ w8 (ofZ w8 (at f j)) *ℤ y) × (natAbs (toZ w8 (ofZ w8 (at f j)) *ℤ y) ≤ natAbs (toZ w8 (ofZ w8 (at f j))) * 255)
+    → NearSum f x (j + 1) (ofZ w16 r)
 unfolding sumZ sum
-near-more {f} {x} {j} p h n e =
+near-more {f} {x} {j} p h n b q made =
+    let e = rw (back b, q) at made in
     rw add-one
     (record {
       le = h;
@@ -152,6 +156,33 @@ whole f x (suc n) =
 pub whole-sum : (f : List ℤ) (x : ℕ → ℤ) → S f (highs x) *ℤ pos 256 +ℤ S f (lows x) ≡ S f x
 unfolding S
 whole-sum f x = whole f x 8
+
+-- both sums, read back from their bits
+pub parts-fit :
+    {h l H L : ℤ} → (h ≡ H) × (natAbs h ≤ 32640) → (l ≡ L) × (natAbs l ≤ 32640) → (natAbs (toZ w16 (ofZ w16 h)) ≤ 32640) × (natAbs (toZ w16 (ofZ w16 l)) ≤ 32640)
+parts-fit {h} {l} a b = rw (back (fit-abs w16 h (omega (arith, a .1))), back (fit-abs w16 l (omega (arith, b .1)))) (a .1, b .1)
+
+pub whole-is : (f : List ℤ) (x : ℕ → ℤ) {h l : ℤ} → (h ≡ S f (highs x)) × (natAbs h ≤ 32640) → (l ≡ S f (lows x)) × (natAbs l ≤ 32640)
+    → toZ w16 (ofZ w16 h) *ℤ pos 256 +ℤ toZ w16 (ofZ w16 l) ≡ S f x
+whole-is f x {h} {l} a b = rw (back (fit-abs w16 h (omega (arith, a .1))), back (fit-abs w16 l (omega (arith, b .1))), a .0, b .0) (whole-sum f x)
+
+-- what is kept of them, and of a sum that was made whole
+pub near-kept-is : (f : List ℤ) (x : ℕ → ℤ) (r n : ℕ) {h l v b : ℤ} → SFits w16 v → SFits w16 b
+    → (h ≡ S f (highs x)) × (natAbs h ≤ 32640) → (l ≡ S f (lows x)) × (natAbs l ≤ 32640)
+    → v ≡ minus16 (low16 (shrZ (toZ w16 (ofZ w16 h) *ℤ pos 256 +ℤ toZ w16 (ofZ w16 l) +ℤ pos r) (2 ^ n))) (toZ w16 (ofZ w16 b))
+    → toZ w16 (ofZ w16 v) ≡ minus16 (low16 (tapped f r n x)) b
+unfolding tapped
+near-kept-is f x r n fv fb hs ls e = rw (back fv, e, whole-is f x hs ls, back fb)
+
+pub rounded-is : (f : List ℤ) (x : ℕ → ℤ) (r n : ℕ) {s v : ℤ} → SFits w32 v → SFits w32 s → s ≡ S f x → v ≡ shrZ (toZ w32 (ofZ w32 s) +ℤ pos r) (2 ^ n)
+    → toZ w32 (ofZ w32 v) ≡ tapped f r n x
+unfolding tapped
+rounded-is f x r n fv fs q e = rw (back fv, e, back fs, q)
+
+pub kept-is : (f : List ℤ) (x : ℕ → ℤ) (r n : ℕ) {s v b : ℤ} → SFits w16 v → SFits w16 b → SFits w32 s → s ≡ S f x
+    → v ≡ minus16 (low16 (shrZ (toZ w32 (ofZ w32 s) +ℤ pos r) (2 ^ n))) (toZ w16 (ofZ w16 b)) → toZ w16 (ofZ w16 v) ≡ minus16 (low16 (tapped f r n x)) b
+unfolding tapped
+kept-is f x r n fv fb fs q e = rw (back fv, e, back fs, q, back fb)
 
 -- what the high byte leaves is the low one
 pub low-is : (x : ℤ) → x -ℤ shrZ x 256 *ℤ pos 256 ≡ pos (modZ x 256)

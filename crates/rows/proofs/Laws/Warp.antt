@@ -8,13 +8,13 @@ use native.Mathlib.Numerals.{add-one}
 use native.Mathlib.Omega.{arith}
 use borrow.Author.Tests.{ltb-true}
 use lib.Dec.{T}
-use lib.IntN.{ℤ, pos, negsuc, natAbs}
+use lib.IntN.{ℤ, pos, negsuc, natAbs, _+ℤ_}
 use lib.ListN.{length}
-use lib.Signed.{nonNeg}
-use Rattle.rows.specs.Numbers.{at, half}
+use lib.Signed.{nonNeg, shrZ}
+use Rattle.rows.specs.Numbers.{at, half, low16}
 use Rattle.rows.specs.Places.{span}
-use Rattle.rows.specs.Subpel.{filter}
-use Rattle.rows.specs.Warp.{isThere, warped}
+use Rattle.rows.specs.Subpel.{filter, tapped, S}
+use Rattle.rows.specs.Warp.{isThere}
 use Rattle.rows.proofs.Laws.Places.{span-length, span-at, row-done, length-rowOf}
 use Rattle.rows.proofs.Laws.Row.{Upto}
 use Rattle.rows.proofs.Laws.Taps.{tapped-same}
@@ -44,10 +44,14 @@ unfolding filter
 length-filter table n f e = ap length e ∙ length-rowOf 8 (λ t. at table (8 * n + t))
 
 -- eight numbers side by side
-pub beside : (table : List ℤ) (m a b : ℤ) (n r c : ℕ) (x : ℕ → ℤ) (o : ℕ)
-    → warped table m a b n r c (λ t. x (o + t * 1)) ≡ warped table m a b n r c (λ t. x (o + t))
-unfolding warped
-beside table m a b n r c x o = tapped-same _ (half n) n (λ t. x (o + t * 1)) (λ t. x (o + t)) λ t h. ap (λ (k : ℕ). x (o + k)) (mul-one t)
+beside : (g : List ℤ) (n : ℕ) (x : ℕ → ℤ) (o : ℕ) → shrZ (S g (λ t. x (o + t * 1)) +ℤ pos (half n)) (2 ^ n) ≡ tapped g (half n) n (λ t. x (o + t))
+unfolding tapped
+beside g n x o = tapped-same g (half n) n (λ t. x (o + t * 1)) (λ t. x (o + t)) λ t h. ap (λ (k : ℕ). x (o + k)) (mul-one t)
+
+-- what is kept of the sum of eight numbers side by side, by a filter g
+pub warp-kept-is : (x : ℕ → ℤ) (o n : ℕ) {f g : List ℤ} {s v : ℤ} → f ≡ g → s ≡ S f (λ t. x (o + t * 1)) → v ≡ low16 (shrZ (s +ℤ pos (half n)) (2 ^ n))
+    → v ≡ low16 (tapped g (half n) n (λ t. x (o + t)))
+warp-kept-is x o n {f} {g} {s} {v} ef es ev = rw (ev, es, ef) (ap low16 (beside g n x o))
 
 -- the taps of row r, of the fifteen rows from place o on
 pub tap-row : (l o s r : ℕ) → o + 14 * s + 8 ≤ l → r < 15 → o + r * s + 8 ≤ l

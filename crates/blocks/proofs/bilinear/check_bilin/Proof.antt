@@ -43,19 +43,9 @@ pub check-bilin-spec : {M : Type 1} → statement M
 check-bilin-spec =
     tie.close
     (tie.spec
-    (λ c κs. search needs)  -- sizes-requires
-    returns
-    (λ c κs. search needs)  -- held-requires
-    (λ c κs. search needs)  -- on-axis-requires
+    (λ c κs. search needs) returns (λ c κs. search needs) (λ c κs. search needs)  -- sizes, held, on-axis
     (λ c. omega (arith, block (c .before .before), c .on-axis .ensures))  -- add-held
     (λ c κs. search needs)  -- on-axis-requires-2
     (λ c. omega (arith, block (c .before .before .before), c .on-axis2 .ensures))  -- add-held-2
-    (λ c κs. search needs)  -- held-requires-2
-    (λ c κs. search needs)  -- sixteenth-ok-requires
-    (λ c κs. search needs)  -- sixteenth-ok-requires-2
-    (λ c κs. search needs)  -- needed-requires
-    (λ c κs. search needs)  -- needed-requires-2
-    (λ c κs. search needs)  -- needed-requires-3
-    (λ c κs. search needs)  -- stride-requires
-    (λ c κs. search needs)  -- stride-requires-2
-    returns-2)
+    (λ c κs. search needs) (λ c κs. search needs) (λ c κs. search needs) (λ c κs. search needs) (λ c κs. search needs)  -- held, sixteenth-ok, needed
+    (λ c κs. search needs) (λ c κs. search needs) (λ c κs. search needs) returns-2)  -- needed, stride

@@ -8,7 +8,7 @@ use mir.Syntax.{w16}
 use mir.Val.{toZ}
 use borrow.Author.Needs.{needs}
 use Rattle.rows.proofs.Laws.Signed.{back}
-use Rattle.blocks.proofs.Laws.Rows.{Filled, filled-none, filled-more, filled-all, filled-span}
+use Rattle.blocks.proofs.Laws.Rows.{Filled, filled-none, filled-all, block-loop}
 use Rattle.blocks.proofs.Laws.BilinReady.{Turn, turn}
 use Rattle.blocks.proofs.bilinear.mid_bilin_prep_rows.Statement.{statement}
 use Rattle.blocks.proofs.bilinear.mid_bilin_prep_rows.Tie as tie
@@ -25,37 +25,16 @@ abbrev entry : tie.In-loop Inv-loop μ-loop → tie.Start Inv-loop μ-loop
 entry c = c .before .before
 
 row : (c : tie.In-loop Inv-loop μ-loop) → let a = entry c .args in
-    Turn (length (c .before .loop .tmp)) (a .ts) (length (a .mid .now)) 64 64 (a .w) (c .before .loop .y)
-row c = turn (entry c .pre) (c .before .loop .inv) (c .loop-test .taken)
-
-row-requires : tie.Need-mid-bilin-prep-row-requires Inv-loop μ-loop
-row-requires c κs =
-    let t = c .before in
-    rw (filled-span (pos 0) (t .before .loop .inv) (entry t .pre .dst) (t .loop-test .taken)) (omega (arith, row t, entry t .pre))
-
-loop-again : tie.Need-loop-again Inv-loop μ-loop
-loop-again c =
-    let t = c .before .before .before in
-    let p = entry t .pre in
-    filled-more (pos 0) _ (t .before .loop .inv) (p .w1) (p .dst) (t .loop-test .taken) (c .before .mid-bilin-prep-row .ensures)
+    Turn (c .before .loop .tmp) (a .ts) (length (a .mid .now)) 64 64 (a .w) (c .before .loop .y)
+row c = turn (pos 0) (entry c .pre) (c .before .loop .inv) (c .loop-test .taken)
 
 pub mid-bilin-prep-rows-spec : {M : Type 1} → statement M
 mid-bilin-prep-rows-spec =
     tie.close
-    (tie.spec
-    Inv-loop
-    μ-loop
+    (tie.spec Inv-loop μ-loop
     (λ c. filled-none (pos 0) _ _ _ _ _ (omega (arith, c .pre)))  -- loop-holds
-    (λ c. omega (arith, row c))  -- mul-d
-    (λ c. omega (arith, row c))  -- add-mid-bilin-prep-row
-    (λ c. omega (arith, row c))  -- mul-mid-bilin-prep-row
-    (λ c. omega (arith, row c))  -- sub-mid-bilin-prep-row
-    (λ c. omega (arith, row c))  -- part-mid-bilin-prep-row-start
-    (λ c. omega (arith, row c))  -- part-mid-bilin-prep-row-end
-    (λ c. omega (arith, row (c .before)))  -- mul-mid-bilin-prep-row-2
-    row-requires
-    (λ c. search needs)  -- add-y
-    (λ c. search needs)  -- loop-less
-    loop-again
-    (λ c. c .before .loop .inv .len)  -- same-length
+    (λ c. omega (arith, row c)) (λ c. omega (arith, row c))  -- y * ts, d + w
+    (λ c. omega (arith, row c)) (λ c. omega (arith, row c)) (λ c. omega (arith, row c)) (λ c. omega (arith, row c))  -- tmp[d..d + w]
+    (λ c. omega (arith, row (c .before))) (λ c κs. omega (arith, row (c .before), entry (c .before) .pre))  -- mid-bilin-prep-row
+    (λ c. search needs) (λ c. search needs) (λ c. search block-loop) (λ c. search block-loop)  -- y += 1, and the loop
     (λ c. rw (← back (c .before .before .fits .bias)) (filled-all (c .before .loop .inv) (c .loop-test .left))))  -- returns

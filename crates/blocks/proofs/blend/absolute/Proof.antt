@@ -23,10 +23,8 @@ fits c = fit w32 (c .before .fits .v .sfits)
 pub absolute-spec : {M : Type 1} → statement M
 absolute-spec =
     tie.close
-    (tie.spec
-    (λ c. rw (minus c) (fits c))  -- sub-result
-    (λ c. rw (backs w32 (minus c) (fits c)) (omega (signed, fits c)))  -- cast-result
-    (λ c. rw (backs w32 (minus c) (fits c)) (omega (arith, fits c)))  -- add-result
-    (λ c. omega (signed, rd (c .before .fits .v)))  -- cast-result-2
+    (tie.spec (λ c. rw (minus c) (fits c)) (λ c. rw (backs w32 (minus c) (fits c)) (omega (signed, fits c)))  -- (-1 - v) as u32
+    (λ c. rw (backs w32 (minus c) (fits c)) (omega (arith, fits c)))  -- + 1
+    (λ c. omega (signed, rd (c .before .fits .v)))  -- v as u32
     (λ c. rw (backs w32 (minus c) (fits c)) (omega (arith, below (c .before .args .v) (under c))))  -- returns
     (λ c. search needs))  -- returns-2

@@ -6,9 +6,5 @@ pub check-blend-spec : {M : Type 1} → statement M
 check-blend-spec =
     tie.close
     (tie.spec
-    (λ c κs. search needs)  -- held-requires
-    (λ c κs. search needs)  -- held-requires-2
-    (λ c κs. search needs)  -- held-requires-3
-    (λ c κs. search needs)  -- stride-requires
-    (λ c κs. search needs)  -- sizes-requires
+    (λ c κs. search needs) (λ c κs. search needs) (λ c κs. search needs) (λ c κs. search needs) (λ c κs. search needs)  -- held, stride, sizes
     (λ c. cc))  -- returns

@@ -58,9 +58,7 @@ returns-2 c =
 pub find-above-spec : {M : Type 1} → statement M
 find-above-spec =
     tie.close
-    (tie.spec
-    Inv-loop
-    μ-loop
+    (tie.spec Inv-loop μ-loop
     Inv-search
     μ-search
     (λ c. (omega arith, refl, λ i b. absurd (omega (arith, zero-mul (c .args .w)))))  -- search-holds
@@ -68,11 +66,5 @@ find-above-spec =
     (λ c. omega (arith, row c))  -- mul-if1
     (λ c. omega (arith, row c))  -- add-if1
     (λ c. omega (arith, row (c .before)))  -- shared-slice-read-if1
-    (λ c. search needs)  -- add-col
-    (λ c. search needs)  -- loop-less
-    loop-again
-    (λ c. search needs)  -- add-row
-    (λ c. search needs)  -- search-less
-    search-again
-    returns
-    returns-2)
+    (λ c. search needs) (λ c. search needs) loop-again (λ c. search needs) (λ c. search needs)  -- add-col, loop-less, add-row, search-less
+    search-again returns returns-2)

@@ -25,6 +25,4 @@ first-above-spec =
     (tie.spec
     (λ c. omega (arith, all (c .before)))  -- mul-largest
     (λ c κs. all (c .before))  -- largest-requires
-    returns
-    (λ c κs. search needs)  -- find-above-requires
-    (λ c. search needs))  -- returns-2
+    returns (λ c κs. search needs) (λ c. search needs))  -- find-above, returns

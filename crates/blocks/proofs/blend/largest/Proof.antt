@@ -22,13 +22,8 @@ loop-again c =
 pub largest-spec : {M : Type 1} → statement M
 largest-spec =
     tie.close
-    (tie.spec
-    Inv-loop
-    μ-loop
+    (tie.spec Inv-loop μ-loop
     (λ c. (omega arith, at-most-none 0 (c .before .args .mask .now) 0))  -- loop-holds
-    (λ c. search needs)  -- shared-slice-read-larger
-    (λ c κs. search needs)  -- larger-requires
-    (λ c. search needs)  -- add-i
-    (λ c. search needs)  -- loop-less
+    (λ c. search needs) (λ c κs. search needs) (λ c. search needs) (λ c. search needs)  -- shared-slice-read-larger, larger, add-i, loop-less
     loop-again
     (λ c i b. c .before .loop .inv .1 i (omega arith)))  -- returns

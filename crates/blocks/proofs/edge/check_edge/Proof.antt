@@ -10,11 +10,5 @@ pub check-edge-spec : {M : Type 1} → statement M
 check-edge-spec =
     tie.close
     (tie.spec
-    (λ c κs. search needs)  -- held-requires
-    (λ c κs. search needs)  -- held-requires-2
-    (λ c κs. search needs)  -- places-requires
-    (λ c κs. search needs)  -- stride-requires
-    (λ c κs. search needs)  -- stride-requires-2
-    (λ c κs. search needs)  -- sides-requires
-    (λ c κs. search needs)  -- sides-requires-2
-    returns)
+    (λ c κs. search needs) (λ c κs. search needs) (λ c κs. search needs) (λ c κs. search needs) (λ c κs. search needs)  -- held, places, stride
+    (λ c κs. search needs) (λ c κs. search needs) returns)  -- sides

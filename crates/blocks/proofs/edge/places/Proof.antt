@@ -7,8 +7,5 @@ pub places-spec : {M : Type 1} → statement M
 places-spec =
     tie.close
     (tie.spec
-    (λ c κs. search needs)  -- place-ok-requires
-    (λ c κs. search needs)  -- place-ok-requires-2
-    (λ c κs. search needs)  -- needed-requires
-    (λ c κs. search needs)  -- needed-requires-2
+    (λ c κs. search needs) (λ c κs. search needs) (λ c κs. search needs) (λ c κs. search needs)  -- place-ok, needed
     (λ c. let a = c .before .before .before .before in cc (back (a .fits .x), back (a .fits .y))))  -- returns

@@ -6,8 +6,5 @@ pub sides-spec : {M : Type 1} → statement M
 sides-spec =
     tie.close
     (tie.spec
-    (λ c κs. search needs)  -- size-ok-requires
-    (λ c κs. search needs)  -- size-ok-requires-2
-    (λ c κs. search needs)  -- needed-requires
-    (λ c κs. search needs)  -- needed-requires-2
+    (λ c κs. search needs) (λ c κs. search needs) (λ c κs. search needs) (λ c κs. search needs)  -- size-ok, needed
     (λ c. cc))  -- returns

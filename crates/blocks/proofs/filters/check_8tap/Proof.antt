@@ -45,16 +45,7 @@ pub check-8tap-spec : {M : Type 1} → statement M
 check-8tap-spec =
     tie.close
     (tie.spec
-    (λ c κs. search needs)  -- stride-requires
-    (λ c κs. search needs)  -- stride-requires-2
-    (λ c κs. search needs)  -- sizes-requires
+    (λ c κs. search needs) (λ c κs. search needs) (λ c κs. search needs)  -- stride, sizes
     (λ c. shape (c .before) ∙ sooner (shapeTests _ _ _ _) _ (λ q. c .if1 .taken (shape (c .before) ∙ q)))  -- returns
-    (λ c κs. search needs)  -- on-axis-requires
-    (λ c κs. search needs)  -- on-axis-requires-2
-    reads-taps-requires
-    (λ c κs. search needs)  -- held-requires
-    (λ c κs. search needs)  -- needed-requires
-    (λ c κs. search needs)  -- tables-requires
-    (λ c κs. search needs)  -- motion-requires
-    (λ c κs. search needs)  -- needed-requires-2
-    returns-2)
+    (λ c κs. search needs) (λ c κs. search needs) reads-taps-requires (λ c κs. search needs) (λ c κs. search needs)  -- on-axis, held, needed
+    (λ c κs. search needs) (λ c κs. search needs) (λ c κs. search needs) returns-2)  -- tables, motion, needed

@@ -13,7 +13,6 @@ pub filter-in-spec : {M : Type 1} → statement M
 filter-in-spec =
     tie.close
     (tie.spec
-    (λ c κs. search needs)  -- above-requires
-    (λ c. search needs)  -- cast-result
+    (λ c κs. search needs) (λ c. search needs)  -- above, cast-result
     (λ c. omega (arith, c .above .ensures, rd (c .before .fits .f)))  -- mul-result
     returns)

@@ -46,18 +46,10 @@ pub get-filter-spec : {M : Type 1} → statement M
 get-filter-spec =
     tie.close
     (tie.spec
-    (λ c κs. search needs)  -- above-requires
-    (λ c. search needs)  -- cast-n
+    (λ c κs. search needs) (λ c. search needs)  -- above, cast-n
     (λ c. filter-off _ _ _ (omega (arith, n-is (c .before))))  -- returns
-    (λ c. search needs)  -- sub-t8
-    returns-2
-    (λ c κs. search needs)  -- above-requires-2
-    (λ c. search needs)  -- cast-t
-    (λ c. search needs)  -- add-t10
-    (λ c. search needs)  -- mul-t11
-    (λ c. search needs)  -- sub-t12
-    (λ c. search needs)  -- add-t13
-    returns-3
+    (λ c. search needs) returns-2 (λ c κs. search needs) (λ c. search needs) (λ c. search needs)  -- sub-t8, above, cast-t, add-t10
+    (λ c. search needs) (λ c. search needs) (λ c. search needs) returns-3  -- mul-t11, sub-t12, add-t13
     (λ c. omega (arith, t-is (c .before)))  -- mul-t14
     (λ c. search needs)  -- sub-t15
     (λ c. omega (arith, t-is (c .before), n-is (c .before .before .before .before)))  -- add-t16

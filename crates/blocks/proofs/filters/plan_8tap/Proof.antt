@@ -101,26 +101,21 @@ pub plan-8tap-spec : {M : Type 1} → statement M
 plan-8tap-spec =
     tie.close
     (tie.spec
-    (λ c κs. search needs)  -- filter-bits-requires
-    (λ c κs. search needs)  -- get-filter-requires
+    (λ c κs. search needs) (λ c κs. search needs)  -- filter-bits, get-filter
     (λ c κs. rw (across c) (c .before .before .before .before .pre .2))  -- taps-requires
     (λ c κs. search needs)  -- get-filter-requires-2
     (λ c κs. rw (down c) (c .before .before .before .before .before .before .before .pre .3))  -- taps-requires-2
-    (λ c κs. search needs)  -- on-axis-requires
-    (λ c κs. search needs)  -- on-axis-requires-2
+    (λ c κs. search needs) (λ c κs. search needs)  -- on-axis
     (λ c κs. let d = c .before .before .before .before in omega (arith, bits (d .before .before .before .before .before .before), bits-fit (begin d .args .m .«filter_type»)))  -- half-power-requires
-    (λ c κs. search needs)  -- by-one-requires
-    returns
+    (λ c κs. search needs) returns  -- by-one
     (λ c. omega (arith, only-down c))  -- mul-by-one
     (λ c. only-down c)  -- sub-by-one
-    (λ c κs. search needs)  -- by-one-requires-2
-    returns-2
+    (λ c κs. search needs) returns-2  -- by-one
     (λ c. omega (arith, known (c .before)))  -- n - b
     (λ c κs. omega (arith, known (c .before)))  -- half-power-requires-2
     (λ c. search needs)  -- add-round
     (λ c. let t = c .before .before .before in omega (arith, known t, begin (filters t) .pre .1))  -- o - 3
-    (λ c κs. search needs)  -- by-one-requires-3
-    returns-3
+    (λ c κs. search needs) returns-3  -- by-one
     (λ c. omega (arith, both c))  -- mul
     (λ c. omega (arith, both c))  -- add
     (λ c. both c)  -- sub

@@ -42,18 +42,12 @@ pub reads-taps-spec : {M : Type 1} → statement M
 reads-taps-spec =
     tie.close
     (tie.spec
-    (λ c. search needs)  -- sub-last
-    (λ c. search needs)  -- mul-last
-    (λ c. search needs)  -- add-last
+    (λ c. search needs) (λ c. search needs) (λ c. search needs)  -- sub-last, mul-last, add-last
     (λ c. omega (arith, small c))  -- mul-last-2
-    (λ c. search needs)  -- sub-last-2
-    (λ c. search needs)  -- mul-last-3
-    (λ c. search needs)  -- add-last-2
+    (λ c. search needs) (λ c. search needs) (λ c. search needs)  -- sub-last, mul-last, add-last
     (λ c. omega (arith, small c))  -- add-last-3
     (λ c. search needs)  -- mul-if1
     (λ c. omega (arith, small c))  -- mul-if1-2
     (λ c. search needs)  -- mul-if1-3
     (λ c. omega (arith, small c))  -- add-if1
-    returns
-    returns-2
-    returns-3)
+    returns returns-2 returns-3)

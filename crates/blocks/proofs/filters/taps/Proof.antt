@@ -21,11 +21,8 @@ pub taps-spec : {M : Type 1} → statement M
 taps-spec =
     tie.close
     (tie.spec
-    (λ c. search needs)  -- enum-told
-    (λ c. search needs)  -- enum-known-k
+    (λ c. search needs) (λ c. search needs)  -- enum-told, enum-known-k
     (λ c κs. rw (c .before .k .given .1) at (c .before .before .before .pre))  -- eight-requires
     (λ c. search needs)  -- enum-known-k-2
     (λ c κs. rw (c .before .k2 .given .1) at (c .before .before .before .pre))  -- eight-requires-2
-    returns
-    returns-2
-    returns-3)
+    returns returns-2 returns-3)

@@ -31,8 +31,7 @@ area-of-spec =
     (tie.spec
     (λ c κs. c .pre .0)  -- window-side-requires
     (λ c κs. c .before .pre .1)  -- window-side-requires-2
-    (λ c κs. search needs)  -- plane-w-requires
-    (λ c κs. search needs)  -- plane-h-requires
+    (λ c κs. search needs) (λ c κs. search needs)  -- plane-w, plane-h
     (λ c κs. let s = c .before .before .before .before in rw (back (s .fits .x)) (s .pre .2))  -- window-start-requires
     (λ c κs. let s = c .before .before .before .before .before in rw (back (s .fits .y)) (s .pre .3))  -- window-start-requires-2
     returns)

@@ -14,5 +14,4 @@ pub frame-names-ok-spec : {M : Type 1} → statement M
 frame-names-ok-spec =
     tie.close
     (tie.spec
-    (λ c κs. search needs)  -- flags-ok-requires
-    returns)
+    (λ c κs. search needs) returns)  -- flags-ok

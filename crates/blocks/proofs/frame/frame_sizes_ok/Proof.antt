@@ -14,8 +14,4 @@ pub frame-sizes-ok-spec : {M : Type 1} → statement M
 frame-sizes-ok-spec =
     tie.close
     (tie.spec
-    (λ c κs. search needs)  -- size-ok-requires
-    (λ c κs. search needs)  -- size-ok-requires-2
-    (λ c κs. search needs)  -- plane-w-requires
-    (λ c κs. search needs)  -- plane-h-requires
-    returns)
+    (λ c κs. search needs) (λ c κs. search needs) (λ c κs. search needs) (λ c κs. search needs) returns)  -- size-ok, plane-w, plane-h

@@ -25,15 +25,6 @@ pub check-w-mask-spec : {M : Type 1} → statement M
 check-w-mask-spec =
     tie.close
     (tie.spec
-    (λ c κs. search needs)  -- mask-side-requires
-    (λ c κs. search needs)  -- mask-side-requires-2
-    (λ c κs. search needs)  -- mask-buffers-requires
-    (λ c κs. search needs)  -- mask-numbers-requires
-    (λ c κs. search needs)  -- stride-requires
-    (λ c κs. search needs)  -- stride-requires-2
-    (λ c κs. search needs)  -- even-ok-requires
-    (λ c κs. search needs)  -- even-ok-requires-2
-    (λ c κs. search needs)  -- needed-requires
-    (λ c κs. search needs)  -- needed-requires-2
-    (λ c κs. search needs)  -- sizes-requires
-    returns)
+    (λ c κs. search needs) (λ c κs. search needs) (λ c κs. search needs) (λ c κs. search needs)  -- mask-side, mask-buffers, mask-numbers
+    (λ c κs. search needs) (λ c κs. search needs) (λ c κs. search needs) (λ c κs. search needs) (λ c κs. search needs)  -- stride, even-ok, needed
+    (λ c κs. search needs) (λ c κs. search needs) returns)  -- needed, sizes

@@ -2,7 +2,7 @@ use native.Mathlib.Omega.{arith}
 use Prim.Native.Nat.{_+_, _-_, _*_, _≤_}
 use lib.ListN.{length}
 use borrow.Author.Needs.{needs}
-use Rattle.blocks.proofs.Laws.Rows.{Filled, filled-none, filled-more, filled-all, Turn, turn, row-in}
+use Rattle.blocks.proofs.Laws.Rows.{Filled, filled-none, Turn, turn, row-in, block-loop}
 use Rattle.blocks.proofs.Laws.Weighed.{weigh}
 use Rattle.blocks.proofs.mask.keep_each.Statement.{statement}
 use Rattle.blocks.proofs.mask.keep_each.Tie as tie
@@ -23,27 +23,12 @@ row c =
     let p = entry c .pre .0 in let y = c .before .loop .y in let lt = c .loop-test .taken in
     (turn 0 (c .before .loop .inv) (p .mask) lt, row-in y (p .tmp1) lt, row-in y (p .tmp2) lt)
 
-loop-again : tie.Need-loop-again Inv-loop μ-loop
-loop-again c =
-    let t = c .before .before .before .before in let p = entry t .pre .0 in
-    filled-more 0 _ (t .before .loop .inv) (p .mw1) (p .mask) (t .loop-test .taken) (c .before .before .weight-row .ensures)
-
 pub keep-each-spec : {M : Type 1} → statement M
 keep-each-spec =
     tie.close
-    (tie.spec
-    Inv-loop
-    μ-loop
+    (tie.spec Inv-loop μ-loop
     (λ c. filled-none 0 _ _ _ _ _ (omega (arith, c .before .pre)))  -- loop-holds
-    (λ c. omega (arith, row c))  -- mul-k
-    (λ c. omega (arith, row c))  -- add-weight-row
-    (λ c. omega (arith, row c))  -- sub-weight-row
-    (λ c. omega (arith, row c))  -- part-weight-row-start
-    (λ c. omega (arith, row c))  -- part-weight-row-end
-    (λ c. omega (arith, row (c .before)))  -- mul-weight-row
-    (λ c κs. omega (arith, row (c .before), entry (c .before) .pre .1))  -- weight-row-requires
-    (λ c. search needs)  -- add-y
-    (λ c. search needs)  -- loop-less
-    loop-again
-    (λ c. c .before .loop .inv .len)  -- same-length
-    (λ c. filled-all (c .before .loop .inv) (c .loop-test .left)))  -- returns
+    (λ c. omega (arith, row c)) (λ c. omega (arith, row c))  -- y * mask_stride, k + w
+    (λ c. omega (arith, row c)) (λ c. omega (arith, row c)) (λ c. omega (arith, row c))  -- mask[k..k + w]
+    (λ c. omega (arith, row (c .before))) (λ c κs. omega (arith, row (c .before), entry (c .before) .pre .1))  -- weight-row
+    (λ c. search needs) (λ c. search needs) (λ c. search block-loop) (λ c. search block-loop) (λ c. search block-loop))  -- y += 1, and the loop

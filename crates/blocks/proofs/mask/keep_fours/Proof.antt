@@ -86,30 +86,20 @@ loop-again c =
 pub keep-fours-spec : {M : Type 1} → statement M
 keep-fours-spec =
     tie.close
-    (tie.spec
-    Inv-loop
-    μ-loop
+    (tie.spec Inv-loop μ-loop
     (λ c. (filled-none 0 _ _ _ _ _ (omega (arith, c .before .pre)), refl, refl))  -- loop-holds
-    (λ c. omega (arith, row c))  -- mul-k
-    (λ c. omega (arith, row c))  -- mul-r
-    (λ c. omega (arith, entry c .pre .0 .block, c .before .loop .inv .1))  -- array-borrow-prefix-m
-    (λ c. let t = c .before in sym (front-span _ _ (entry t .pre .0 .block .w64) (t .before .loop .inv .1)))  -- slice-aggregate-weight-row
-    (λ c. omega (arith, row (c .before)))  -- mul-weight-row
-    weight-row-requires
-    (λ c. let t = turn1 (c .before) in omega (arith, entry t .pre .0 .block, t .before .loop .inv .2))  -- array-borrow-prefix-n
-    (λ c. let t = turn1 (c .before .before) in sym (front-span _ _ (entry t .pre .0 .block .w64) (t .before .loop .inv .2)))  -- slice-aggregate-weight-row-2
-    (λ c. omega (arith, row (turn1 (c .before .before))))  -- add-weight-row
-    (λ c. omega (arith, row (turn1 (c .before .before))))  -- mul-weight-row-2
+    (λ c. omega (arith, row c)) (λ c. omega (arith, row c))  -- y * mask_stride, 2 * y
+    (λ c. omega (arith, entry c .pre .0 .block, c .before .loop .inv .1))  -- m[..w]
+    (λ c. let t = c .before in sym (front-span _ _ (entry t .pre .0 .block .w64) (t .before .loop .inv .1)))
+    (λ c. omega (arith, row (c .before))) weight-row-requires  -- weight-row
+    (λ c. let t = turn1 (c .before) in omega (arith, entry t .pre .0 .block, t .before .loop .inv .2))  -- n[..w]
+    (λ c. let t = turn1 (c .before .before) in sym (front-span _ _ (entry t .pre .0 .block .w64) (t .before .loop .inv .2)))
+    (λ c. omega (arith, row (turn1 (c .before .before)))) (λ c. omega (arith, row (turn1 (c .before .before))))  -- (r + 1) * w
     weight-row-requires-2
-    (λ c. omega (arith, row (turn2 (c .before))))  -- add-four-row
-    (λ c. omega (arith, row (turn2 (c .before))))  -- sub-four-row
-    (λ c. omega (arith, row (turn2 (c .before))))  -- part-four-row-start
-    (λ c. omega (arith, row (turn2 (c .before))))  -- part-four-row-end
-    (λ c. sym (first (c .before .before .before .before .before .before) .len))  -- slice-aggregate-four-row
-    (λ c. sym (second (c .before .before .before .before) .len))  -- slice-aggregate-four-row-2
+    (λ c. omega (arith, row (turn2 (c .before)))) (λ c. omega (arith, row (turn2 (c .before))))  -- k + w / 2
+    (λ c. omega (arith, row (turn2 (c .before)))) (λ c. omega (arith, row (turn2 (c .before))))  -- mask[k..k + w / 2]
+    (λ c. sym (first (c .before .before .before .before .before .before) .len)) (λ c. sym (second (c .before .before .before .before) .len))  -- &m, &n
     four-row-requires
-    (λ c. search needs)  -- add-y
-    (λ c. search needs)  -- loop-less
-    loop-again
+    (λ c. search needs) (λ c. search needs) loop-again  -- y += 1, and the loop
     (λ c. c .before .loop .inv .0 .len)  -- same-length
     (λ c. filled-all (c .before .loop .inv .0) (c .loop-test .left)))  -- returns

@@ -38,12 +38,5 @@ pub keep-mask-spec : {M : Type 1} → statement M
 keep-mask-spec =
     tie.close
     (tie.spec
-    keep-fours-requires
-    keep-pairs-requires
-    keep-each-requires
-    (λ c. search needs)  -- same-length
-    returns
-    (λ c. search needs)  -- same-length-2
-    returns-2
-    (λ c. search needs)  -- same-length-3
-    returns-3)
+    keep-fours-requires keep-pairs-requires keep-each-requires (λ c. search needs) returns (λ c. search needs) returns-2  -- same-length
+    (λ c. search needs) returns-3)  -- same-length

@@ -57,23 +57,15 @@ loop-again c =
 pub keep-pairs-spec : {M : Type 1} → statement M
 keep-pairs-spec =
     tie.close
-    (tie.spec
-    Inv-loop
-    μ-loop
+    (tie.spec Inv-loop μ-loop
     (λ c. (filled-none 0 _ _ _ _ _ (omega (arith, c .before .pre)), refl))  -- loop-holds
-    (λ c. omega (arith, row c))  -- mul-k
-    (λ c. omega (arith, entry c .pre .0 .block, c .before .loop .inv .1))  -- array-borrow-prefix-m
-    (λ c. let t = c .before in sym (front-span _ _ (entry t .pre .0 .block .w64) (t .before .loop .inv .1)))  -- slice-aggregate-weight-row
-    (λ c. omega (arith, row (c .before)))  -- mul-weight-row
-    weight-row-requires
-    (λ c. omega (arith, row (c .before .before .before)))  -- add-pair-row
-    (λ c. omega (arith, row (c .before .before .before)))  -- sub-pair-row
-    (λ c. omega (arith, row (c .before .before .before)))  -- part-pair-row-start
-    (λ c. omega (arith, row (c .before .before .before)))  -- part-pair-row-end
-    (λ c. sym (line (c .before .before .before) .len))  -- slice-aggregate-pair-row
-    pair-row-requires
-    (λ c. search needs)  -- add-y
-    (λ c. search needs)  -- loop-less
-    loop-again
+    (λ c. omega (arith, row c))  -- y * mask_stride
+    (λ c. omega (arith, entry c .pre .0 .block, c .before .loop .inv .1))  -- m[..w]
+    (λ c. let t = c .before in sym (front-span _ _ (entry t .pre .0 .block .w64) (t .before .loop .inv .1)))
+    (λ c. omega (arith, row (c .before))) weight-row-requires  -- weight-row
+    (λ c. omega (arith, row (c .before .before .before))) (λ c. omega (arith, row (c .before .before .before)))  -- k + w / 2
+    (λ c. omega (arith, row (c .before .before .before))) (λ c. omega (arith, row (c .before .before .before)))  -- mask[k..k + w / 2]
+    (λ c. sym (line (c .before .before .before) .len)) pair-row-requires  -- pair-row
+    (λ c. search needs) (λ c. search needs) loop-again  -- y += 1, and the loop
     (λ c. c .before .loop .inv .0 .len)  -- same-length
     (λ c. filled-all (c .before .loop .inv .0) (c .loop-test .left)))  -- returns

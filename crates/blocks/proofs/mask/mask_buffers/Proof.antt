@@ -6,8 +6,5 @@ pub mask-buffers-spec : {M : Type 1} → statement M
 mask-buffers-spec =
     tie.close
     (tie.spec
-    (λ c κs. search needs)  -- held-requires
-    (λ c κs. search needs)  -- held-requires-2
-    (λ c κs. search needs)  -- held-requires-3
-    (λ c κs. search needs)  -- held-requires-4
+    (λ c κs. search needs) (λ c κs. search needs) (λ c κs. search needs) (λ c κs. search needs)  -- held
     (λ c. cc))  -- returns

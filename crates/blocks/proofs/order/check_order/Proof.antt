@@ -54,12 +54,5 @@ pub check-order-spec : {M : Type 1} → statement M
 check-order-spec =
     tie.close
     (tie.spec
-    (λ c κs. search needs)  -- order-shape-requires
-    returns
-    (λ c κs. search needs)  -- order-numbers-requires
-    returns-2
-    (λ c κs. search needs)  -- held-requires
-    (λ c κs. search needs)  -- kind-number-requires
-    window-held-requires
-    order-tables-requires
-    returns-3)
+    (λ c κs. search needs) returns (λ c κs. search needs) returns-2 (λ c κs. search needs)  -- order-shape, order-numbers, held
+    (λ c κs. search needs) window-held-requires order-tables-requires returns-3)  -- kind-number

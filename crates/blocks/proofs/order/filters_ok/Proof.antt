@@ -35,14 +35,5 @@ pub filters-ok-spec : {M : Type 1} → statement M
 filters-ok-spec =
     tie.close
     (tie.spec
-    (λ c. search needs)  -- enum-told
-    (λ c. search needs)  -- enum-known-k
-    (λ c κs. search needs)  -- filter-in-requires
-    (λ c κs. search needs)  -- filter-in-requires-2
-    (λ c. search needs)  -- enum-told-2
-    (λ c. search needs)  -- enum-known-k-2
-    filters-there-requires
-    returns
-    returns-2
-    returns-3
-    returns-4)
+    (λ c. search needs) (λ c. search needs) (λ c κs. search needs) (λ c κs. search needs) (λ c. search needs)  -- enum-told, enum-known-k, filter-in
+    (λ c. search needs) filters-there-requires returns returns-2 returns-3 returns-4)  -- enum-known-k

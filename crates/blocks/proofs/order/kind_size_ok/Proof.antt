@@ -24,11 +24,4 @@ pub kind-size-ok-spec : {M : Type 1} → statement M
 kind-size-ok-spec =
     tie.close
     (tie.spec
-    (λ c. search needs)  -- enum-told
-    (λ c. search needs)  -- enum-told-2
-    (λ c. search needs)  -- enum-told-3
-    (λ c. search needs)  -- enum-told-4
-    returns
-    returns-2
-    returns-3
-    returns-4)
+    (λ c. search needs) (λ c. search needs) (λ c. search needs) (λ c. search needs) returns returns-2 returns-3 returns-4)  -- enum-told

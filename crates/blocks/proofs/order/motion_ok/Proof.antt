@@ -37,18 +37,6 @@ pub motion-ok-spec : {M : Type 1} → statement M
 motion-ok-spec =
     tie.close
     (tie.spec
-    (λ c. search needs)  -- enum-told
-    (λ c. search needs)  -- enum-known-k
-    (λ c κs. search needs)  -- type-ok-requires
-    (λ c κs. search needs)  -- fraction-ok-requires
-    (λ c κs. search needs)  -- fraction-ok-requires-2
-    (λ c. search needs)  -- enum-known-k-2
-    (λ c κs. search needs)  -- sixteenth-ok-requires
-    (λ c κs. search needs)  -- sixteenth-ok-requires-2
-    (λ c. search needs)  -- enum-known-k-3
-    (λ c κs. search needs)  -- within-requires
-    (λ c κs. search needs)  -- within-requires-2
-    returns
-    returns-2
-    returns-3
-    returns-4)
+    (λ c. search needs) (λ c. search needs) (λ c κs. search needs) (λ c κs. search needs)  -- enum-told, enum-known-k, type-ok, fraction-ok
+    (λ c κs. search needs) (λ c. search needs) (λ c κs. search needs) (λ c κs. search needs)  -- fraction-ok, enum-known-k, sixteenth-ok
+    (λ c. search needs) (λ c κs. search needs) (λ c κs. search needs) returns returns-2 returns-3 returns-4)  -- enum-known-k, within

@@ -22,11 +22,5 @@ pub order-numbers-spec : {M : Type 1} → statement M
 order-numbers-spec =
     tie.close
     (tie.spec
-    (λ c κs. search needs)  -- motion-ok-requires
-    (λ c κs. search needs)  -- needed-requires
-    (λ c κs. search needs)  -- places-requires
-    (λ c κs. search needs)  -- frame-names-ok-requires
-    (λ c κs. search needs)  -- needed-requires-2
-    (λ c κs. search needs)  -- needed-requires-3
-    (λ c κs. search needs)  -- needed-requires-4
-    returns)
+    (λ c κs. search needs) (λ c κs. search needs) (λ c κs. search needs) (λ c κs. search needs)  -- motion-ok, needed, places, frame-names-ok
+    (λ c κs. search needs) (λ c κs. search needs) (λ c κs. search needs) returns)  -- needed

@@ -20,12 +20,5 @@ pub order-shape-spec : {M : Type 1} → statement M
 order-shape-spec =
     tie.close
     (tie.spec
-    (λ c κs. search needs)  -- plane-w-requires
-    (λ c κs. search needs)  -- stride-requires
-    (λ c κs. search needs)  -- stride-requires-2
-    (λ c κs. search needs)  -- kind-size-ok-requires
-    (λ c κs. search needs)  -- needed-requires
-    (λ c κs. search needs)  -- sizes-requires
-    (λ c κs. search needs)  -- frame-sizes-ok-requires
-    (λ c κs. search needs)  -- needed-requires-2
-    returns)
+    (λ c κs. search needs) (λ c κs. search needs) (λ c κs. search needs) (λ c κs. search needs)  -- plane-w, stride, kind-size-ok
+    (λ c κs. search needs) (λ c κs. search needs) (λ c κs. search needs) (λ c κs. search needs) returns)  -- needed, sizes, frame-sizes-ok

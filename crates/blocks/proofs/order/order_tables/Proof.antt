@@ -19,9 +19,4 @@ pub order-tables-spec : {M : Type 1} → statement M
 order-tables-spec =
     tie.close
     (tie.spec
-    (λ c κs. search needs)  -- filters-ok-requires
-    (λ c κs. search needs)  -- needed-requires
-    (λ c κs. search needs)  -- needed-requires-2
-    (λ c κs. search needs)  -- needed-requires-3
-    (λ c κs. search needs)  -- needed-requires-4
-    returns)
+    (λ c κs. search needs) (λ c κs. search needs) (λ c κs. search needs) (λ c κs. search needs) (λ c κs. search needs) returns)  -- filters-ok, needed

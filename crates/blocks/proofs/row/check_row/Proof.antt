@@ -26,14 +26,6 @@ pub check-row-spec : {M : Type 1} → statement M
 check-row-spec =
     tie.close
     (tie.spec
-    (λ c κs. search needs)  -- plane-w-requires
-    (λ c κs. search needs)  -- plane-h-requires
-    (λ c κs. search needs)  -- held-requires
-    (λ c κs. search needs)  -- frame-names-ok-requires
-    (λ c κs. search needs)  -- row-ok-requires
-    (λ c κs. search needs)  -- needed-requires
-    (λ c κs. search needs)  -- needed-requires-2
-    (λ c κs. search needs)  -- frame-sizes-ok-requires
-    (λ c κs. search needs)  -- stride-requires
-    (λ c κs. search needs)  -- needed-requires-3
-    returns)
+    (λ c κs. search needs) (λ c κs. search needs) (λ c κs. search needs) (λ c κs. search needs)  -- plane-w, plane-h, held, frame-names-ok
+    (λ c κs. search needs) (λ c κs. search needs) (λ c κs. search needs) (λ c κs. search needs)  -- row-ok, needed, frame-sizes-ok
+    (λ c κs. search needs) (λ c κs. search needs) returns)  -- stride, needed

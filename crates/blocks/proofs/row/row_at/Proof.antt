@@ -38,10 +38,5 @@ pub row-at-spec : {M : Type 1} → statement M
 row-at-spec =
     tie.close
     (tie.spec
-    (λ c κs. search needs)  -- check-row-requires
-    (λ c κs. search needs)  -- no-part-requires
-    returns
-    (λ c κs. search needs)  -- above64-requires
-    mul-place
-    (λ c κs. search needs)  -- plane-w-requires
-    returns-2)
+    (λ c κs. search needs) (λ c κs. search needs) returns (λ c κs. search needs) mul-place  -- check-row, no-part, above64
+    (λ c κs. search needs) returns-2)  -- plane-w

@@ -21,6 +21,4 @@ pub row-ok-spec : {M : Type 1} → statement M
 row-ok-spec =
     tie.close
     (tie.spec
-    (λ c κs. search needs)  -- above64-requires
-    returns
-    returns-2)
+    (λ c κs. search needs) returns returns-2)  -- above64

@@ -23,9 +23,5 @@ check-sads-spec =
     (λ c. c .before .sizes .ensures ∙ sizes-stop _ _ _ (λ e. c .if1 .taken (c .before .sizes .ensures ∙ e)))  -- returns
     (λ c. omega (arith, block c))  -- add-row
     (λ c. omega (arith, block c))  -- add-rows
-    (λ c κs. search needs)  -- held-requires
-    (λ c κs. search needs)  -- held-requires-2
-    (λ c κs. search needs)  -- needed-requires
-    (λ c κs. search needs)  -- stride-requires
-    (λ c κs. search needs)  -- stride-requires-2
+    (λ c κs. search needs) (λ c κs. search needs) (λ c κs. search needs) (λ c κs. search needs) (λ c κs. search needs)  -- held, needed, stride
     returns-2)

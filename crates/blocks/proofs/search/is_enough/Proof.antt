@@ -8,8 +8,6 @@ pub is-enough-spec : {M : Type 1} → statement M
 is-enough-spec =
     tie.close
     (tie.spec
-    (λ c. search needs)  -- add-result
-    (λ c. search needs)  -- mul-result
-    (λ c. search needs)  -- add-result-2
+    (λ c. search needs) (λ c. search needs) (λ c. search needs)  -- add-result, mul-result
     (λ c. omega (arith, enough-fits (c .pre)))  -- mul-result-2
     (λ c. search needs))  -- returns

@@ -52,6 +52,4 @@ affine-flag-spec =
     (λ c. search reading)  -- cast-abs32-4
     (λ c κs. search needs)  -- abs32-requires-4
     (λ c. omega (arith, four c, abs-mag (c .before .before .before .before .args .d)))  -- mul-second-2
-    add-second
-    (λ c. search needs)  -- cast-result
-    returns)
+    add-second (λ c. search needs) returns)  -- cast-result

@@ -11,6 +11,4 @@ pub check-divisor-spec : {M : Type 1} → statement M
 check-divisor-spec =
     tie.close
     (tie.spec
-    (λ c κs. search needs)  -- needed-requires
-    (λ c κs. search needs)  -- needed-requires-2
-    returns)
+    (λ c κs. search needs) (λ c κs. search needs) returns)  -- needed

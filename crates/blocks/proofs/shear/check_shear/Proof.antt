@@ -21,9 +21,5 @@ pub check-shear-spec : {M : Type 1} → statement M
 check-shear-spec =
     tie.close
     (tie.spec
-    (λ c κs. search needs)  -- entries-ok-requires
-    (λ c. search needs)  -- matrix[2]
-    (λ c κs. search needs)  -- needed-requires
-    (λ c κs. search needs)  -- needed-requires-2
-    (λ c κs. search needs)  -- needed-requires-3
+    (λ c κs. search needs) (λ c. search needs) (λ c κs. search needs) (λ c κs. search needs) (λ c κs. search needs)  -- entries-ok, matrix[2], needed
     returns)

@@ -24,12 +24,5 @@ pub entries-ok-spec : {M : Type 1} → statement M
 entries-ok-spec =
     tie.close
     (tie.spec
-    (λ c. search needs)  -- matrix[2]
-    (λ c κs. search needs)  -- within-requires
-    (λ c. search needs)  -- matrix[3]
-    (λ c κs. search needs)  -- within-requires-2
-    (λ c. search needs)  -- matrix[4]
-    (λ c κs. search needs)  -- within-requires-3
-    (λ c. search needs)  -- matrix[5]
-    (λ c κs. search needs)  -- within-requires-4
-    returns)
+    (λ c. search needs) (λ c κs. search needs) (λ c. search needs) (λ c κs. search needs)  -- matrix[2], within, matrix[3]
+    (λ c. search needs) (λ c κs. search needs) (λ c. search needs) (λ c κs. search needs) returns)  -- matrix[4], within, matrix[5]

@@ -57,9 +57,4 @@ iclip-wmp-spec =
     (tie.spec
     (λ c. search reading)  -- cast-keep32
     (λ c. rw (back32 (c .fits .v)) (sum c))  -- add-keep32
-    (λ c. search needs)  -- cast-keep32-2
-    sub-keep32
-    (λ c κs. search needs)  -- keep32-requires
-    mul-clip-wmp
-    (λ c κs. search needs)  -- clip-wmp-requires
-    returns)
+    (λ c. search needs) sub-keep32 (λ c κs. search needs) mul-clip-wmp (λ c κs. search needs) returns)  -- cast-keep32, keep32, clip-wmp

@@ -26,12 +26,5 @@ pub moves-spec : {M : Type 1} → statement M
 moves-spec =
     tie.close
     (tie.spec
-    (λ c κs. search needs)  -- lies-requires
-    (λ c κs. search needs)  -- lies-requires-2
-    (λ c κs. search needs)  -- within-requires
-    (λ c κs. search needs)  -- within-requires-2
-    (λ c κs. search needs)  -- needed-requires
-    (λ c κs. search needs)  -- needed-requires-2
-    (λ c κs. search needs)  -- needed-requires-3
-    (λ c κs. search needs)  -- needed-requires-4
-    returns)
+    (λ c κs. search needs) (λ c κs. search needs) (λ c κs. search needs) (λ c κs. search needs) (λ c κs. search needs)  -- lies, within, needed
+    (λ c κs. search needs) (λ c κs. search needs) (λ c κs. search needs) returns)  -- needed

@@ -91,6 +91,4 @@ offset-of-spec =
     (λ c. search reading)  -- cast-clip-entry-4
     (λ c. search reading)  -- cast-clip-entry-5
     (λ c. simp (back32 (c .fits .y), back32 (c .fits .q)) (d c))  -- mul-clip-entry-3
-    sub-clip-entry-2
-    (λ c κs. search needs)  -- clip-entry-requires
-    returns)
+    sub-clip-entry-2 (λ c κs. search needs) returns)  -- clip-entry

@@ -37,13 +37,10 @@ recip-place-spec =
     (tie.spec
     (λ c. at-top c .small)  -- shl-e
     (λ c. rw (one c) (at-top c .low))  -- sub-e
-    (λ c. search needs)  -- shl-result
-    (λ c. search needs)  -- cast-result
-    (λ c. search needs)  -- sub-result
+    (λ c. search needs) (λ c. search needs) (λ c. search needs)  -- shl-result, cast-result, sub-result
     (λ c. omega (arith, at-top (c .before)))  -- shl-result-2
     (λ c. rw (one (c .before), eighth (c .before)) (omega (arith, at-many c)))  -- add-result
     (λ c. search needs)  -- sub-result-2
     (λ c. omega (arith, at-top (c .before)))  -- shr-result
     (λ c. rw (one (c .before), eighth (c .before)) (omega (arith, at-many c)))  -- cast-result-2
-    returns
-    returns-2)
+    returns returns-2)

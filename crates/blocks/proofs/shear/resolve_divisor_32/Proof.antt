@@ -45,8 +45,7 @@ pub resolve-divisor-32-spec : {M : Type 1} → statement M
 resolve-divisor-32-spec =
     tie.close
     (tie.spec
-    (λ c κs. search needs)  -- check-divisor-requires
-    returns
+    (λ c κs. search needs) returns  -- check-divisor
     (λ c κs. omega (arith, ok c))  -- top-bit-requires
     (λ c κs. (omega (arith, ok (c .before)), c .top-bit .ensures))  -- recip-place-requires
     (λ c. search needs)  -- 2 * f

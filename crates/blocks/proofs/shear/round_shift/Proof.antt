@@ -64,14 +64,8 @@ pub round-shift-spec : {M : Type 1} → statement M
 round-shift-spec =
     tie.close
     (tie.spec
-    (λ c κs. search needs)  -- abs64-requires
-    (λ c. search needs)  -- sub-keep32
-    (λ c. search needs)  -- cast-keep32
-    (λ c. search needs)  -- shl-keep32
+    (λ c κs. search needs) (λ c. search needs) (λ c. search needs) (λ c. search needs)  -- abs64, sub-keep32, cast-keep32, shl-keep32
     (λ c. let p = c .before .pre in omega (arith, sum (c .before .args .k) (c .abs64 .result) (p .2) (small c)))  -- add-keep32
     (λ c. search needs)  -- shr-keep32
     (λ c. let p = c .before .pre in fit w64 (quotient (c .before .args .k) (c .abs64 .result) (p .2) (small c)))  -- cast-keep32-2
-    (λ c κs. search needs)  -- keep32-requires
-    (λ c κs. search needs)  -- wrapping-neg32-requires
-    returns
-    returns-2)
+    (λ c κs. search needs) (λ c κs. search needs) returns returns-2)  -- keep32, wrapping-neg32

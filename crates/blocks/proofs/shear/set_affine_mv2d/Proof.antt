@@ -35,5 +35,4 @@ set-affine-mv2d-spec =
     (tie.spec
     (λ c κs. search needs)  -- check-affine-mv-requires
     (λ c. ((is (c .before), sym (refused _ _ _ (c .if1 .taken))), refl, refl))  -- returns
-    with-mv-requires
-    returns-2)
+    with-mv-requires returns-2)

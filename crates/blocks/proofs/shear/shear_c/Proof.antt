@@ -46,5 +46,4 @@ shear-c-spec =
     (λ c. search reading)  -- cast-round-shift-2
     (λ c. rw (back32 (c .fits .m4), back32 (c .fits .y), back (first-fits c)) (v-fits c))  -- mul-round-shift-2
     (λ c κs. rw (back32 (c .fits .m4), back32 (c .fits .y), back (first-fits c), back (v-fits c)) (omega (arith, v-le c)))  -- round-shift-requires
-    (λ c κs. search needs)  -- iclip-wmp-requires
-    returns)
+    (λ c κs. search needs) returns)  -- iclip-wmp

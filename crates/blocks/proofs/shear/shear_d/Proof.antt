@@ -71,8 +71,4 @@ shear-d-spec =
     (λ c. rw (back32 (c .fits .m3), back32 (c .fits .m4)) (first-fits c))  -- mul-v
     (λ c. search reading)  -- cast-v-3
     (λ c. rw (back32 (c .fits .m3), back32 (c .fits .m4), back32 (c .fits .y), back (first-fits c)) (v-fits c))  -- mul-v-2
-    round-shift-requires
-    (λ c κs. search needs)  -- wrapping-sub32-requires
-    (λ c κs. search needs)  -- wrapping-sub32-requires-2
-    (λ c κs. search needs)  -- iclip-wmp-requires
-    returns)
+    round-shift-requires (λ c κs. search needs) (λ c κs. search needs) (λ c κs. search needs) returns)  -- wrapping-sub32, iclip-wmp

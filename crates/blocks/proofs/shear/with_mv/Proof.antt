@@ -19,17 +19,8 @@ module _ (c : tie.After-m5) where
   abbrev M : ℕ → ℤ
   M i = at (S .args .wm .matrix) i
 
-  f2 : SFits w32 (M 2)
-  f2 = fit w32 (c .before .before .before .m2 .given)
-
-  f3 : SFits w32 (M 3)
-  f3 = fit w32 (c .before .before .m3 .given)
-
-  f4 : SFits w32 (M 4)
-  f4 = fit w32 (c .before .m4 .given)
-
-  f5 : SFits w32 (M 5)
-  f5 = fit w32 (c .m5 .given)
+  entries : SFits w32 (M 2) × SFits w32 (M 3) × SFits w32 (M 4) × SFits w32 (M 5)
+  entries = (fit w32 (c .before .before .before .m2 .given), fit w32 (c .before .before .m3 .given), fit w32 (c .before .m4 .given), fit w32 (c .m5 .given))
 
   affine : SFits w32 (S .args .wm .affine)
   affine = fit w32 (c .before .before .before .before .before .before .struct-told .given .1 .1 .0 .1)
@@ -66,13 +57,13 @@ module _ (c : tie.After-m5) where
 
 offset-of-requires : tie.Need-offset-of-requires
 offset-of-requires c κs =
-    rw (back (S c .fits .mv-x), back (fx c), back (f2 c), back (g2 c), back (fy c), back (f3 c))
+    rw (back (S c .fits .mv-x), back (fx c), back (entries c .0), back (g2 c), back (fy c), back (entries c .1))
     (omega (arith, S c .pre, d2 c, one c .middle-of .ensures .1, two c .middle-of2 .ensures .1))
 
 offset-of-requires-2 : tie.Need-offset-of-requires-2
 offset-of-requires-2 c κs =
     let e = c .before in
-    rw (back (S e .fits .mv-y), back (fx e), back (f4 e), back (fy e), back (f5 e), back (g5 e))
+    rw (back (S e .fits .mv-y), back (fx e), back (entries e .2), back (fy e), back (entries e .3), back (g5 e))
     (omega (arith, S e .pre, d5 e, one e .middle-of .ensures .1, two e .middle-of2 .ensures .1))
 
 returns : tie.Need-returns
@@ -92,10 +83,10 @@ returns c =
       back (s .fits .mv-y),
       x-is e,
       y-is e,
-      back (f2 e),
-      back (f3 e),
-      back (f4 e),
-      back (f5 e),
+      back (entries e .0),
+      back (entries e .1),
+      back (entries e .2),
+      back (entries e .3),
       back (g2 e),
       back (g5 e),
     )
@@ -106,14 +97,9 @@ with-mv-spec =
     (tie.spec
     (λ c κs. let s = c .before .before .before in rw (back (s .fits .bx4), back (s .fits .bw4)) (omega (arith, s .pre)))  -- middle-of-requires
     (λ c κs. let s = c .before .before .before .before in rw (back (s .fits .by4), back (s .fits .bh4)) (omega (arith, s .pre)))  -- middle-of-requires-2
-    (λ c. search needs)  -- array-copy-out-m2
-    (λ c. search needs)  -- array-copy-out-m3
-    (λ c. search needs)  -- array-copy-out-m4
+    (λ c. search needs) (λ c. search needs) (λ c. search needs)  -- array-copy-out-m2, array-copy-out-m3, array-copy-out-m4
     (λ c. search needs)  -- array-copy-out-m5
-    (λ c. rw (back (f2 c)) (g2 c))  -- sub-offset-of
+    (λ c. rw (back (entries c .0)) (g2 c))  -- sub-offset-of
     offset-of-requires
-    (λ c. rw (back (f5 (c .before))) (g5 (c .before)))  -- sub-offset-of-2
-    offset-of-requires-2
-    (λ c. search needs)  -- array-set-from-matrix
-    (λ c. search needs)  -- array-set-from-matrix-2
-    returns)
+    (λ c. rw (back (entries (c .before) .3)) (g5 (c .before)))  -- sub-offset-of-2
+    offset-of-requires-2 (λ c. search needs) (λ c. search needs) returns)  -- array-set-from-matrix

@@ -22,17 +22,8 @@ module _ (c : tie.After-m5) where
   abbrev M : ℕ → ℤ
   M i = at (S .args .wm .matrix) i
 
-  f2 : SFits w32 (M 2)
-  f2 = fit w32 (c .before .before .before .m2 .given)
-
-  f3 : SFits w32 (M 3)
-  f3 = fit w32 (c .before .before .m3 .given)
-
-  f4 : SFits w32 (M 4)
-  f4 = fit w32 (c .before .m4 .given)
-
-  f5 : SFits w32 (M 5)
-  f5 = fit w32 (c .m5 .given)
+  entries : SFits w32 (M 2) × SFits w32 (M 3) × SFits w32 (M 4) × SFits w32 (M 5)
+  entries = (fit w32 (c .before .before .before .m2 .given), fit w32 (c .before .before .m3 .given), fit w32 (c .before .m4 .given), fit w32 (c .m5 .given))
 
   abbrev Y : ℤ
   Y = recipOf (S .args .recip .now) (natAbs (M 2))
@@ -54,7 +45,7 @@ module _ (c : tie.After-resolve-divisor-32) where
   E = c .before .before
 
   abs : c .before .abs32 .result ≡ natAbs (M E 2)
-  abs = rw (back (f2 E)) at (c .before .abs32 .ensures)
+  abs = rw (back (entries E .0)) at (c .before .abs32 .ensures)
 
   -- its record, and the parts of it
   told : c .resolve-divisor-32 .result ≡ divisorOf (natAbs (M E 2)) (S E .args .recip .now)
@@ -73,12 +64,12 @@ module _ (c : tie.After-resolve-divisor-32) where
 shear-c-requires : tie.Need-shear-c-requires
 shear-c-requires c κs =
     let r = c .before .before .before .before .before .before in
-    rw (back (f4 (E r)), y-is r, k-is r) (omega (arith, S (E r) .pre, small-y (E r), small-k (E r)))
+    rw (back (entries (E r) .2), y-is r, k-is r) (omega (arith, S (E r) .pre, small-y (E r), small-k (E r)))
 
 shear-d-requires : tie.Need-shear-d-requires
 shear-d-requires c κs =
     let r = c .before .before .before .before .before .before .before in
-    rw (back (f3 (E r)), back (f4 (E r)), y-is r, k-is r) (omega (arith, S (E r) .pre, small-y (E r), small-k (E r)))
+    rw (back (entries (E r) .1), back (entries (E r) .2), y-is r, k-is r) (omega (arith, S (E r) .pre, small-y (E r), small-k (E r)))
 
 returns : tie.Need-returns
 unfolding sheared shearA shearB
@@ -103,10 +94,10 @@ returns c =
       d .ensures,
       back fs,
       sub .ensures,
-      back (f2 (E r)),
-      back (f3 (E r)),
-      back (f4 (E r)),
-      back (f5 (E r)),
+      back (entries (E r) .0),
+      back (entries (E r) .1),
+      back (entries (E r) .2),
+      back (entries (E r) .3),
       y-is r,
       k-is r,
     )
@@ -115,17 +106,8 @@ pub with-shears-spec : {M : Type 1} → statement M
 with-shears-spec =
     tie.close
     (tie.spec
-    (λ c. search needs)  -- matrix[2]
-    (λ c. search needs)  -- matrix[3]
-    (λ c. search needs)  -- matrix[4]
-    (λ c. search needs)  -- matrix[5]
-    (λ c κs. search needs)  -- abs32-requires
-    (λ c κs. search needs)  -- resolve-divisor-32-requires
+    (λ c. search needs) (λ c. search needs) (λ c. search needs) (λ c. search needs)  -- matrix[2], matrix[3], matrix[4], matrix[5]
+    (λ c κs. search needs) (λ c κs. search needs)  -- abs32, resolve-divisor
     (λ c. let r = c .before .before .before in rw (k-is r) (tt, omega (arith, small-k (E r))))  -- cast-k
-    (λ c κs. search needs)  -- wrapping-sub32-requires
-    (λ c κs. search needs)  -- iclip-wmp-requires
-    (λ c κs. search needs)  -- iclip-wmp-requires-2
-    shear-c-requires
-    shear-d-requires
-    (λ c κs. search needs)  -- affine-flag-requires
-    returns)
+    (λ c κs. search needs) (λ c κs. search needs) (λ c κs. search needs) shear-c-requires shear-d-requires  -- wrapping-sub32, iclip-wmp
+    (λ c κs. search needs) returns)  -- affine-flag

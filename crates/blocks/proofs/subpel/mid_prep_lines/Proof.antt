@@ -7,7 +7,7 @@ use borrow.Author.Needs.{needs}
 use Rattle.rows.specs.Numbers.{at, half, low16, minus16}
 use Rattle.rows.specs.Subpel.{tapped}
 use Rattle.rows.proofs.Laws.Signed.{backn}
-use Rattle.blocks.proofs.Laws.Rows.{Filled, filled-none, filled-more, filled-all}
+use Rattle.blocks.proofs.Laws.Rows.{Filled, filled-none, filled-more, block-loop}
 use Rattle.blocks.proofs.Laws.SubpelLines.{Turn, turn}
 use Rattle.blocks.proofs.subpel.mid_prep_lines.Statement.{statement}
 use Rattle.blocks.proofs.subpel.mid_prep_lines.Tie as tie
@@ -36,22 +36,10 @@ loop-again c =
 pub mid-prep-lines-spec : {M : Type 1} → statement M
 mid-prep-lines-spec =
     tie.close
-    (tie.spec
-    Inv-loop
-    μ-loop
-    (λ c κs. search needs)  -- half-power-requires
-    (λ c. search needs)  -- cast-p
+    (tie.spec Inv-loop μ-loop
+    (λ c κs. search needs) (λ c. search needs)  -- half-power, bias as i16
     (λ c. filled-none (pos 0) _ _ _ _ _ (omega (arith, c .before .pre .0 .dst)))  -- loop-holds
-    (λ c. omega (arith, row c))
-    (λ c. omega (arith, row c))
-    (λ c. omega (arith, row c))
-    (λ c. omega (arith, row c))
-    (λ c. omega (arith, row c))
-    (λ c. omega (arith, row c))
-    (λ c. omega (arith, row (c .before)))  -- y * 64
-    (λ c κs. omega (arith, row (c .before)))  -- mid-prep-row-requires
-    (λ c. search needs)  -- add-y
-    (λ c. search needs)  -- loop-less
-    loop-again
-    (λ c. c .before .loop .inv .len)  -- same-length
-    (λ c. filled-all (c .before .loop .inv) (c .loop-test .left)))  -- returns
+    (λ c. omega (arith, row c)) (λ c. omega (arith, row c))  -- y * tmp_stride, d + w
+    (λ c. omega (arith, row c)) (λ c. omega (arith, row c)) (λ c. omega (arith, row c)) (λ c. omega (arith, row c))  -- tmp[d..d + w]
+    (λ c. omega (arith, row (c .before))) (λ c κs. omega (arith, row (c .before)))  -- mid-prep-row
+    (λ c. search needs) (λ c. search needs) loop-again (λ c. search block-loop) (λ c. search block-loop))  -- y += 1, and the loop

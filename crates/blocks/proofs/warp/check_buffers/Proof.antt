@@ -20,10 +20,5 @@ pub check-buffers-spec : {M : Type 1} → statement M
 check-buffers-spec =
     tie.close
     (tie.spec
-    (λ c κs. search needs)  -- filters-there-requires
-    (λ c κs. search needs)  -- margins-held-requires
-    (λ c κs. search needs)  -- held-requires
-    (λ c κs. search needs)  -- needed-requires
-    (λ c κs. search needs)  -- needed-requires-2
-    (λ c κs. search needs)  -- needed-requires-3
-    returns)
+    (λ c κs. search needs) (λ c κs. search needs) (λ c κs. search needs) (λ c κs. search needs)  -- filters-there, margins-held, held, needed
+    (λ c κs. search needs) (λ c κs. search needs) returns)  -- needed

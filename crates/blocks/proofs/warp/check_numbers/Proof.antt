@@ -25,11 +25,5 @@ pub check-numbers-spec : {M : Type 1} → statement M
 check-numbers-spec =
     tie.close
     (tie.spec
-    (λ c κs. search needs)  -- within-requires
-    (λ c κs. search needs)  -- within-requires-2
-    (λ c κs. search needs)  -- needed-requires
-    (λ c κs. search needs)  -- needed-requires-2
-    (λ c κs. search needs)  -- needed-requires-3
-    (λ c κs. search needs)  -- stride-requires
-    (λ c κs. search needs)  -- stride-requires-2
-    returns)
+    (λ c κs. search needs) (λ c κs. search needs) (λ c κs. search needs) (λ c κs. search needs) (λ c κs. search needs)  -- within, needed
+    (λ c κs. search needs) (λ c κs. search needs) returns)  -- stride

@@ -24,7 +24,4 @@ pub check-warp-spec : {M : Type 1} → statement M
 check-warp-spec =
     tie.close
     (tie.spec
-    (λ c κs. search needs)  -- check-numbers-requires
-    returns
-    check-buffers-requires
-    returns-2)
+    (λ c κs. search needs) returns check-buffers-requires returns-2)  -- check-numbers

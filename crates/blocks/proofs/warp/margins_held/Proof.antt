@@ -26,10 +26,5 @@ pub margins-held-spec : {M : Type 1} → statement M
 margins-held-spec =
     tie.close
     (tie.spec
-    (λ c. search needs)  -- 3 s
-    (λ c. search needs)  -- 3 s + 3
-    (λ c. search needs)  -- 11 s
-    (λ c. search needs)  -- 11 s + 11
-    (λ c. search needs)  -- sl - o
-    returns
-    returns-2)
+    (λ c. search needs) (λ c. search needs) (λ c. search needs) (λ c. search needs) (λ c. search needs)  -- 3 s, 3 s + 3, 11 s, 11 s + 11, sl - o
+    returns returns-2)

@@ -8,7 +8,7 @@ use borrow.Author.Needs.{needs}
 use Rattle.rows.specs.Numbers.{at, low16, minus16}
 use Rattle.rows.specs.Warp.{warped}
 use Rattle.rows.proofs.Laws.Signed.{back, backn}
-use Rattle.blocks.proofs.Laws.Rows.{Filled, filled-none, filled-all, filled-span, row-in}
+use Rattle.blocks.proofs.Laws.Rows.{Filled, filled-none, filled-all, filled-span, row-in, block-loop}
 use Rattle.blocks.proofs.Laws.Passes.{filled-row}
 use Rattle.blocks.proofs.warp.warp_prep_rows.Statement.{statement}
 use Rattle.blocks.proofs.warp.warp_prep_rows.Tie as tie
@@ -50,21 +50,10 @@ returns c =
 pub warp-prep-rows-spec : {M : Type 1} → statement M
 warp-prep-rows-spec =
     tie.close
-    (tie.spec
-    Inv-loop
-    μ-loop
+    (tie.spec Inv-loop μ-loop
     (λ c. filled-none (pos 0) _ _ _ _ _ (omega (arith, c .pre .0)))  -- loop-holds
-    (λ c. omega (arith, row c))  -- y * tmp_stride
-    (λ c. omega (arith, row c))  -- d + 8
-    (λ c. omega (arith, row c))  -- 2 * d
-    (λ c. omega (arith, row c))  -- d + 8 - d
-    (λ c. omega (arith, row c))  -- d..
-    (λ c. omega (arith, row c))  -- ..d + 8
-    (λ c. omega (arith, c .before .loop-test .taken))  -- y as u32
-    (λ c. omega arith)  -- bias as i16
+    (λ c. omega (arith, row c)) (λ c. omega (arith, row c))  -- y * tmp_stride, d + 8
+    (λ c. omega (arith, row c)) (λ c. omega (arith, row c)) (λ c. omega (arith, row c)) (λ c. omega (arith, row c))  -- tmp[d..d + 8]
+    (λ c. omega (arith, c .before .loop-test .taken)) (λ c. omega arith)  -- y as u32, bias as i16
     warp-prep-row-requires
-    (λ c. search needs)  -- add-y
-    (λ c. search needs)  -- loop-less
-    loop-again
-    (λ c. c .before .loop .inv .len)  -- same-length
-    returns)
+    (λ c. search needs) (λ c. search needs) loop-again (λ c. search block-loop) returns)  -- y += 1, and the loop

@@ -21,8 +21,6 @@ pub check-window-spec : {M : Type 1} → statement M
 check-window-spec =
     tie.close
     (tie.spec
-    (λ c κs. search needs)  -- window-sizes-requires
-    returns
+    (λ c κs. search needs) returns  -- window-sizes
     (λ c κs. sizes-small _ _ _ _ _ (sym (c .before .window-sizes .ensures) ∙ c .if1 .left))  -- window-held-requires
-    (λ c κs. search needs)  -- window-numbers-requires
-    returns-2)
+    (λ c κs. search needs) returns-2)  -- window-numbers

@@ -46,10 +46,4 @@ pub find-window-spec : {M : Type 1} → statement M
 find-window-spec =
     tie.close
     (tie.spec
-    (λ c κs. search needs)  -- check-window-requires
-    (λ c κs. search needs)  -- no-part-requires
-    returns
-    area-of-requires
-    is-planes-requires
-    window-at-requires
-    returns-2)
+    (λ c κs. search needs) (λ c κs. search needs) returns area-of-requires is-planes-requires window-at-requires returns-2)  -- check-window, no-part

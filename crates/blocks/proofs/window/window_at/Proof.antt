@@ -40,8 +40,7 @@ window-at-spec =
     (tie.spec
     (λ c κs. search needs)  -- above64-requires
     (λ c. omega (arith, small c, c .before .before .pre))  -- mul-place
-    (λ c κs. search needs)  -- above64-requires-2
-    add-place
+    (λ c κs. search needs) add-place  -- above64
     (λ c κs. let p = c .before .before .before .pre in (p .0, p .1, p .2, p .3))  -- part-len-requires
     returns
     (λ c κs. let p = c .before .pre in (omega (arith, p), p .1, p .2, p .3))  -- part-len-requires-2

@@ -12,10 +12,5 @@ pub window-held-spec : {M : Type 1} → statement M
 window-held-spec =
     tie.close
     (tie.spec
-    (λ c κs. search needs)  -- window-side-requires
-    (λ c κs. search needs)  -- window-side-requires-2
-    (λ c κs. search needs)  -- held-requires
-    (λ c κs. search needs)  -- plane-w-requires
-    (λ c κs. search needs)  -- plane-h-requires
-    (λ c κs. search needs)  -- held-requires-2
-    returns)
+    (λ c κs. search needs) (λ c κs. search needs) (λ c κs. search needs) (λ c κs. search needs)  -- window-side, held, plane-w
+    (λ c κs. search needs) (λ c κs. search needs) returns)  -- plane-h, held

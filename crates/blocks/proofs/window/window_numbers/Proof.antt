@@ -13,9 +13,5 @@ pub window-numbers-spec : {M : Type 1} → statement M
 window-numbers-spec =
     tie.close
     (tie.spec
-    (λ c κs. search needs)  -- frame-names-ok-requires
-    (λ c κs. search needs)  -- needed-requires
-    (λ c κs. search needs)  -- places-requires
-    (λ c κs. search needs)  -- needed-requires-2
-    (λ c κs. search needs)  -- needed-requires-3
-    returns)
+    (λ c κs. search needs) (λ c κs. search needs) (λ c κs. search needs) (λ c κs. search needs)  -- frame-names-ok, needed, places
+    (λ c κs. search needs) returns)  -- needed

@@ -11,9 +11,5 @@ pub window-sizes-spec : {M : Type 1} → statement M
 window-sizes-spec =
     tie.close
     (tie.spec
-    (λ c κs. search needs)  -- frame-sizes-ok-requires
-    (λ c κs. search needs)  -- plane-w-requires
-    (λ c κs. search needs)  -- stride-requires
-    (λ c κs. search needs)  -- sizes-requires
-    (λ c κs. search needs)  -- needed-requires
-    returns)
+    (λ c κs. search needs) (λ c κs. search needs) (λ c κs. search needs) (λ c κs. search needs)  -- frame-sizes-ok, plane-w, stride, sizes
+    (λ c κs. search needs) returns)  -- needed

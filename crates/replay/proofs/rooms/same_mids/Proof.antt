@@ -5,10 +5,10 @@ use Rattle.replay.proofs.rooms.same_mids.Statement.{statement}
 use Rattle.replay.proofs.rooms.same_mids.Tie as tie
 
 abbrev Inv-loop : tie.InvT-loop
-Inv-loop r b d c n same₀ i₀ same i = i ≤ n
+Inv-loop r b d c same₀ i₀ i-end same i = (i ≤ i-end) × (i-end ≤ 40000)
 
 abbrev μ-loop : tie.MeasureT-loop
-μ-loop r b d c n same₀ i₀ same i = n - i
+μ-loop r b d c same₀ i₀ i-end same i = i-end - i
 
 pub same-mids-spec : {M : Type 1} → statement M
 same-mids-spec =

@@ -29,16 +29,9 @@ loop-again c =
 pub mid-bilin-prep-row-spec : {M : Type 1} → statement M
 mid-bilin-prep-row-spec =
     tie.close
-    (tie.spec
-    Inv-loop
-    μ-loop
-    (λ c. upto-none _ _ _)  -- loop-holds
-    (λ c. omega arith)  -- o + i
-    (λ c κs. omega arith)  -- between-i16-requires
+    (tie.spec Inv-loop μ-loop (λ c. upto-none _ _ _)  -- while i < w
+    (λ c. omega arith) (λ c κs. omega arith)  -- between_i16(.., o + i, ..)
     (λ c κs. search needs)  -- bilin-kept-requires
     (λ c. omega arith) (λ c. omega arith)  -- tmp[i] =
-    (λ c. omega arith)  -- i += 1
-    (λ c. omega arith)  -- loop-less
-    loop-again
-    (λ c. omega arith)  -- same-length
-    (λ c. rw (← back (c .before .before .fits .bias)) (upto-all (c .before .loop .inv) (omega arith))))  -- returns
+    (λ c. omega arith) (λ c. omega arith) loop-again  -- i += 1
+    (λ c. omega arith) (λ c. rw (← back (c .before .before .fits .bias)) (upto-all (c .before .loop .inv) (omega arith))))  -- returns

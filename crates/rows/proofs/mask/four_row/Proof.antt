@@ -27,8 +27,6 @@ four-row-spec =
     (λ c. omega arith) (λ c. omega arith) (λ c. omega arith)  -- n[2 * i + 1]
     (λ c κs. search needs)  -- four-px-requires
     (λ c. omega arith)  -- mask[i] =
-    (λ c. omega arith)  -- i += 1
-    (λ c. omega arith)  -- loop-less
+    (λ c. omega arith) (λ c. omega arith)  -- i += 1
     (λ c. upto-more (c .before .before .before .before .before .before .loop .inv) (omega arith) (c .four-px .ensures))  -- loop-again
-    (λ c. omega arith)  -- same-length
-    (λ c. upto-all (c .before .loop .inv) (omega arith)))  -- returns
+    (λ c. omega arith) (λ c. upto-all (c .before .loop .inv) (omega arith)))  -- returns

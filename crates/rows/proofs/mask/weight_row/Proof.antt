@@ -32,8 +32,5 @@ weight-row-spec =
     (λ c. omega arith) (λ c. omega arith) (λ c. omega arith)  -- tmp2[q + i]
     (λ c κs. search needs)  -- weight-px-requires
     (λ c. omega arith)  -- m[i] =
-    (λ c. omega arith)  -- i += 1
-    (λ c. omega arith)  -- loop-less
-    loop-again
-    (λ c. omega arith)  -- same-length
-    (λ c. upto-all (c .before .loop .inv) (omega arith)))  -- returns
+    (λ c. omega arith) (λ c. omega arith) loop-again  -- i += 1
+    (λ c. omega arith) (λ c. upto-all (c .before .loop .inv) (omega arith)))  -- returns

@@ -24,14 +24,9 @@ loop-again c =
 pub is-near-spec : {M : Type 1} → statement M
 is-near-spec =
     tie.close
-    (tie.spec
-    Inv-loop
-    μ-loop
-    (λ c. added-none _ _ _)  -- loop-holds
+    (tie.spec Inv-loop μ-loop (λ c. added-none _ _ _)  -- while j < 8
     (λ c. omega arith)  -- f[j]
     (λ c κs. search needs)  -- tap-size-requires
     (λ c. omega arith)  -- s +=
-    (λ c. omega arith)  -- j += 1
-    (λ c. omega arith)  -- loop-less
-    loop-again
+    (λ c. omega arith) (λ c. omega arith) loop-again  -- j += 1
     (λ c. rw (added-all (c .before .loop .inv) (omega arith) .0)))  -- returns

@@ -1,5 +1,8 @@
+use mathlib.Core.Path.{ap}
 use native.Mathlib.Omega.{arith}
 use Prim.Native.Nat.{_+_, _*_, _-_, _≤_}
+use lib.IntN.{ℤ}
+use lib.Signed.{shrZ}
 use mir.Syntax.{w8, w16}
 use Rattle.rows.specs.Numbers.{at}
 use Rattle.rows.proofs.Laws.Signed.{back, fit}
@@ -19,32 +22,19 @@ abbrev μ-loop : tie.MeasureT-loop
 place : (c : tie.In-loop Inv-loop μ-loop) → c .before .loop .j * c .before .before .args .step ≤ 7 * c .before .before .args .step
 place c = within (c .before .loop .j) (c .before .before .args .step) (c .loop-test .taken)
 
-requires : tie.Need-near-high-i16-requires Inv-loop μ-loop
-requires c κs =
-    let h = c .before .before .before in
-    let ff = back (fit w8 {z = at (h .before .args .f .now) (h .loop .j)} (c .before .near-high-i16-arg .given)) in
-    rw ff (near-room (h .loop .inv) (omega arith) (h .before .pre .1))
-
 loop-again : tie.Need-loop-again Inv-loop μ-loop
 loop-again c =
-    let h = c .before .before .before .before in
-    let ff = back (fit w8 {z = at (h .before .args .f .now) (h .loop .j)} (c .before .before .near-high-i16-arg .given)) in
-    let fx = back (fit w16 {z = at (h .before .args .src .now) (h .before .args .o + h .loop .j * h .before .args .step)} (c .before .near-high-i16-arg2 .given)) in
-    near-more (h .loop .inv) (omega arith) (h .before .pre .1) (rw (ff, fx) at (c .near-high-i16 .ensures))
+    let h = c .before .before .before .before in let a = h .before .args in
+    let e = ap (λ (z : ℤ). shrZ z 256) (back (fit w16 {z = at (a .src .now) (a .o + h .loop .j * a .step)} (c .before .near-high-i16-arg2 .given))) in
+    near-more (h .loop .inv) (omega arith) (h .before .pre .1) (fit w8 (c .before .before .near-high-i16-arg .given)) e (c .near-high-i16 .ensures)
 
 pub near-highs-i16-spec : {M : Type 1} → statement M
 near-highs-i16-spec =
     tie.close
-    (tie.spec
-    Inv-loop
-    μ-loop
-    (λ c. near-none _ _)  -- loop-holds
+    (tie.spec Inv-loop μ-loop (λ c. near-none _ _)  -- while j < 8
     (λ c. omega arith)  -- f[j]
-    (λ c. omega (arith, place (c .before)))  -- j * step
-    (λ c. omega (arith, place (c .before)))  -- o + j * step
+    (λ c. omega (arith, place (c .before))) (λ c. omega (arith, place (c .before)))  -- o + j * step
     (λ c. omega (arith, place (c .before))) (λ c. omega (arith, place (c .before)))  -- src[..]
-    requires
-    (λ c. omega arith)  -- j += 1
-    (λ c. omega arith)  -- loop-less
-    loop-again
+    (λ c κs. let h = c .before .before .before in near-room (h .loop .inv) (omega arith) (h .before .pre .1) (fit w8 (c .before .near-high-i16-arg .given)))
+    (λ c. omega arith) (λ c. omega arith) loop-again  -- j += 1
     (λ c. near-all (c .before .loop .inv) (omega arith)))  -- returns

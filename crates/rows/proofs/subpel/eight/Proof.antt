@@ -23,15 +23,10 @@ returns c = upto-all (c .before .loop .inv) (omega arith)
 pub eight-spec : {M : Type 1} → statement M
 eight-spec =
     tie.close
-    (tie.spec
-    Inv-loop
-    μ-loop
-    (λ c. upto-none (pos 0) _ _)  -- loop-holds
+    (tie.spec Inv-loop μ-loop (λ c. upto-none (pos 0) _ _)  -- while t < 8
     (λ c. omega arith)  -- 8 * n
     (λ c. omega arith)  -- 8 * n + t
     (λ c. omega arith)  -- table[8 * n + t]
     (λ c. omega arith)  -- f[t] =
-    (λ c. omega arith)  -- t += 1
-    (λ c. omega arith)  -- loop-less
-    (λ c. upto-more (c .before .before .loop .inv) (omega arith) (back (fit w8 (c .f .given))))  -- loop-again
+    (λ c. omega arith) (λ c. omega arith) (λ c. upto-more (c .before .before .loop .inv) (omega arith) (back (fit w8 (c .f .given))))  -- t += 1
     returns)

@@ -10,13 +10,10 @@ pub mid-prep-row-spec : {M : Type 1} → statement M
 mid-prep-row-spec =
     tie.close
     (tie.spec
-    (λ c κs. (omega arith, omega arith, omega arith, λ e. absurd (subst T (sym e) tt)))  -- mid-prep-row-by-requires
+    (λ c κs. (omega arith, omega arith, λ e. absurd (subst T (sym e) tt)))  -- mid-prep-by-requires
     (λ c κs. search needs)  -- is-short-requires
-    (λ c κs. (omega arith, omega arith, omega arith, λ e. c .before .before .is-short .ensures (c .before .if2 .taken)))  -- mid-prep-row-by-requires-2
-    (λ c κs. (omega arith, omega arith, omega arith, λ e. absurd (subst T (sym e) tt)))  -- mid-prep-row-by-requires-3
-    (λ c. search needs)  -- same-length
-    (λ c. rw (back (c .before .before .before .before .fits .bias)) at (c .before .mid-prep-row-by .ensures))  -- returns
-    (λ c. search needs)  -- same-length
-    (λ c. rw (back (c .before .before .before .before .before .before .fits .bias)) at (c .before .mid-prep-row-by2 .ensures))  -- returns-2
-    (λ c. search needs)  -- same-length
-    (λ c. rw (back (c .before .before .before .before .before .before .fits .bias)) at (c .before .mid-prep-row-by3 .ensures)))  -- returns-3
+    (λ c κs. (omega arith, omega arith, λ e. c .before .before .is-short .ensures (c .before .if2 .taken)))  -- mid-prep-by-requires-2
+    (λ c κs. (omega arith, omega arith, λ e. absurd (subst T (sym e) tt)))  -- mid-prep-by-requires-3
+    (λ c. search needs) (λ c. rw (back (c .before .before .before .before .fits .bias)) at (c .before .mid-prep-by .ensures))  -- returns
+    (λ c. search needs) (λ c. rw (back (c .before .before .before .before .before .before .fits .bias)) at (c .before .mid-prep-by2 .ensures))  -- returns-2
+    (λ c. search needs) (λ c. rw (back (c .before .before .before .before .before .before .fits .bias)) at (c .before .mid-prep-by3 .ensures)))  -- returns-3

@@ -19,8 +19,6 @@ pub rounded-spec : {M : Type 1} → statement M
 rounded-spec =
     tie.close
     (tie.spec
-    (λ c. search needs)  -- cast-result
-    (λ c. simp (back (c .fits .s), backn w32 (c .args .r) (omega arith)) (sum c))  -- add-result
-    (λ c. search needs)  -- cast-result-2
-    (λ c. search needs)  -- shr-result
+    (λ c. search needs) (λ c. simp (back (c .fits .s), backn w32 (c .args .r) (omega arith)) (sum c))  -- s + r
+    (λ c. search needs) (λ c. search needs)  -- >> n
     (λ c. simp (back (c .fits .s), backn w32 (c .args .r) (omega arith), back (sum c), back (shifted c))))  -- returns

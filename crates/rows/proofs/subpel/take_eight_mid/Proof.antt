@@ -18,14 +18,8 @@ abbrev μ-loop : tie.MeasureT-loop
 pub take-eight-mid-spec : {M : Type 1} → statement M
 take-eight-mid-spec =
     tie.close
-    (tie.spec
-    Inv-loop
-    μ-loop
-    (λ c. upto-none _ _ _)  -- loop-holds
+    (tie.spec Inv-loop μ-loop (λ c. upto-none _ _ _)  -- while i < 8
     (λ c. omega arith) (λ c. omega arith)  -- line[i]
     (λ c. omega arith) (λ c. omega arith)  -- tmp[i] =
-    (λ c. omega arith)  -- i += 1
-    (λ c. omega arith)  -- loop-less
-    (λ c. upto-more (c .before .before .loop .inv) (omega arith) (back (fit w16 (c .v .given))))  -- loop-again
-    (λ c. omega arith)  -- same-length
-    (λ c. upto-all (c .before .loop .inv) (omega arith)))  -- returns
+    (λ c. omega arith) (λ c. omega arith) (λ c. upto-more (c .before .before .loop .inv) (omega arith) (back (fit w16 (c .v .given))))  -- i += 1
+    (λ c. omega arith) (λ c. upto-all (c .before .loop .inv) (omega arith)))  -- returns

@@ -36,16 +36,11 @@ returns c = let h = c .before .loop in summed-eight (h .inv .0) (omega arith) (h
 pub taps-i16-spec : {M : Type 1} → statement M
 taps-i16-spec =
     tie.close
-    (tie.spec
-    Inv-loop
-    μ-loop
-    (λ c. (omega arith, summed-none _ _))  -- loop-holds
+    (tie.spec Inv-loop μ-loop (λ c. (omega arith, summed-none _ _))  -- while j < 8
     (λ c. omega arith)  -- f[j]
     (λ c. omega (arith, place (c .before)))  -- j * step
     (λ c. omega (arith, place (c .before)))  -- o + j * step
     (λ c. omega (arith, place (c .before))) (λ c. omega (arith, place (c .before)))  -- src[..]
     (λ c κs. omega (arith, summed-mag (c .before .before .before .loop .inv .1) (omega arith)))  -- tap-i16-requires
-    (λ c. omega arith)  -- j += 1
-    (λ c. omega arith)  -- loop-less
-    loop-again
+    (λ c. omega arith) (λ c. omega arith) loop-again  -- j += 1
     returns)

@@ -1,6 +1,7 @@
 use Prim.Native.Nat.{_+_, _*_, _-_}
 use native.Mathlib.Omega.{arith}
 use lib.IntN.{pos}
+use borrow.Author.Needs.{needs}
 use mir.Syntax.{w16, w32}
 use mir.Val.{SFits, toZ}
 use Rattle.rows.specs.Numbers.{at, low16, minus16}
@@ -8,7 +9,7 @@ use Rattle.rows.specs.Warp.{warped}
 use Rattle.rows.proofs.Laws.Signed.{back}
 use Rattle.rows.proofs.Laws.Row.{Upto, upto-all}
 use Rattle.rows.proofs.Laws.Filter.{upto-kept}
-use Rattle.rows.proofs.Laws.Warp.{upto-start}
+use Rattle.rows.proofs.Laws.Warp.{upto-start, length-filter, warp-kept-is}
 use Rattle.rows.proofs.warp.warp_prep_row.Statement.{statement}
 use Rattle.rows.proofs.warp.warp_prep_row.Tie as tie
 
@@ -23,17 +24,21 @@ abbrev μ-loop : tie.MeasureT-loop
 abbrev begin : tie.At-loop Inv-loop μ-loop → tie.Start Inv-loop μ-loop
 begin c = c .before
 
-warp-mid-px-requires : tie.Need-warp-mid-px-requires Inv-loop μ-loop
-warp-mid-px-requires c κs =
+filter-for-requires : tie.Need-filter-for-requires Inv-loop μ-loop
+filter-for-requires c κs =
     let s = begin (c .before) in
-    rw (back (s .fits .m), back (s .fits .a), back (s .fits .b)) (omega arith, s .pre .1 (c .before .loop .c) (omega arith))
+    rw (back (s .fits .m), back (s .fits .a), back (s .fits .b)) (omega arith, omega arith, omega arith, s .pre .1 (c .before .loop .c) (omega arith))
 
 loop-again : tie.Need-loop-again Inv-loop μ-loop
+unfolding warped
 loop-again c =
-    let p = c .before in
-    let f : SFits w16 (p .warp-mid-px .result) = omega arith in
-    let g : SFits w16 (c .wrapping-sub16 .result) = omega arith in
-    upto-kept (p .before .before .loop .inv) (omega arith) g (rw (c .wrapping-sub16 .ensures, back f, p .warp-mid-px .ensures))
+    let k = c .before in let t = k .before in let f = t .before in
+    let fv : SFits w16 (c .wrapping-sub16 .result) = omega arith in
+    let fk : SFits w16 (k .warp-kept .result) = omega arith in
+    let ft : SFits w32 (t .taps-i16 .result) = omega arith in
+    let mid = begin (f .before .before) .args .mid .now in
+    let e = warp-kept-is (at mid) _ _ (f .filter-for .ensures) (t .taps-i16 .ensures .0) (rw (back ft) at (k .warp-kept .ensures)) in
+    upto-kept (f .before .before .loop .inv) (omega arith) fv (rw (c .wrapping-sub16 .ensures, back fk, e))
 
 returns : tie.Need-returns Inv-loop μ-loop
 returns c =
@@ -43,19 +48,11 @@ returns c =
 pub warp-prep-row-spec : {M : Type 1} → statement M
 warp-prep-row-spec =
     tie.close
-    (tie.spec
-    Inv-loop
-    μ-loop
-    (λ c. upto-start (omega arith))  -- loop-holds
-    (λ c. omega arith)  -- c * 15
-    (λ c. omega arith)  -- o + c * 15
-    (λ c. omega arith)  -- c as u32
-    warp-mid-px-requires
-    (λ c κs. omega arith)  -- wrapping-sub16-requires
-    (λ c. omega arith)  -- 2 * c
-    (λ c. omega arith)  -- tmp[c] =
-    (λ c. omega arith)  -- c += 1
-    (λ c. omega arith)  -- loop-less
-    loop-again
-    (λ c. omega arith)  -- same-length
-    returns)
+    (tie.spec Inv-loop μ-loop (λ c. upto-start (omega arith))  -- while c < 8
+    (λ c. omega arith) filter-for-requires  -- filter_for(.., c as u32)
+    (λ c. omega arith) (λ c. omega arith)  -- o + c * 15
+    (λ c κs. omega (arith, length-filter _ _ _ (c .filter-for .ensures)))  -- taps_i16(..)
+    (λ c κs. search needs) (λ c κs. omega arith)  -- wrapping_sub16(warp_kept(..), bias)
+    (λ c. omega arith) (λ c. omega arith)  -- tmp[c] =
+    (λ c. omega arith) (λ c. omega arith) loop-again  -- c += 1
+    (λ c. omega arith) returns)

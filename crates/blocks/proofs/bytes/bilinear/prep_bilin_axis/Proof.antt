@@ -1,0 +1,41 @@
+-- Made from crates/blocks/proofs/words/bilinear/prep_bilin_axis/Proof.antt by tools/sets: change that.
+use native.Mathlib.Omega.{arith}
+use Prim.Native.Nat.{_+_, _-_, _*_}
+use lib.IntN.{pos}
+use Rattle.rows.specs.Numbers.{px, low16, minus16}
+use Rattle.rows.specs.Bilinear.{R, bilinAt}
+use lib.ListN.{length}
+use mir.Syntax.{w16}
+use mir.Val.{toZ}
+use borrow.Author.Needs.{needs}
+use Rattle.rows.proofs.Laws.Signed.{back}
+use Rattle.blocks.proofs.Laws.Rows.{Filled, filled-none, filled-all, block-loop}
+use Rattle.blocks.proofs.Laws.BilinReady.{Turn, turn}
+use Rattle.blocks.proofs.bytes.bilinear.prep_bilin_axis.Statement.{statement}
+use Rattle.blocks.proofs.bytes.bilinear.prep_bilin_axis.Tie as tie
+
+abbrev Inv-loop : tie.InvT-loop
+Inv-loop tmp₀ ds src ss w h step f n bias y₀ tmp y =
+    Filled ds w (λ i j. minus16 (low16 (R n (bilinAt (px src) (j * ss + i) step f))) (toZ w16 bias)) tmp₀ h y tmp
+
+abbrev μ-loop : tie.MeasureT-loop
+μ-loop tmp₀ ds src ss w h step f n bias y₀ tmp y = h - y
+
+-- the function's entry, from a turn of the loop
+abbrev entry : tie.In-loop Inv-loop μ-loop → tie.Start Inv-loop μ-loop
+entry c = c .before .before .before
+
+row : (c : tie.In-loop Inv-loop μ-loop) → let a = entry c .args in
+    Turn (c .before .loop .tmp) (a .ts) (length (a .src .now)) (a .ss) (a .step) (a .w) (c .before .loop .y)
+row c = turn (pos 0) (entry c .pre .0) (c .before .loop .inv) (c .loop-test .taken)
+
+pub prep-bilin-axis-spec : {M : Type 1} → statement M
+prep-bilin-axis-spec =
+    tie.close
+    (tie.spec Inv-loop μ-loop
+    (λ c. filled-none (pos 0) _ _ _ _ _ (omega (arith, c .before .pre)))  -- loop-holds
+    (λ c. omega (arith, row c)) (λ c. omega (arith, row c))  -- y * ts, d + w
+    (λ c. omega (arith, row c)) (λ c. omega (arith, row c)) (λ c. omega (arith, row c)) (λ c. omega (arith, row c))  -- tmp[d..d + w]
+    (λ c. omega (arith, row (c .before))) (λ c κs. omega (arith, row (c .before), entry (c .before) .pre))  -- prep-bilin-row
+    (λ c. search needs) (λ c. search needs) (λ c. search block-loop) (λ c. search block-loop)  -- y += 1, and the loop
+    (λ c. rw (← back (c .before .before .before .fits .bias)) (filled-all (c .before .loop .inv) (c .loop-test .left))))  -- returns

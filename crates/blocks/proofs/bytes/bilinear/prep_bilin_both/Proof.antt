@@ -1,0 +1,48 @@
+-- Made from crates/blocks/proofs/words/bilinear/prep_bilin_both/Proof.antt by tools/sets: change that.
+use mathlib.Core.Path.{_≡_, ap, _∙_}
+use lib.IntN.{pos}
+use native.Mathlib.Omega.{arith}
+use borrow.Author.Needs.{needs}
+use mir.Syntax.{w16}
+use mir.Val.{toZ}
+use Rattle.rows.proofs.Laws.Signed.{backn}
+use Rattle.blocks.proofs.Laws.BilinReady.{first, second}
+use Rattle.blocks.proofs.Laws.BilinRule.{prep-twice}
+use Rattle.blocks.proofs.bytes.bilinear.prep_bilin_both.Statement.{statement}
+use Rattle.blocks.proofs.bytes.bilinear.prep_bilin_both.Tie as tie
+
+-- the function's entry, from where the intermediates are there
+abbrev entry : tie.After-mid → tie.Start
+entry c = c .before .before .before .before
+
+-- B and P, as the rows take them
+depth : (c : tie.After-mid) → let n = entry c .args .n in (c .before .before .bits-of .result ≡ n .bits) × (toZ w16 (c .before .bias-of .result) ≡ pos (n .bias))
+depth c =
+    let p = c .before .bias-of in
+    (c .before .before .bits-of .ensures, backn w16 (p .result) (omega (arith, p .ensures, entry c .pre .4)) ∙ ap pos (p .ensures))
+
+first-requires : tie.Need-prep-bilin-axis-requires
+first-requires c κs = let p = entry c .pre in (first (p .0) _ (omega (arith, p .3)) _ (omega arith) (p .1) (p .2), omega (arith, p .3))
+
+second-requires : tie.Need-mid-bilin-prep-rows-requires
+second-requires c κs =
+    let m = c .before .before .before in let s = entry (m .before) in
+    second (s .pre .0) _ (omega (arith, s .pre .3)) _ (omega (arith, m .prep-bilin-axis .kept .0))
+
+returns : tie.Need-returns
+returns c =
+    let r = c .before in
+    let m = r .before .before .before .before in
+    let s = entry (m .before) in let a = s .args in
+    let d = depth (m .before) in
+    rw (m .prep-bilin-axis .ensures, d .0, d .1) at (r .mid-bilin-prep-rows .ensures)
+    ∙ prep-twice (a .n .bits) (a .n .bias) (a .src .now) (a .tmp .now) (s .pre .0) (s .pre .1) (s .pre .2) _ (omega arith)
+
+pub prep-bilin-both-spec : {M : Type 1} → statement M
+prep-bilin-both-spec =
+    tie.close
+    (tie.spec
+    (λ c κs. search needs) (λ c κs. search needs) (λ c. search needs)  -- bits-of, bias-of, slice-aggregate-prep-bilin-axis
+    (λ c. omega (arith, entry c .pre .0 .block))  -- add-prep-bilin-axis
+    (λ c. search needs) first-requires (λ c. search needs)  -- sub-prep-bilin-axis, slice-aggregate-mid-bilin-prep-rows
+    (λ c. search needs) second-requires (λ c. search needs) returns)  -- cast-mid-bilin-prep-rows, same-length

@@ -1,0 +1,43 @@
+-- Made from crates/blocks/proofs/words/bilinear/hv_put_bilin_16bpc/Proof.antt by tools/sets: change that.
+use mathlib.Core.Path.{_≡_, sym, _∙_}
+use lib.ListN.{length}
+use borrow.Author.Needs.{needs}
+use Rattle.rows.proofs.Laws.Signed.{back}
+use Rattle.blocks.specs.Refuse.{lowest}
+use Rattle.blocks.specs.bytes.Depth.{depthOk}
+use Rattle.blocks.specs.Bilinear.{bilinTests}
+use Rattle.blocks.proofs.Laws.Refuse.{done, refused}
+use Rattle.blocks.proofs.Laws.bytes.Deep.{deep-bits, deep-max}
+use Rattle.blocks.proofs.Laws.BilinReady.{bilin-ready}
+use Rattle.blocks.proofs.bytes.bilinear.put_bilin_at.Statement.{statement}
+use Rattle.blocks.proofs.bytes.bilinear.put_bilin_at.Tie as tie
+
+-- the function's entry, from where the number is there
+abbrev entry : tie.After-check-bilin → tie.Start
+entry c = c .before .before .before .before
+
+number : (c : tie.After-check-bilin) → let a = entry c .args in
+    c .check-bilin .result
+    ≡ lowest (bilinTests (depthOk (a .depth)) (length (a .dst .now)) (a .dst-stride) (length (a .src .now)) (a .src-stride) (a .w) (a .h) (a .mx) (a .my))
+number c = let s = entry c in rw (c .before .depth-ok .ensures, back (s .fits .depth), back (s .fits .mx), back (s .fits .my)) at (c .check-bilin .ensures)
+
+returns : tie.Need-returns
+returns c =
+    let r = c .before .before in let a = r .before .before in let b = a .before in let n = b .before in let t = n .before in let f = entry (t .before) .fits in
+    let q = rw (b .above .ensures, a .above2 .ensures, n .depth-numbers .ensures, back (f .depth), back (f .mx), back (f .my))
+    at (r .put-bilin-rows .ensures) in
+    (number (t .before), q ∙ sym (done _ _ _ (t .if1 .taken)))
+
+rows-requires : tie.Need-put-bilin-rows-requires
+rows-requires c κs =
+    let a = c .before in let n = a .before .before in let t = n .before in let k = t .before in
+    let q = bilin-ready _ _ _ _ _ _ _ _ _ (sym (k .check-bilin .ensures) ∙ t .if1 .taken) in let p = sym (k .before .depth-ok .ensures) ∙ q .0 in
+    rw (a .before .above .ensures, a .above2 .ensures, n .depth-numbers .ensures) (q .1, deep-bits _ p, deep-max _ p)
+
+pub put-bilin-at-spec : {M : Type 1} → statement M
+put-bilin-at-spec =
+    tie.close
+    (tie.spec (λ c κs. search needs) (λ c κs. search needs)  -- depth-ok, check-bilin
+    (λ c κs. let k = c .before in sym (k .before .depth-ok .ensures) ∙ bilin-ready _ _ _ _ _ _ _ _ _ (sym (k .check-bilin .ensures) ∙ c .if1 .taken) .0)
+    (λ c κs. search needs) (λ c κs. search needs) rows-requires (λ c. search needs) returns  -- above, same-length
+    (λ c. (number (c .before), sym (refused _ _ _ (c .if1 .left)))))

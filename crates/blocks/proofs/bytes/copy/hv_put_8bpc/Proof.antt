@@ -1,0 +1,21 @@
+-- Made from crates/blocks/proofs/words/copy/hv_put_16bpc/Proof.antt by tools/sets: change that.
+use mathlib.Core.Path.{sym, _∙_}
+use borrow.Author.Needs.{needs}
+use Rattle.blocks.proofs.Laws.Refuse.{done, refused}
+use Rattle.blocks.proofs.Laws.CopyReady.{put-ready}
+use Rattle.blocks.proofs.bytes.copy.hv_put_8bpc.Statement.{statement}
+use Rattle.blocks.proofs.bytes.copy.hv_put_8bpc.Tie as tie
+
+returns : tie.Need-returns
+returns c =
+    let t = c .before .before .before .before in
+    (t .before .check-put .ensures, c .before .before .put-rows .ensures ∙ sym (done _ _ _ (t .if1 .taken)))
+
+pub hv-put-8bpc-spec : {M : Type 1} → statement M
+hv-put-8bpc-spec =
+    tie.close
+    (tie.spec
+    (λ c κs. search needs)  -- check-put-requires
+    (λ c κs. put-ready _ _ _ _ _ _ (sym (c .before .before .check-put .ensures) ∙ c .before .if1 .taken))  -- put-rows-requires
+    (λ c. search needs) returns  -- same-length
+    (λ c. (c .before .check-put .ensures, sym (refused _ _ _ (c .if1 .left)))))  -- returns-2

@@ -1,0 +1,48 @@
+-- Made from crates/blocks/proofs/words/copy/hv_prep_16bpc/Proof.antt by tools/sets: change that.
+use mathlib.Core.Path.{_≡_, sym, ap, _∙_}
+use lib.IntN.{ℤ}
+use lib.ListN.{length}
+use borrow.Author.Needs.{needs}
+use Rattle.rows.specs.Numbers.{up}
+use Rattle.rows.proofs.Laws.Signed.{back}
+use Rattle.blocks.specs.Refuse.{lowest}
+use Rattle.blocks.specs.bytes.Depth.{depthOk}
+use Rattle.blocks.specs.Ready.{numbersOf}
+use Rattle.blocks.specs.Copy.{prepTests}
+use Rattle.blocks.proofs.Laws.Refuse.{done, refused}
+use Rattle.blocks.proofs.Laws.bytes.Deep.{deep-bits, deep-bias}
+use Rattle.blocks.proofs.Laws.CopyReady.{prep-ready}
+use Rattle.blocks.proofs.bytes.copy.prep_at.Statement.{statement}
+use Rattle.blocks.proofs.bytes.copy.prep_at.Tie as tie
+
+abbrev entry : tie.After-check-prep → tie.Start
+entry c = c .before .before .before
+
+number : (c : tie.After-check-prep) → let a = entry c .args in
+    c .check-prep .result ≡ lowest (prepTests (depthOk (a .depth)) (length (a .tmp .now)) (a .tmp-stride) (length (a .src .now)) (a .src-stride) (a .w) (a .h))
+number c = rw (c .before .depth-ok .ensures, back (entry c .fits .depth)) at (c .check-prep .ensures)
+
+depth : (c : tie.After-depth-numbers) → c .depth-numbers .result ≡ numbersOf (up (entry (c .before .before) .args .depth))
+depth c = c .depth-numbers .ensures ∙ ap (λ (z : ℤ). numbersOf (up z)) (back (entry (c .before .before) .fits .depth))
+
+depth-numbers-requires : tie.Need-depth-numbers-requires
+depth-numbers-requires c κs = rw (back (entry (c .before) .fits .depth)) (prep-ready _ _ _ _ _ _ _ (sym (number (c .before)) ∙ c .if1 .taken) .0)
+
+prep-rows-requires : tie.Need-prep-rows-requires
+prep-rows-requires c κs =
+    let t = c .before .before in
+    let p = prep-ready _ _ _ _ _ _ _ (sym (number (t .before)) ∙ t .if1 .taken) in
+    rw (depth (c .before)) (p .1 .0, p .1 .1, p .1 .2, deep-bits _ (p .0), deep-bias _ (p .0))
+
+returns : tie.Need-returns
+returns c =
+    let n = c .before .before .before in
+    (number (n .before .before), rw (depth n) at (c .before .prep-rows .ensures) ∙ sym (done _ _ _ (n .before .if1 .taken)))
+
+pub prep-at-spec : {M : Type 1} → statement M
+prep-at-spec =
+    tie.close
+    (tie.spec
+    (λ c κs. search needs) (λ c κs. search needs) depth-numbers-requires prep-rows-requires (λ c. search needs)  -- depth-ok, check-prep, same-length
+    returns
+    (λ c. (number (c .before), sym (refused _ _ _ (c .if1 .left)))))  -- returns-2

@@ -1,0 +1,23 @@
+-- Made from crates/blocks/proofs/words/search/refine/Proof.antt by tools/sets: change that.
+use borrow.Author.Needs.{needs}
+use mathlib.Core.Path.{_∙_}
+use Rattle.rows.specs.Places.{pixel}
+use Rattle.blocks.specs.Search.{bestOf}
+use Rattle.blocks.proofs.Laws.SearchReady.{refine-explicit}
+use Rattle.blocks.proofs.bytes.search.refine.Statement.{statement}
+use Rattle.blocks.proofs.bytes.search.refine.Tie as tie
+
+returns-2 : tie.Need-returns-2
+unfolding bestOf
+returns-2 c =
+    let t = c .before in let a = t .before .before .before .before .args in
+    rw (t .before .if1 .left)
+    (c .offset-of2 .ensures ∙ refine-explicit (a .n .depth) (pixel (a .p0 .now) (a .n .s0)) (pixel (a .p1 .now) (a .n .s1)) (a .n .w) (a .n .h) (t .search .ensures))
+
+pub refine-spec : {M : Type 1} → statement M
+refine-spec =
+    tie.close
+    (tie.spec
+    (λ c κs. search needs) (λ c κs. search needs)  -- implicit, offset-of
+    (λ c. rw (c .before .before .if1 .taken) (c .offset-of .ensures ∙ c .before .implicit .ensures))  -- returns
+    (λ c κs. search needs) (λ c κs. search needs) returns-2)  -- search, offset-of

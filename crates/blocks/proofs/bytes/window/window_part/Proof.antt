@@ -1,0 +1,28 @@
+-- Made from crates/blocks/proofs/words/window/window_part/Proof.antt by tools/sets: change that.
+use borrow.Author.Needs.{needs}
+use mathlib.Core.Path.{_≡_, ap, _∙_}
+use lib.ListN.{length}
+use Rattle.rows.proofs.Laws.Signed.{back}
+use Rattle.blocks.specs.Window.{windowOf, partOf}
+use Rattle.blocks.proofs.Laws.Window.{window-in}
+use Rattle.blocks.specs.declared.window.Part.{Part}
+use Rattle.blocks.proofs.bytes.window.window_part.Statement.{statement}
+use Rattle.blocks.proofs.bytes.window.window_part.Tie as tie
+
+answer : (c : tie.After-find-window) → let a = c .before .before .before .args in
+    c .find-window .result
+    ≡ windowOf (a .f) (a .plane-no) (length (a .plane .now)) (a .plane-stride) (a .kind) (a .w) (a .h) (a .x) (a .y) (a .mode) (length (a .scratch .now))
+answer c = let f = c .before .before .before .fits in rw (back (f .x), back (f .y)) at (c .find-window .ensures)
+
+returns : tie.Need-returns
+returns c =
+    let g = c .before in let a = g .before .before .before .args in
+    c .pick .ensures ∙ ap (λ (p : Part). partOf p (a .plane .now) (a .scratch .now)) (answer g)
+
+pub window-part-spec : {M : Type 1} → statement M
+window-part-spec =
+    tie.close
+    (tie.spec
+    (λ c κs. search needs)  -- find-window-requires
+    (λ c κs. rw (answer c) (window-in _ _ _ _ _ _ _ _ _ _ _))  -- pick-requires
+    returns)

@@ -1,0 +1,38 @@
+use native.Mathlib.Omega.{arith}
+use Prim.Native.Nat.{_+_, _-_, _*_, _^_}
+use lib.IntN.{pos, _+ℤ_}
+use lib.Signed.{shrZ}
+use Rattle.rows.specs.Numbers.{px, clip}
+use Rattle.rows.specs.Bilinear.{R, bilinAt}
+use lib.ListN.{length}
+use borrow.Author.Needs.{needs}
+use Rattle.blocks.proofs.Laws.Rows.{Filled, filled-none, block-loop}
+use Rattle.blocks.proofs.Laws.BilinReady.{Turn, turn}
+use Rattle.blocks.proofs.words.bilinear.put_bilin_axis.Statement.{statement}
+use Rattle.blocks.proofs.words.bilinear.put_bilin_axis.Tie as tie
+
+abbrev Inv-loop : tie.InvT-loop
+Inv-loop dst₀ ds src ss w h step f n r k max y₀ dst y =
+    Filled ds w (λ i j. clip max (shrZ (R n (bilinAt (px src) (j * ss + i) step f) +ℤ pos r) (2 ^ k))) dst₀ h y dst
+
+abbrev μ-loop : tie.MeasureT-loop
+μ-loop dst₀ ds src ss w h step f n r k max y₀ dst y = h - y
+
+-- the function's entry, from a turn of the loop
+abbrev entry : tie.In-loop Inv-loop μ-loop → tie.Start Inv-loop μ-loop
+entry c = c .before .before .before .before
+
+row : (c : tie.In-loop Inv-loop μ-loop) → let a = entry c .args in
+    Turn (c .before .loop .dst) (a .ds) (length (a .src .now)) (a .ss) (a .step) (a .w) (c .before .loop .y)
+row c = turn 0 (entry c .pre .0) (c .before .loop .inv) (c .loop-test .taken)
+
+pub put-bilin-axis-spec : {M : Type 1} → statement M
+put-bilin-axis-spec =
+    tie.close
+    (tie.spec Inv-loop μ-loop
+    (λ c. filled-none 0 _ _ _ _ _ (omega (arith, c .before .before .pre)))  -- loop-holds
+    (λ c. omega (arith, row c)) (λ c. omega (arith, row c))  -- y * ds, d + w
+    (λ c. omega (arith, row c))  -- words: 2 * d
+    (λ c. omega (arith, row c)) (λ c. omega (arith, row c)) (λ c. omega (arith, row c))  -- dst[d..d + w]
+    (λ c. omega (arith, row (c .before))) (λ c κs. omega (arith, row (c .before), entry (c .before) .pre))  -- put-bilin-row
+    (λ c. search needs) (λ c. search needs) (λ c. search block-loop) (λ c. search block-loop) (λ c. search block-loop))  -- y += 1, and the loop

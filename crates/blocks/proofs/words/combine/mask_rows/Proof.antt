@@ -1,0 +1,39 @@
+use native.Mathlib.Omega.{arith}
+use Prim.Native.Nat.{_+_, _-_, _*_, _≤_}
+use lib.ListN.{length}
+use borrow.Author.Needs.{needs}
+use Rattle.rows.specs.Places.{pixel}
+use Rattle.rows.specs.Combine.{masked, both}
+use Rattle.rows.proofs.Laws.Places.{row-fits}
+use Rattle.blocks.proofs.Laws.Rows.{Filled, filled-none, Turn, turn, row-in, block-loop}
+use Rattle.blocks.proofs.words.combine.mask_rows.Statement.{statement}
+use Rattle.blocks.proofs.words.combine.mask_rows.Tie as tie
+
+abbrev Inv-loop : tie.InvT-loop
+Inv-loop n dst₀ ds tmp1 tmp2 w h mask ms y₀ dst y =
+    Filled ds w (λ i j. both (masked (n .max) (n .bits) (n .bias) (pixel mask ms i j)) tmp1 tmp2 (j * w) i) dst₀ h y dst
+
+abbrev μ-loop : tie.MeasureT-loop
+μ-loop n dst₀ ds tmp1 tmp2 w h mask ms y₀ dst y = h - y
+
+-- the function's entry, from a turn of the loop
+abbrev entry : tie.In-loop Inv-loop μ-loop → tie.Start Inv-loop μ-loop
+entry c = c .before .before .before .before
+
+row : (c : tie.In-loop Inv-loop μ-loop) → let a = entry c .args in let y = c .before .loop .y in
+    Turn (a .dst-stride) (a .w) y (c .before .loop .dst) × (y * a .w + a .w ≤ length (a .tmp1 .now))
+    × (y * a .w + a .w ≤ length (a .tmp2 .now)) × (y * a .mask-stride + a .w ≤ length (a .mask .now))
+row c =
+    let p = entry c .pre in let y = c .before .loop .y in let lt = c .loop-test .taken in
+    (turn 0 (c .before .loop .inv) (p .1) lt, row-in y (p .2) lt, row-in y (p .3) lt, row-fits _ _ _ _ y (p .4) lt)
+
+pub mask-rows-spec : {M : Type 1} → statement M
+mask-rows-spec =
+    tie.close
+    (tie.spec Inv-loop μ-loop
+    (λ c. filled-none 0 _ _ _ _ _ (omega (arith, c .before .before .pre)))  -- loop-holds
+    (λ c. omega (arith, row c)) (λ c. omega (arith, row c))  -- y * dst_stride, d + w
+    (λ c. omega (arith, row c))  -- words: 2 * d
+    (λ c. omega (arith, row c)) (λ c. omega (arith, row c)) (λ c. omega (arith, row c))  -- dst[d..d + w]
+    (λ c. omega (arith, row (c .before))) (λ c. omega (arith, row (c .before))) (λ c κs. omega (arith, row (c .before)))  -- mask-row
+    (λ c. search needs) (λ c. search needs) (λ c. search block-loop) (λ c. search block-loop) (λ c. search block-loop))  -- y += 1, and the loop

@@ -1,0 +1,42 @@
+use native.Mathlib.Omega.{arith}
+use Prim.Native.Nat.{_+_, _-_, _*_, _≤_}
+use lib.IntN.{pos}
+use lib.ListN.{length}
+use borrow.Author.Needs.{needs}
+use Rattle.rows.specs.Places.{pixel}
+use Rattle.rows.specs.Copy.{prep}
+use Rattle.blocks.proofs.Laws.Rows.{Filled, filled-none, filled-more, Turn, turn, row-in, block-loop}
+use Rattle.blocks.proofs.words.copy.prep_rows.Statement.{statement}
+use Rattle.blocks.proofs.words.copy.prep_rows.Tie as tie
+
+abbrev Inv-loop : tie.InvT-loop
+Inv-loop n tmp₀ ts src ss w h y₀ tmp y = Filled ts w (λ i j. prep (n .bits) (n .bias) (pixel src ss i j)) tmp₀ h y tmp
+
+abbrev μ-loop : tie.MeasureT-loop
+μ-loop n tmp₀ ts src ss w h y₀ tmp y = h - y
+
+-- the function's entry, from a turn of the loop
+abbrev entry : tie.In-loop Inv-loop μ-loop → tie.Start Inv-loop μ-loop
+entry c = c .before .before .before
+
+row : (c : tie.In-loop Inv-loop μ-loop) → let a = entry c .args in let y = c .before .loop .y in
+    Turn (a .tmp-stride) (a .w) y (c .before .loop .tmp) × (y * a .src-stride + a .w ≤ length (a .src .now))
+row c =
+    let p = entry c .pre in let y = c .before .loop .y in let lt = c .loop-test .taken in
+    (turn (pos 0) (c .before .loop .inv) (p .1) lt, row-in y (p .2) lt)
+
+loop-again : tie.Need-loop-again Inv-loop μ-loop
+loop-again c =
+    let t = c .before .before .before in
+    let p = entry t .pre in
+    filled-more (pos 0) _ (t .before .loop .inv) (p .0 .w1) (p .1) (t .loop-test .taken) (c .before .prep-row .ensures)
+
+pub prep-rows-spec : {M : Type 1} → statement M
+prep-rows-spec =
+    tie.close
+    (tie.spec Inv-loop μ-loop
+    (λ c. filled-none (pos 0) _ _ _ _ _ (omega (arith, c .before .pre)))  -- loop-holds
+    (λ c. omega (arith, row c)) (λ c. omega (arith, row c))  -- y * tmp_stride, d + w
+    (λ c. omega (arith, row c)) (λ c. omega (arith, row c)) (λ c. omega (arith, row c)) (λ c. omega (arith, row c))  -- tmp[d..d + w]
+    (λ c. omega (arith, row (c .before))) (λ c κs. omega (arith, row (c .before)))  -- prep-row
+    (λ c. search needs) (λ c. search needs) loop-again (λ c. search block-loop) (λ c. search block-loop))  -- y += 1, and the loop

@@ -1,0 +1,22 @@
+use borrow.Author.Needs.{needs}
+use mathlib.Core.Path.{_≡_, ap, _∙_}
+use Rattle.rows.specs.Numbers.{up}
+use Rattle.rows.proofs.Laws.Signed.{back}
+use Rattle.blocks.proofs.Laws.words.Deep.{deep-high}
+use Rattle.blocks.proofs.words.depth.depth_numbers.Statement.{statement}
+use Rattle.blocks.proofs.words.depth.depth_numbers.Tie as tie
+
+above-is : (c : tie.After-above) → c .above .result ≡ up (c .before .args .depth)
+above-is c = c .above .ensures ∙ ap up (back (c .before .fits .depth))
+
+returns : tie.Need-returns
+returns c =
+    rw (c .before .before .intermediate-bits .ensures, c .before .prep-bias .ensures, c .bitdepth-max .ensures, above-is (c .before .before .before))
+
+pub depth-numbers-spec : {M : Type 1} → statement M
+depth-numbers-spec =
+    tie.close
+    (tie.spec
+    (λ c κs. search needs) (λ c κs. search needs) (λ c κs. search needs)  -- above, intermediate-bits, prep-bias
+    (λ c κs. rw (above-is (c .before .before)) (deep-high (c .before .before .before .args .depth) (c .before .before .before .pre)))  -- bitdepth-max-requires
+    returns)

@@ -1,0 +1,15 @@
+use borrow.Author.Needs.{needs}
+use Rattle.rows.proofs.Laws.Signed.{back}
+use Rattle.blocks.specs.words.Depth.{depthOk}
+use Rattle.blocks.proofs.words.depth.depth_ok.Statement.{statement}
+use Rattle.blocks.proofs.words.depth.depth_ok.Tie as tie
+
+returns : tie.Need-returns
+unfolding depthOk
+returns c = rw (c .above .ensures, back (c .before .fits .depth))
+
+pub depth-ok-spec : {M : Type 1} → statement M
+depth-ok-spec =
+    tie.close
+    (tie.spec
+    (λ c κs. search needs) returns)  -- above

@@ -1,0 +1,27 @@
+use mathlib.Core.Path.{sym, _∙_}
+use borrow.Author.Needs.{needs}
+use Rattle.rows.proofs.Laws.Signed.{back}
+use Rattle.blocks.proofs.Laws.Refuse.{done, refused}
+use Rattle.blocks.proofs.Laws.EdgeReady.{edge-ready}
+use Rattle.blocks.proofs.words.edge.hv_emu_edge_16bpc.Statement.{statement}
+use Rattle.blocks.proofs.words.edge.hv_emu_edge_16bpc.Tie as tie
+
+returns : tie.Need-returns
+returns c =
+    let t = c .before .before .before .before in let s = t .before .before .before .before in (
+      rw (back (s .fits .x), back (s .fits .y)) at (t .before .check-edge .ensures),
+      rw (back (s .fits .x), back (s .fits .y)) at (c .before .before .edge-rows .ensures) ∙ sym (done _ _ _ (t .if1 .taken)),
+    )
+
+returns-2 : tie.Need-returns-2
+returns-2 c =
+    let s = c .before .before .before .before in
+    (rw (back (s .fits .x), back (s .fits .y)) at (c .before .check-edge .ensures), sym (refused _ _ _ (c .if1 .left)))
+
+pub hv-emu-edge-16bpc-spec : {M : Type 1} → statement M
+hv-emu-edge-16bpc-spec =
+    tie.close
+    (tie.spec
+    (λ c κs. search needs)  -- check-edge-requires
+    (λ c κs. edge-ready _ _ _ _ _ _ _ _ _ _ (sym (c .before .before .check-edge .ensures) ∙ c .before .if1 .taken))  -- edge-rows-requires
+    (λ c. search needs) returns returns-2)  -- same-length

@@ -1,0 +1,37 @@
+use borrow.Author.Needs.{needs}
+use mathlib.Core.Path.{sym, _∙_}
+use Rattle.rows.proofs.Laws.Signed.{back}
+use Rattle.blocks.proofs.Laws.Refuse.{refused}
+use Rattle.blocks.proofs.Laws.words.Deep.{deep-limits}
+use Rattle.blocks.proofs.Laws.SearchReady.{sads-ready, sad-blocks, sad-done}
+use Rattle.blocks.proofs.words.search.hv_sad_nxn_16bpc.Statement.{statement}
+use Rattle.blocks.proofs.words.search.hv_sad_nxn_16bpc.Tie as tie
+
+abbrev entry : tie.Then1 → tie.Start
+entry c = c .before .before .before .before .before
+
+sad-sum-requires : tie.Need-sad-sum-requires
+sad-sum-requires c κs =
+    let t = c .before in let k = t .before in let d = back (entry t .fits .depth) in
+    let r = sads-ready 0 _ _ _ _ _ _ _ (sym (k .check-sads .ensures) ∙ t .if1 .taken) in
+    (sad-blocks (r .0) (r .1) (r .2), rw (c .above .ensures) (deep-limits _ (sym (k .before .depth-ok .ensures) ∙ r .3)))
+
+returns : tie.Need-returns
+returns c =
+    let t = c .before .before in let k = t .before in let s = entry t in let a = s .args in let d = back (s .fits .depth) in (
+      rw (k .before .depth-ok .ensures, d) at (k .check-sads .ensures),
+      rw (c .before .above .ensures, d) at (sad-done (c .before .above .result) (a .p0 .now) (a .p0-stride) (a .p1 .now) (a .p1-stride) (a .w) (a .h)
+          (t .if1 .taken) (c .sad-sum .ensures)),
+    )
+
+returns-2 : tie.Need-returns-2
+returns-2 c =
+    let k = c .before in let d = back (k .before .before .before .before .fits .depth) in
+    (rw (k .before .depth-ok .ensures, d) at (k .check-sads .ensures), sym (refused _ _ _ (c .if1 .left)))
+
+pub hv-sad-nxn-16bpc-spec : {M : Type 1} → statement M
+hv-sad-nxn-16bpc-spec =
+    tie.close
+    (tie.spec
+    (λ c κs. search needs) (λ c κs. search needs) (λ c κs. search needs) sad-sum-requires  -- depth-ok, check-sads, above
+    (λ c. search needs) returns returns-2)  -- cast-sum

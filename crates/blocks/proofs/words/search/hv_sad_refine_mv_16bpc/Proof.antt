@@ -1,0 +1,36 @@
+use borrow.Author.Needs.{needs}
+use mathlib.Core.Path.{sym, _∙_}
+use mir.Syntax.{w32}
+use Rattle.rows.proofs.Laws.Signed.{back, fit}
+use Rattle.blocks.proofs.Laws.Refuse.{refused}
+use Rattle.blocks.proofs.Laws.words.Deep.{deep-limits}
+use Rattle.blocks.proofs.Laws.SearchReady.{sads-ready, refine-ready, refine-done}
+use Rattle.blocks.proofs.words.search.hv_sad_refine_mv_16bpc.Statement.{statement}
+use Rattle.blocks.proofs.words.search.hv_sad_refine_mv_16bpc.Tie as tie
+
+abbrev entry : tie.Then1 → tie.Start
+entry c = c .before .before .before .before .before
+
+refine-requires : tie.Need-refine-requires
+refine-requires c κs =
+    let t = c .before in let k = t .before in let z = sym (k .check-sads .ensures) ∙ t .if1 .taken in
+    (refine-ready _ _ _ _ _ _ _ z, rw (c .above .ensures) (deep-limits _ (sym (k .before .depth-ok .ensures) ∙ sads-ready 8 _ _ _ _ _ _ _ z .3)))
+
+returns : tie.Need-returns
+returns c =
+    let g = c .struct-told2 .given in let r = c .before .before in let v = r .before in let t = v .before in let k = t .before in
+    let d = back (entry t .fits .depth) in (
+      rw (k .before .depth-ok .ensures, d) at (k .check-sads .ensures),
+      refine-done (t .if1 .taken) (fit w32 (g .0 .1)) (fit w32 (g .1 .0 .1)) (rw (v .above .ensures, d) at (r .refine .ensures)),
+    )
+
+returns-2 : tie.Need-returns-2
+returns-2 c =
+    let k = c .before in let d = back (k .before .before .before .before .fits .depth) in
+    (rw (k .before .depth-ok .ensures, d) at (k .check-sads .ensures), sym (refused _ _ _ (c .if1 .left)))
+
+pub hv-sad-refine-mv-16bpc-spec : {M : Type 1} → statement M
+hv-sad-refine-mv-16bpc-spec =
+    tie.close
+    (tie.spec
+    (λ c κs. search needs) (λ c κs. search needs) (λ c κs. search needs) refine-requires returns returns-2)  -- depth-ok, check-sads, above

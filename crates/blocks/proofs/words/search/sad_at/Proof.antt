@@ -1,0 +1,31 @@
+use borrow.Author.Needs.{needs}
+use Rattle.rows.proofs.Laws.Signed.{back}
+use Rattle.blocks.proofs.Laws.SearchReady.{offset-blocks, offset-sad}
+use Rattle.blocks.proofs.words.search.sad_at.Statement.{statement}
+use Rattle.blocks.proofs.words.search.sad_at.Tie as tie
+
+abbrev entry : tie.After-second-place → tie.Start
+entry c = c .before .before .before .before
+
+sad-sum-requires : tie.Need-sad-sum-requires
+sad-sum-requires c κs =
+    let t = c .before .before in let s = entry t in let x = back (s .fits .dx) in let y = back (s .fits .dy) in (
+      offset-blocks (s .args .dx) (s .args .dy) (s .pre .0) (s .pre .1) (s .pre .2) (rw (x, y) at (t .before .first-place .ensures))
+          (rw (x, y) at (t .second-place .ensures)),
+      s .pre .3,
+    )
+
+returns : tie.Need-returns
+returns c =
+    let t = c .before .before .before in let s = entry t in let a = s .args in let x = back (s .fits .dx) in let y = back (s .fits .dy) in (
+      offset-sad (a .n .depth) (a .p0 .now) (a .n .s0) (a .p1 .now) (a .n .s1) (a .n .w) (a .n .h) (a .dx) (a .dy) (rw (x, y) at (t .before .first-place .ensures))
+          (rw (x, y) at (t .second-place .ensures)) (c .sad-sum .ensures .0),
+      c .sad-sum .ensures .1,
+    )
+
+pub sad-at-spec : {M : Type 1} → statement M
+sad-at-spec =
+    tie.close
+    (tie.spec
+    (λ c κs. search needs) (λ c κs. search needs) (λ c. search needs) (λ c. search needs) sad-sum-requires  -- first-place, second-place, add-sad-sum
+    returns)

@@ -1,0 +1,32 @@
+use borrow.Author.Needs.{needs}
+use mathlib.Core.Path.{_≡_, sym, _∙_}
+use Prim.Native.Nat.{ℕ, _+_}
+use lib.Dec.{eqb}
+use lib.IntN.{natAbs}
+use Rattle.rows.specs.Places.{pixel}
+use Rattle.rows.specs.Search.{Offset, sadAt}
+use Rattle.rows.proofs.Laws.Signed.{back}
+use Rattle.blocks.proofs.Laws.SearchReady.{visit-centre, visit-other}
+use Rattle.blocks.proofs.words.search.visit.Statement.{statement}
+use Rattle.blocks.proofs.words.search.visit.Tie as tie
+
+abbrev sums : tie.Start → Offset → ℕ
+sums s = let a = s .args in sadAt (a .n .depth) (pixel (a .p0 .now) (a .n .s0)) (pixel (a .p1 .now) (a .n .s1)) (a .n .w) (a .n .h)
+
+centre : (c : tie.After-is-centre) → let a = c .before .before .before .args in c .is-centre .result ≡ eqb (natAbs (a .dx) + natAbs (a .dy)) 0
+centre c = let s = c .before .before .before in rw (back (s .fits .dx), back (s .fits .dy)) at (c .is-centre .ensures)
+
+returns : tie.Need-returns
+returns c = let s = c .before .before .before .before in visit-centre (sums s) _ _ _ (sym (centre (c .before)) ∙ c .if1 .taken)
+
+returns-2 : tie.Need-returns-2
+returns-2 c =
+    let t = c .before .before in let s = t .before .before .before .before in let x = back (s .fits .dx) in let y = back (s .fits .dy) in
+    visit-other (sums s) _ _ _ _ _ (sym (centre (t .before)) ∙ t .if1 .left) (rw (x, y) at (c .before .sad-at .ensures .0))
+    (rw (x, y) at (c .take-better .ensures))
+
+pub visit-spec : {M : Type 1} → statement M
+visit-spec =
+    tie.close
+    (tie.spec
+    (λ c κs. search needs) returns (λ c κs. search needs) (λ c κs. search needs) returns-2)  -- is-centre, sad-at, take-better

@@ -1,0 +1,41 @@
+use mathlib.Core.Path.{_≡_, sym, _∙_}
+use lib.ListN.{length}
+use borrow.Author.Needs.{needs}
+use Rattle.rows.proofs.Laws.Signed.{back}
+use Rattle.blocks.specs.Refuse.{lowest}
+use Rattle.blocks.specs.words.Depth.{depthOk}
+use Rattle.blocks.specs.Subpel.{subpelTests}
+use Rattle.blocks.proofs.Laws.words.Deep.{deep-bits, deep-bias, deep-max}
+use Rattle.blocks.proofs.Laws.Refuse.{done, refused}
+use Rattle.blocks.proofs.Laws.SubpelReady.{subpel-ready}
+use Rattle.blocks.proofs.words.subpel.hv_put_8tap_16bpc.Statement.{statement}
+use Rattle.blocks.proofs.words.subpel.hv_put_8tap_16bpc.Tie as tie
+
+abbrev begin : tie.After-check-8tap → tie.Start
+begin c = c .before .before .before .before
+
+number : (c : tie.After-check-8tap) → let a = begin c .args in
+    c .check-8tap .result ≡ lowest (subpelTests (depthOk (a .depth)) (length (a .dst .now)) (a .dst-stride) (length (a .src .now))
+    (a .src-off) (a .src-stride) (a .w) (a .h) (a .mx) (a .my) (a .filter-type) (length (a .subpel .now)) (length (a .ext .now)))
+number c =
+    let f = begin c .fits in
+    rw (c .before .depth-ok .ensures, back (f .depth), back (f .mx), back (f .my), back (f .filter-type)) at (c .check-8tap .ensures)
+
+returns : tie.Need-returns
+returns c =
+    let e = c .before .before in let d = e .before .before in let t = d .before in let f = begin (t .before) .fits in
+    let q = rw (d .depth-numbers .ensures, back (f .depth), back (f .mx), back (f .my), back (f .filter-type)) at (e .put-8tap-rows .ensures) in
+    (number (t .before), q ∙ sym (done _ _ _ (t .if1 .taken)))
+
+put-8tap-rows-requires : tie.Need-put-8tap-rows-requires
+put-8tap-rows-requires c κs =
+    let d = c .before in let t = d .before in let k = t .before in
+    let r = subpel-ready _ _ _ _ _ _ _ _ _ _ _ _ _ (sym (k .check-8tap .ensures) ∙ t .if1 .taken) in let p = sym (k .before .depth-ok .ensures) ∙ r .0 in
+    rw (d .depth-numbers .ensures) (r .1, r .2, r .3, deep-bits _ p, deep-bias _ p, deep-max _ p)
+
+pub hv-put-8tap-16bpc-spec : {M : Type 1} → statement M
+hv-put-8tap-16bpc-spec =
+    tie.close
+    (tie.spec (λ c κs. search needs) (λ c κs. search needs)  -- depth-ok, check-8tap
+    (λ c κs. let k = c .before in sym (k .before .depth-ok .ensures) ∙ subpel-ready _ _ _ _ _ _ _ _ _ _ _ _ _ (sym (k .check-8tap .ensures) ∙ c .if1 .taken) .0)
+    put-8tap-rows-requires (λ c. search needs) returns (λ c. (number (c .before), sym (refused _ _ _ (c .if1 .left)))))  -- same-length, refused

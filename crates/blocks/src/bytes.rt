@@ -1,0 +1,16 @@
+// Pixels that are bytes: made from src/words by tools/sets, but for depth.
+pub mod bilinear;
+pub mod blend;
+pub mod calls;
+pub mod combine;
+pub mod copy;
+pub mod depth;
+pub mod edge;
+pub mod kinds;
+pub mod mask;
+pub mod predict;
+pub mod row;
+pub mod search;
+pub mod subpel;
+pub mod warp;
+pub mod window;

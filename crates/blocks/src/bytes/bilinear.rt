@@ -1,0 +1,273 @@
+// Made from crates/blocks/src/words/bilinear.rt by tools/sets: change that.
+// put_bilin and prep_bilin: blocks between whole places, at fractions in sixteenths.
+ghost use mathlib.Core.Path.{_≡_};
+ghost use Prim.Native.Nat.{_+_, _*_, _^_, _≤_};
+ghost use lib.IntN.{pos, _+ℤ_};
+ghost use lib.ListN.{length};
+ghost use lib.Signed.{shrZ};
+ghost use Rattle.rows.specs.Numbers.{up, at, px, clip, half, low16, minus16};
+ghost use Rattle.rows.specs.Places.{fill, around};
+ghost use Rattle.rows.specs.Bilinear.{R, bilinAt, putBilin, prepBilin};
+ghost use Rattle.rows.specs.bytes.Pixel.{BitsOk, BiasOk, MaxOk};
+ghost use Rattle.blocks.specs.bytes.Depth.{depthOk};
+ghost use Rattle.blocks.specs.Bilinear.{PutBilinAnswer, PrepBilinAnswer};
+ghost use Rattle.blocks.specs.Ready.{Pairs, Bilin};
+use super::copy::prep_rows;
+use super::copy::put_rows;
+use super::depth::depth_numbers;
+use super::depth::depth_ok;
+use crate::bilinear::check_bilin;
+use crate::bilinear::mid_bilin_prep_rows;
+use crate::refuse::DepthNumbers;
+use crate::refuse::above;
+use rows::bytes::bilinear::mid_bilin_row;
+use rows::bytes::bilinear::prep_bilin_row;
+use rows::bytes::bilinear::put_bilin_row;
+use rows::bytes::pixel::Pixel;
+use rows::bytes::pixel::bias_of;
+use rows::bytes::pixel::bits_of;
+use rows::numbers::half_power;
+
+// Pixels from pixels: put, one axis, the second pixel of each place a step on.
+fn put_bilin_axis(
+    dst: &mut [Pixel],
+    ds: usize,
+    src: &[Pixel],
+    ss: usize,
+    w: usize,
+    h: usize,
+    step: usize,
+    f: u32,
+    n: u32,
+    r: u32,
+    k: u32,
+    max: u16,
+)
+    requires { ⌜ Pairs (length (now dst)) ds (length (now src)) ss step w h f n × (n + k ≡ 4) × (half n + r * 2 ^ n ≤ 15) × MaxOk max ⌝ }
+    ensures { λ _. ⌜ now (dst .exit)
+        ≡ fill (now (dst .entry)) ds w h (λ i j. clip max (shrZ (R n (bilinAt (px (now (src .entry))) (j * ss + i) step f) +ℤ pos r) (2 ^ k))) ⌝ }
+{
+    let mut y = 0;
+    while y < h {
+        let d = y * ds;
+        put_bilin_row(&mut dst[d..d + w], src, y * ss, step, f, n, r, k, max);
+        y += 1;
+    }
+}
+
+// Intermediates from pixels: prep, one axis, and with the bias 0 the first pass of two.
+fn prep_bilin_axis(
+    tmp: &mut [i16],
+    ts: usize,
+    src: &[Pixel],
+    ss: usize,
+    w: usize,
+    h: usize,
+    step: usize,
+    f: u32,
+    n: u32,
+    bias: i16,
+)
+    requires { ⌜ Pairs (length (now tmp)) ts (length (now src)) ss step w h f n × (n ≤ 4) ⌝ }
+    ensures { λ _. ⌜ now (tmp .exit)
+        ≡ fill (now (tmp .entry)) ts w h (λ i j. minus16 (low16 (R n (bilinAt (px (now (src .entry))) (j * ss + i) step f))) bias) ⌝ }
+{
+    let mut y = 0;
+    while y < h {
+        let d = y * ts;
+        prep_bilin_row(&mut tmp[d..d + w], src, y * ss, step, f, n, bias);
+        y += 1;
+    }
+}
+
+// Pixels from the intermediates of a first pass, whose rows are 64 apart: put, the second pass.
+fn mid_bilin_rows(
+    dst: &mut [Pixel],
+    ds: usize,
+    mid: &[i16],
+    w: usize,
+    h: usize,
+    f: u32,
+    n: u32,
+    max: u16,
+)
+    requires { ⌜ Pairs (length (now dst)) ds (length (now mid)) 64 64 w h f n × MaxOk max ⌝ }
+    ensures { λ _. ⌜ now (dst .exit) ≡ fill (now (dst .entry)) ds w h (λ i j. clip max (R n (bilinAt (at (now (mid .entry))) (j * 64 + i) 64 f))) ⌝ }
+{
+    let mut y = 0;
+    while y < h {
+        let d = y * ds;
+        mid_bilin_row(&mut dst[d..d + w], mid, y * 64, 64, f, n, max);
+        y += 1;
+    }
+}
+
+// Both axes: along the rows into intermediates, a row more than the block has, then down their columns.
+fn put_bilin_both(
+    n: DepthNumbers,
+    dst: &mut [Pixel],
+    ds: usize,
+    src: &[Pixel],
+    ss: usize,
+    w: usize,
+    h: usize,
+    f: u32,
+    g: u32,
+)
+    requires { ⌜ Bilin (length (now dst)) ds (length (now src)) ss w h f g × (1 ≤ f) × (1 ≤ g) × BitsOk (n .bits) × MaxOk (n .max) ⌝ }
+    ensures { λ _. ⌜ now (dst .exit) ≡ fill (now (dst .entry)) ds w h (λ i j. putBilin (n .max) (n .bits) f g (around 0 (now (src .entry)) 0 ss i j)) ⌝ }
+{
+    let b = bits_of(n.bits);
+    let mut mid = [0i16; 4160];
+    prep_bilin_axis(&mut mid, 64, src, ss, w, h + 1, 1, f, 4 - b, 0);
+    mid_bilin_rows(dst, ds, &mid, w, h, g, 4 + b, n.max);
+}
+
+// The same into intermediates.
+fn prep_bilin_both(
+    n: DepthNumbers,
+    tmp: &mut [i16],
+    ts: usize,
+    src: &[Pixel],
+    ss: usize,
+    w: usize,
+    h: usize,
+    f: u32,
+    g: u32,
+)
+    requires { ⌜ Bilin (length (now tmp)) ts (length (now src)) ss w h f g × (1 ≤ f) × (1 ≤ g) × BitsOk (n .bits) × BiasOk (n .bias) ⌝ }
+    ensures { λ _. ⌜ now (tmp .exit) ≡ fill (now (tmp .entry)) ts w h (λ i j. prepBilin (n .bits) (n .bias) f g (around 0 (now (src .entry)) 0 ss i j)) ⌝ }
+{
+    let b = bits_of(n.bits);
+    let p = bias_of(n.bias);
+    let mut mid = [0i16; 4160];
+    prep_bilin_axis(&mut mid, 64, src, ss, w, h + 1, 1, f, 4 - b, 0);
+    mid_bilin_prep_rows(tmp, ts, &mid, w, h, g, 4, p as i16);
+}
+
+// The block in its four cases: both fractions, the horizontal alone, the vertical alone, none.
+pub fn put_bilin_rows(
+    n: DepthNumbers,
+    dst: &mut [Pixel],
+    ds: usize,
+    src: &[Pixel],
+    ss: usize,
+    w: usize,
+    h: usize,
+    f: u32,
+    g: u32,
+)
+    requires { ⌜ Bilin (length (now dst)) ds (length (now src)) ss w h f g × BitsOk (n .bits) × MaxOk (n .max) ⌝ }
+    ensures { λ _. ⌜ now (dst .exit) ≡ fill (now (dst .entry)) ds w h (λ i j. putBilin (n .max) (n .bits) f g (around 0 (now (src .entry)) 0 ss i j)) ⌝ }
+{
+    let b = bits_of(n.bits);
+    if f != 0 {
+        if g != 0 {
+            put_bilin_both(n, dst, ds, src, ss, w, h, f, g);
+        } else {
+            let r = half_power(b);
+            put_bilin_axis(dst, ds, src, ss, w, h, 1, f, 4 - b, r, b, n.max);
+        }
+    } else if g != 0 {
+        put_bilin_axis(dst, ds, src, ss, w, h, ss, g, 4, 0, 0, n.max);
+    } else {
+        put_rows(dst, ds, src, ss, w, h);
+    }
+}
+
+// The same into intermediates.
+pub fn prep_bilin_rows(
+    n: DepthNumbers,
+    tmp: &mut [i16],
+    ts: usize,
+    src: &[Pixel],
+    ss: usize,
+    w: usize,
+    h: usize,
+    f: u32,
+    g: u32,
+)
+    requires { ⌜ Bilin (length (now tmp)) ts (length (now src)) ss w h f g × BitsOk (n .bits) × BiasOk (n .bias) ⌝ }
+    ensures { λ _. ⌜ now (tmp .exit) ≡ fill (now (tmp .entry)) ts w h (λ i j. prepBilin (n .bits) (n .bias) f g (around 0 (now (src .entry)) 0 ss i j)) ⌝ }
+{
+    let b = bits_of(n.bits);
+    let p = bias_of(n.bias);
+    if f != 0 {
+        if g != 0 {
+            prep_bilin_both(n, tmp, ts, src, ss, w, h, f, g);
+        } else {
+            prep_bilin_axis(tmp, ts, src, ss, w, h, 1, f, 4 - b, p as i16);
+        }
+    } else if g != 0 {
+        prep_bilin_axis(tmp, ts, src, ss, w, h, ss, g, 4 - b, p as i16);
+    } else {
+        prep_rows(n, tmp, ts, src, ss, w, h);
+    }
+}
+
+pub fn put_bilin_at(
+    depth: i32,
+    dst: &mut [Pixel],
+    dst_stride: usize,
+    src: &[Pixel],
+    src_stride: usize,
+    w: usize,
+    h: usize,
+    mx: i32,
+    my: i32,
+) -> u32
+    ensures { λ r. ⌜ PutBilinAnswer (depthOk depth) (up depth) (now (dst .entry)) «dst_stride» (now (src .entry)) «src_stride» w h mx my r (now (dst .exit)) ⌝ }
+{
+    let number = check_bilin(
+        depth_ok(depth),
+        dst.len(),
+        dst_stride,
+        src.len(),
+        src_stride,
+        w,
+        h,
+        mx,
+        my,
+    );
+    if number == 0 {
+        let n = depth_numbers(depth);
+        let f = above(mx);
+        let g = above(my);
+        put_bilin_rows(n, dst, dst_stride, src, src_stride, w, h, f, g);
+    }
+    number
+}
+
+pub fn prep_bilin_at(
+    depth: i32,
+    tmp: &mut [i16],
+    tmp_stride: usize,
+    src: &[Pixel],
+    src_stride: usize,
+    w: usize,
+    h: usize,
+    mx: i32,
+    my: i32,
+) -> u32
+    ensures { λ r. ⌜ PrepBilinAnswer (depthOk depth) (up depth) (now (tmp .entry)) «tmp_stride» (now (src .entry)) «src_stride» w h mx my r
+        (now (tmp .exit)) ⌝ }
+{
+    let number = check_bilin(
+        depth_ok(depth),
+        tmp.len(),
+        tmp_stride,
+        src.len(),
+        src_stride,
+        w,
+        h,
+        mx,
+        my,
+    );
+    if number == 0 {
+        let n = depth_numbers(depth);
+        let f = above(mx);
+        let g = above(my);
+        prep_bilin_rows(n, tmp, tmp_stride, src, src_stride, w, h, f, g);
+    }
+    number
+}

@@ -1,0 +1,104 @@
+// Made from crates/blocks/src/words/copy.rt by tools/sets: change that.
+// put and prep: blocks copied, and blocks made intermediates.
+ghost use mathlib.Core.Path.{_≡_};
+ghost use lib.ListN.{length};
+ghost use Rattle.rows.specs.Numbers.{up};
+ghost use Rattle.rows.specs.Places.{fill, pixel};
+ghost use Rattle.rows.specs.Copy.{put, prep};
+ghost use Rattle.rows.specs.bytes.Pixel.{BitsOk, BiasOk};
+ghost use Rattle.blocks.specs.Ready.{Block, Rows};
+ghost use Rattle.blocks.specs.Copy.{PutAnswer, PrepAnswer};
+ghost use Rattle.blocks.specs.bytes.Depth.{depthOk};
+use super::depth::depth_numbers;
+use super::depth::depth_ok;
+use crate::copy::check_prep;
+use crate::copy::check_put;
+use crate::refuse::DepthNumbers;
+use rows::bytes::copy::copy_row;
+use rows::bytes::copy::prep_row;
+use rows::bytes::pixel::Pixel;
+
+pub fn put_rows(
+    dst: &mut [Pixel],
+    dst_stride: usize,
+    src: &[Pixel],
+    src_stride: usize,
+    w: usize,
+    h: usize,
+)
+    requires { ⌜ Block w h × Rows (length (now dst)) «dst_stride» w h × Rows (length (now src)) «src_stride» w h ⌝ }
+    ensures { λ _. ⌜ now (dst .exit) ≡ fill (now (dst .entry)) «dst_stride» w h (λ i j. put (pixel (now (src .entry)) «src_stride» i j)) ⌝ }
+{
+    let mut y = 0;
+    while y < h {
+        let d = y * dst_stride;
+        copy_row(&mut dst[d..d + w], src, y * src_stride);
+        y += 1;
+    }
+}
+
+#[no_mangle]
+pub extern "C" fn hv_put_8bpc(
+    dst: &mut [Pixel],
+    dst_stride: usize,
+    src: &[Pixel],
+    src_stride: usize,
+    w: usize,
+    h: usize,
+) -> u32
+    ensures { λ r. ⌜ PutAnswer (now (dst .entry)) «dst_stride» (now (src .entry)) «src_stride» w h r (now (dst .exit)) ⌝ }
+{
+    let number = check_put(dst.len(), dst_stride, src.len(), src_stride, w, h);
+    if number == 0 { // else dst stays
+        put_rows(dst, dst_stride, src, src_stride, w, h);
+    }
+    number
+}
+
+pub fn prep_rows(
+    n: DepthNumbers,
+    tmp: &mut [i16],
+    tmp_stride: usize,
+    src: &[Pixel],
+    src_stride: usize,
+    w: usize,
+    h: usize,
+)
+    requires { ⌜ Block w h × Rows (length (now tmp)) «tmp_stride» w h × Rows (length (now src)) «src_stride» w h × BitsOk (n .bits) × BiasOk (n .bias) ⌝ }
+    ensures { λ _. ⌜ now (tmp .exit) ≡ fill (now (tmp .entry)) «tmp_stride» w h
+        (λ i j. prep (n .bits) (n .bias) (pixel (now (src .entry)) «src_stride» i j)) ⌝ }
+{
+    let mut y = 0;
+    while y < h {
+        let d = y * tmp_stride;
+        prep_row(&mut tmp[d..d + w], src, y * src_stride, n.bits, n.bias);
+        y += 1;
+    }
+}
+
+pub fn prep_at(
+    depth: i32,
+    tmp: &mut [i16],
+    tmp_stride: usize,
+    src: &[Pixel],
+    src_stride: usize,
+    w: usize,
+    h: usize,
+) -> u32
+    ensures { λ r. ⌜ PrepAnswer (depthOk depth) (up depth) (now (tmp .entry)) «tmp_stride» (now (src .entry)) «src_stride» w h r (now (tmp .exit)) ⌝ }
+{
+    let number = check_prep(
+        depth_ok(depth),
+        tmp.len(),
+        tmp_stride,
+        src.len(),
+        src_stride,
+        w,
+        h,
+    );
+    if number == 0 {
+        let n = depth_numbers(depth);
+        prep_rows(n, tmp, tmp_stride, src, src_stride, w, h);
+    }
+    number
+}

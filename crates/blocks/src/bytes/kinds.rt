@@ -1,0 +1,85 @@
+// Made from crates/blocks/src/words/kinds.rt by tools/sets: change that.
+// A block of each kind, from a source that begins at its window's first pixel.
+ghost use mathlib.Core.Path.{_≡_};
+ghost use lib.ListN.{length};
+ghost use Rattle.rows.specs.Places.{fill};
+ghost use Rattle.rows.specs.bytes.Pixel.{BitsOk, BiasOk, MaxOk};
+ghost use Rattle.blocks.specs.Ready.{Rows, Windowed};
+ghost use Rattle.blocks.specs.Window.{aroundPart};
+ghost use Rattle.blocks.specs.Order.{kindNumber, putRule, prepRule};
+use super::bilinear::prep_bilin_rows;
+use super::bilinear::put_bilin_rows;
+use super::copy::prep_rows;
+use super::copy::put_rows;
+use super::subpel::prep_8tap_rows;
+use super::subpel::put_8tap_rows;
+use super::warp::warp_prep;
+use super::warp::warp_put;
+use crate::order::Kind;
+use crate::refuse::DepthNumbers;
+use crate::refuse::above;
+use rows::bytes::pixel::Pixel;
+
+// The block as put.
+pub fn put_kind(
+    d: DepthNumbers,
+    k: Kind,
+    src: &[Pixel],
+    s: usize,
+    w: usize,
+    h: usize,
+    subpel: &[i8],
+    ext: &[i8],
+    warp: &[i8],
+    dst: &mut [Pixel],
+    dst_stride: usize,
+)
+    requires { ⌜ Windowed k (length (now src)) s w h (length (now subpel)) (length (now ext)) (length (now warp))
+        × Rows (length (now dst)) «dst_stride» w h × BitsOk (d .bits) × BiasOk (d .bias) × MaxOk (d .max) ⌝ }
+    ensures { λ _. ⌜ now (dst .exit) ≡ fill (now (dst .entry)) «dst_stride» w h (λ i j. putRule (d .max) (d .bits)
+        (now (subpel .entry)) (now (ext .entry)) (now (warp .entry)) k w h i j (aroundPart (kindNumber k) (now (src .entry)) s i j)) ⌝ }
+{
+    let o = 3 * s + 3; // the block's first pixel, behind a margin of 3
+    match k {
+        Kind::Copy => put_rows(dst, dst_stride, src, s, w, h),
+        Kind::Subpel(m) => put_8tap_rows(d, dst, dst_stride, src, o, s, w, h, m, subpel, ext),
+        Kind::Bilinear(m) => {
+            let f = above(m.mx);
+            let g = above(m.my);
+            put_bilin_rows(d, dst, dst_stride, src, s, w, h, f, g)
+        }
+        Kind::Warp(m) => warp_put(d, dst, dst_stride, src, s, o, m, warp),
+    }
+}
+
+// The block as intermediates: prep, and 8x8t of warp.
+pub fn prep_kind(
+    d: DepthNumbers,
+    k: Kind,
+    src: &[Pixel],
+    s: usize,
+    w: usize,
+    h: usize,
+    subpel: &[i8],
+    ext: &[i8],
+    warp: &[i8],
+    tmp: &mut [i16],
+    tmp_stride: usize,
+)
+    requires { ⌜ Windowed k (length (now src)) s w h (length (now subpel)) (length (now ext)) (length (now warp))
+        × Rows (length (now tmp)) «tmp_stride» w h × BitsOk (d .bits) × BiasOk (d .bias) ⌝ }
+    ensures { λ _. ⌜ now (tmp .exit) ≡ fill (now (tmp .entry)) «tmp_stride» w h (λ i j. prepRule (d .bits) (d .bias)
+        (now (subpel .entry)) (now (ext .entry)) (now (warp .entry)) k w h i j (aroundPart (kindNumber k) (now (src .entry)) s i j)) ⌝ }
+{
+    let o = 3 * s + 3; // the block's first pixel, behind a margin of 3
+    match k {
+        Kind::Copy => prep_rows(d, tmp, tmp_stride, src, s, w, h),
+        Kind::Subpel(m) => prep_8tap_rows(d, tmp, tmp_stride, src, o, s, w, h, m, subpel, ext),
+        Kind::Bilinear(m) => {
+            let f = above(m.mx);
+            let g = above(m.my);
+            prep_bilin_rows(d, tmp, tmp_stride, src, s, w, h, f, g)
+        }
+        Kind::Warp(m) => warp_prep(d, tmp, tmp_stride, src, s, o, m, warp),
+    }
+}

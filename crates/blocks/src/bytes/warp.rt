@@ -1,0 +1,225 @@
+// Made from crates/blocks/src/words/warp.rt by tools/sets: change that.
+// warp_affine_8x8 and 8x8t: blocks of eight by eight, each pixel with filters of its own.
+ghost use mathlib.Core.Path.{_≡_};
+ghost use Prim.Native.Nat.{_+_, _-_, _*_, _/_, _≤_};
+ghost use lib.ListN.{length};
+ghost use Rattle.rows.specs.Numbers.{at, px, clip, low16, up};
+ghost use Rattle.rows.specs.Places.{fill, around};
+ghost use Rattle.rows.specs.Warp.{warped, warpPut, warpPrep};
+ghost use Rattle.rows.specs.bytes.Pixel.{BitsOk, BiasOk, MaxOk};
+ghost use Rattle.blocks.specs.bytes.Depth.{depthOk};
+ghost use Rattle.blocks.specs.Ready.{Rows, Pass, Warps};
+ghost use Rattle.blocks.specs.Warp.{WarpAnswer, WarpTAnswer};
+use super::depth::depth_numbers;
+use super::depth::depth_ok;
+use crate::refuse::DepthNumbers;
+use crate::warp::Shears;
+use crate::warp::check_warp;
+use crate::warp::warp_prep_rows;
+use rows::bytes::pixel::Pixel;
+use rows::bytes::warp::warp_column;
+use rows::bytes::warp::warp_put_row;
+
+// The first pass: fifteen rows of eight intermediates, column after column; the first tap of the first stands at place o.
+fn warp_mid(
+    mid: &mut [i16],
+    src: &[Pixel],
+    o: usize,
+    s: usize,
+    table: &[i8],
+    m: i32,
+    a: i16,
+    b: i16,
+    bits: u32,
+)
+    requires { ⌜ (length (now mid) ≡ 120) × (o + 14 * s + 15 ≤ length (now src)) × Pass (length (now table) / 8) m a b 15 × BitsOk bits ⌝ }
+    ensures { λ _. ⌜ now (mid .exit) ≡ fill (now (mid .entry)) 15 15 8
+        (λ r i. low16 (warped (now (table .entry)) m a b (7 - bits) r i (λ u. px (now (src .entry)) (o + i + r * s + u)))) ⌝ }
+{
+    let mut x = 0;
+    while x < 8 {
+        let d = x * 15;
+        warp_column(
+            &mut mid[d..d + 15],
+            src,
+            o + x,
+            s,
+            table,
+            m,
+            a,
+            b,
+            x as u32,
+            7 - bits,
+        );
+        x += 1;
+    }
+}
+
+// The second pass, put.
+fn warp_put_rows(
+    dst: &mut [Pixel],
+    dst_stride: usize,
+    mid: &[i16],
+    table: &[i8],
+    m: i32,
+    a: i16,
+    b: i16,
+    bits: u32,
+    max: u16,
+)
+    requires { ⌜ Rows (length (now dst)) «dst_stride» 8 8 × (length (now mid) ≡ 120) × Pass (length (now table) / 8) m a b 8 × BitsOk bits × MaxOk max ⌝ }
+    ensures { λ _. ⌜ now (dst .exit) ≡ fill (now (dst .entry)) «dst_stride» 8 8
+        (λ i j. clip max (low16 (warped (now (table .entry)) m a b (7 + bits) j i (λ v. at (now (mid .entry)) (j + i * 15 + v))))) ⌝ }
+{
+    let mut y = 0;
+    while y < 8 {
+        let d = y * dst_stride;
+        warp_put_row(
+            &mut dst[d..d + 8],
+            mid,
+            y,
+            table,
+            m,
+            a,
+            b,
+            y as u32,
+            7 + bits,
+            max,
+        );
+        y += 1;
+    }
+}
+
+pub fn warp_put(
+    n: DepthNumbers,
+    dst: &mut [Pixel],
+    dst_stride: usize,
+    src: &[Pixel],
+    src_stride: usize,
+    src_off: usize,
+    m: Shears,
+    warp: &[i8],
+)
+    requires { ⌜ Warps (length (now dst)) «dst_stride» (length (now src)) «src_off» «src_stride» (length (now warp) / 8) m
+        × BitsOk (n .bits) × MaxOk (n .max) ⌝ }
+    ensures { λ _. ⌜ now (dst .exit) ≡ fill (now (dst .entry)) «dst_stride» 8 8
+        (λ i j. warpPut (n .max) (n .bits) (now (warp .entry)) (m .mx) (m .my) (m .a) (m .b) (m .c) (m .d) i j
+        (around 3 (now (src .entry)) «src_off» «src_stride» i j)) ⌝ }
+{
+    let mut mid = [0i16; 120];
+    warp_mid(
+        &mut mid,
+        src,
+        src_off - (3 * src_stride + 3),
+        src_stride,
+        warp,
+        m.mx,
+        m.a,
+        m.b,
+        n.bits,
+    );
+    warp_put_rows(dst, dst_stride, &mid, warp, m.my, m.c, m.d, n.bits, n.max);
+}
+
+pub fn warp_prep(
+    n: DepthNumbers,
+    tmp: &mut [i16],
+    tmp_stride: usize,
+    src: &[Pixel],
+    src_stride: usize,
+    src_off: usize,
+    m: Shears,
+    warp: &[i8],
+)
+    requires { ⌜ Warps (length (now tmp)) «tmp_stride» (length (now src)) «src_off» «src_stride» (length (now warp) / 8) m
+        × BitsOk (n .bits) × BiasOk (n .bias) ⌝ }
+    ensures { λ _. ⌜ now (tmp .exit) ≡ fill (now (tmp .entry)) «tmp_stride» 8 8
+        (λ i j. warpPrep (n .bits) (n .bias) (now (warp .entry)) (m .mx) (m .my) (m .a) (m .b) (m .c) (m .d) i j
+        (around 3 (now (src .entry)) «src_off» «src_stride» i j)) ⌝ }
+{
+    let mut mid = [0i16; 120];
+    warp_mid(
+        &mut mid,
+        src,
+        src_off - (3 * src_stride + 3),
+        src_stride,
+        warp,
+        m.mx,
+        m.a,
+        m.b,
+        n.bits,
+    );
+    warp_prep_rows(tmp, tmp_stride, &mid, warp, m.my, m.c, m.d, n.bias);
+}
+
+pub fn warp_affine_8x8_at(
+    depth: i32,
+    dst: &mut [Pixel],
+    dst_stride: usize,
+    src: &[Pixel],
+    src_stride: usize,
+    src_off: usize,
+    a: i16,
+    b: i16,
+    c: i16,
+    d: i16,
+    mx: i32,
+    my: i32,
+    warp: &[i8],
+) -> u32
+    ensures { λ r. ⌜ WarpAnswer (depthOk depth) (up depth) (now (dst .entry)) «dst_stride» (now (src .entry)) «src_stride» «src_off» a b c d mx my
+        (now (warp .entry)) r (now (dst .exit)) ⌝ }
+{
+    let m = Shears { a, b, c, d, mx, my };
+    let number = check_warp(
+        depth_ok(depth),
+        dst.len(),
+        dst_stride,
+        src.len(),
+        src_stride,
+        src_off,
+        m,
+        warp.len(),
+    );
+    if number == 0 {
+        let n = depth_numbers(depth);
+        warp_put(n, dst, dst_stride, src, src_stride, src_off, m, warp);
+    }
+    number
+}
+
+pub fn warp_affine_8x8t_at(
+    depth: i32,
+    tmp: &mut [i16],
+    tmp_stride: usize,
+    src: &[Pixel],
+    src_stride: usize,
+    src_off: usize,
+    a: i16,
+    b: i16,
+    c: i16,
+    d: i16,
+    mx: i32,
+    my: i32,
+    warp: &[i8],
+) -> u32
+    ensures { λ r. ⌜ WarpTAnswer (depthOk depth) (up depth) (now (tmp .entry)) «tmp_stride» (now (src .entry)) «src_stride» «src_off» a b c d mx my
+        (now (warp .entry)) r (now (tmp .exit)) ⌝ }
+{
+    let m = Shears { a, b, c, d, mx, my };
+    let number = check_warp(
+        depth_ok(depth),
+        tmp.len(),
+        tmp_stride,
+        src.len(),
+        src_stride,
+        src_off,
+        m,
+        warp.len(),
+    );
+    if number == 0 {
+        let n = depth_numbers(depth);
+        warp_prep(n, tmp, tmp_stride, src, src_stride, src_off, m, warp);
+    }
+    number
+}

@@ -1,0 +1,162 @@
+// Made from crates/blocks/src/words/window.rt by tools/sets: change that.
+// Windows: where a block's pixels with its margins lie, in the plane or in scratch.
+ghost use mathlib.Core.Path.{_≡_};
+ghost use lib.ListN.{length};
+ghost use Rattle.blocks.specs.Ready.{PartIn};
+ghost use Rattle.blocks.specs.Window.{windowOf, scratchOf, partOf, WindowAnswer};
+use super::edge::edge_rows;
+use crate::frame::Frame;
+use crate::frame::area_of;
+use crate::window::Part;
+use crate::window::find_window;
+use rows::bytes::pixel::Pixel;
+
+// A window's call: where the window lies, and scratch filled where the plane hasn't got it.
+pub fn window(
+    f: Frame,
+    plane_no: u32,
+    plane: &[Pixel],
+    plane_stride: usize,
+    kind: u32,
+    w: usize,
+    h: usize,
+    x: i64,
+    y: i64,
+    mode: u32,
+    scratch: &mut [Pixel],
+) -> Part
+    ensures { λ r. ⌜ (r ≡ windowOf f «plane_no» (length (now (plane .entry))) «plane_stride» kind w h x y mode (length (now (scratch .entry))))
+        × (now (scratch .exit) ≡ scratchOf (r .number) f «plane_no» (now (plane .entry)) «plane_stride» kind w h x y mode (now (scratch .entry))) ⌝ }
+{
+    let part = find_window(
+        f,
+        plane_no,
+        plane.len(),
+        plane_stride,
+        kind,
+        w,
+        h,
+        x,
+        y,
+        mode,
+        scratch.len(),
+    );
+    if part.buffer == 2 {
+        let a = area_of(f, plane_no, kind, w, h, x, y);
+        edge_rows(
+            a.ww,
+            a.wh,
+            a.iw,
+            a.ih,
+            a.left,
+            a.top,
+            scratch,
+            a.ww,
+            plane,
+            plane_stride,
+        );
+    }
+    part
+}
+
+// The part that an answer names, empty where it was refused.
+pub fn pick<'a>(p: Part, plane: &'a [Pixel], scratch: &'a [Pixel]) -> &'a [Pixel]
+    requires { ⌜ PartIn p (length (now plane)) (length (now scratch)) ⌝ }
+    ensures { λ r. ⌜ now r ≡ partOf p (now (plane .entry)) (now (scratch .entry)) ⌝ }
+{
+    let buffer = p.buffer;
+    let start = p.place;
+    let len = p.len;
+    if buffer == 1 {
+        return &plane[start..start + len];
+    }
+    if buffer == 2 {
+        return &scratch[start..start + len];
+    }
+    &plane[0..0]
+}
+
+// The part itself: a second call on the same arguments, after the first has filled scratch.
+pub fn window_part<'a>(
+    f: Frame,
+    plane_no: u32,
+    plane: &'a [Pixel],
+    plane_stride: usize,
+    kind: u32,
+    w: usize,
+    h: usize,
+    x: i64,
+    y: i64,
+    mode: u32,
+    scratch: &'a [Pixel],
+) -> &'a [Pixel]
+    ensures { λ r. ⌜ now r
+        ≡ partOf (windowOf f «plane_no» (length (now (plane .entry))) «plane_stride» kind w h x y mode (length (now (scratch .entry)))) (now (plane .entry))
+        (now (scratch .entry)) ⌝ }
+{
+    let part = find_window(
+        f,
+        plane_no,
+        plane.len(),
+        plane_stride,
+        kind,
+        w,
+        h,
+        x,
+        y,
+        mode,
+        scratch.len(),
+    );
+    pick(part, plane, scratch)
+}
+
+#[no_mangle]
+pub extern "C" fn hv_window_8bpc(
+    luma_w: usize,
+    luma_h: usize,
+    ss_hor: bool,
+    ss_ver: bool,
+    plane_no: u32,
+    plane: &[Pixel],
+    plane_stride: usize,
+    kind: u32,
+    w: usize,
+    h: usize,
+    x: i64,
+    y: i64,
+    mode: u32,
+    scratch: &mut [Pixel],
+    buffer: &mut u32,
+    place: &mut usize,
+    stride: &mut usize,
+    len: &mut usize,
+) -> u32
+    ensures { λ r. ⌜ WindowAnswer (record { «luma_w» = «luma_w»; «luma_h» = «luma_h»; «ss_hor» = «ss_hor»; «ss_ver» = «ss_ver» }) «plane_no»
+        (now (plane .entry)) «plane_stride» kind w h x y mode (now (scratch .entry)) r (now (buffer .exit)) (now (place .exit)) (now (stride .exit))
+        (now (len .exit)) (now (scratch .exit)) ⌝ }
+{
+    let f = Frame {
+        luma_w,
+        luma_h,
+        ss_hor,
+        ss_ver,
+    };
+    let part = window(
+        f,
+        plane_no,
+        plane,
+        plane_stride,
+        kind,
+        w,
+        h,
+        x,
+        y,
+        mode,
+        scratch,
+    );
+    *buffer = part.buffer;
+    *place = part.place;
+    *stride = part.stride;
+    *len = part.len;
+    part.number
+}

@@ -1,0 +1,35 @@
+-- Made from crates/rows/proofs/words/bilinear/prep_bilin_row/Proof.antt by tools/sets: change that.
+use native.Mathlib.Omega.{arith}
+use Prim.Native.Nat.{_+_, _-_}
+use lib.IntN.{pos}
+use lib.ListN.{length}
+use mir.Syntax.{w16}
+use mir.Val.{toZ}
+use Rattle.rows.specs.Numbers.{low16, minus16, px}
+use Rattle.rows.specs.Bilinear.{R, bilinAt}
+use Rattle.rows.proofs.Laws.Row.{Upto, upto-none, upto-all}
+use Rattle.rows.proofs.Laws.Filter.{upto-kept}
+use Rattle.rows.proofs.Laws.Signed.{back}
+use Rattle.rows.proofs.bytes.bilinear.prep_bilin_row.Statement.{statement}
+use Rattle.rows.proofs.bytes.bilinear.prep_bilin_row.Tie as tie
+
+-- the first i are done
+abbrev Inv-loop : tie.InvT-loop
+Inv-loop tmp₀ src o step f n bias w r i₀ tmp i = Upto (pos 0) (λ x. minus16 (low16 (R n (bilinAt (px src) (o + x) step f))) (toZ w16 bias)) (length tmp₀) i tmp
+
+abbrev μ-loop : tie.MeasureT-loop
+μ-loop tmp₀ src o step f n bias w r i₀ tmp i = w - i
+
+loop-again : tie.Need-loop-again Inv-loop μ-loop
+loop-again c = upto-kept (c .before .before .loop .inv) (omega arith) (omega arith) (c .prep-between .ensures)
+
+pub prep-bilin-row-spec : {M : Type 1} → statement M
+prep-bilin-row-spec =
+    tie.close
+    (tie.spec Inv-loop μ-loop
+    (λ c κs. omega arith)  -- half_power(n)
+    (λ c. upto-none _ _ _)  -- while i < w
+    (λ c. omega arith) (λ c κs. omega arith)  -- prep_between(src, o + i, ..)
+    (λ c. omega arith) (λ c. omega arith)  -- tmp[i] =
+    (λ c. omega arith) (λ c. omega arith) loop-again  -- i += 1
+    (λ c. omega arith) (λ c. rw (← back (c .before .before .before .before .fits .bias)) (upto-all (c .before .loop .inv) (omega arith))))  -- returns

@@ -1,0 +1,35 @@
+-- Made from crates/rows/proofs/words/subpel/near_eight/Proof.antt by tools/sets: change that.
+use native.Mathlib.Omega.{arith}
+use Prim.Native.Nat.{_+_, _*_, _-_}
+use mir.Syntax.{w32}
+use mir.Val.{SFits}
+use Rattle.rows.specs.Numbers.{clip, px}
+use Rattle.rows.specs.Subpel.{tapped}
+use Rattle.rows.proofs.Laws.Row.{Upto, upto-none, upto-more, upto-all}
+use Rattle.rows.proofs.Laws.Signed.{back}
+use Rattle.rows.proofs.bytes.subpel.near_eight.Statement.{statement}
+use Rattle.rows.proofs.bytes.subpel.near_eight.Tie as tie
+
+-- the first i are done
+abbrev Inv-loop : tie.InvT-loop
+Inv-loop src o f by max line₀ i₀ line i = Upto 0 (λ x. clip max (tapped f (by .r) (by .n) (λ t. px src (o + x + t * by .step)))) 8 i line
+
+abbrev μ-loop : tie.MeasureT-loop
+μ-loop src o f by max line₀ i₀ line i = 8 - i
+
+loop-again : tie.Need-loop-again Inv-loop μ-loop
+loop-again c =
+    let p = c .before in
+    let fr : SFits w32 (p .rounded-taps .result) = omega arith in
+    upto-more (p .before .before .loop .inv) (omega arith) (rw (c .clip .ensures, back fr, p .rounded-taps .ensures))
+
+pub near-eight-spec : {M : Type 1} → statement M
+near-eight-spec =
+    tie.close
+    (tie.spec Inv-loop μ-loop (λ c. upto-none 0 _ _)  -- while i < 8
+    (λ c. omega arith)  -- o + i
+    (λ c κs. (omega arith, omega arith, λ e. c .before .before .before .pre .1))  -- rounded_taps(..)
+    (λ c κs. omega arith)  -- clip(..)
+    (λ c. omega arith)  -- line[i] =
+    (λ c. omega arith) (λ c. omega arith) loop-again  -- i += 1
+    (λ c. upto-all (c .before .loop .inv) (omega arith)))  -- returns

@@ -1,0 +1,30 @@
+-- Made from crates/rows/proofs/words/subpel/near_eight_mid/Proof.antt by tools/sets: change that.
+use native.Mathlib.Omega.{arith}
+use Prim.Native.Nat.{_+_, _*_, _-_}
+use lib.IntN.{pos}
+use mir.Syntax.{w16}
+use mir.Val.{toZ}
+use Rattle.rows.specs.Numbers.{low16, minus16, px}
+use Rattle.rows.specs.Subpel.{tapped}
+use Rattle.rows.proofs.Laws.Row.{Upto, upto-none, upto-all}
+use Rattle.rows.proofs.Laws.Filter.{upto-kept}
+use Rattle.rows.proofs.Laws.Signed.{back}
+use Rattle.rows.proofs.bytes.subpel.near_eight_mid.Statement.{statement}
+use Rattle.rows.proofs.bytes.subpel.near_eight_mid.Tie as tie
+
+-- the first i are done
+abbrev Inv-loop : tie.InvT-loop
+Inv-loop src o f by bias line₀ i₀ line i =
+    Upto (pos 0) (λ x. minus16 (low16 (tapped f (by .r) (by .n) (λ t. px src (o + x + t * by .step)))) (toZ w16 bias)) 8 i line
+
+abbrev μ-loop : tie.MeasureT-loop
+μ-loop src o f by bias line₀ i₀ line i = 8 - i
+
+pub near-eight-mid-spec : {M : Type 1} → statement M
+near-eight-mid-spec =
+    tie.close
+    (tie.spec Inv-loop μ-loop (λ c. upto-none (pos 0) _ _)  -- while i < 8
+    (λ c. omega arith) (λ c κs. (omega arith, omega arith, λ e. c .before .before .before .pre .1))  -- tap_mid_px(.., o + i, ..)
+    (λ c. omega arith) (λ c. omega arith)  -- line[i] =
+    (λ c. omega arith) (λ c. omega arith) (λ c. upto-kept (c .before .before .loop .inv) (omega arith) (omega arith) (c .tap-mid-px .ensures))  -- i += 1
+    (λ c. rw (← back (c .before .before .before .fits .bias)) (upto-all (c .before .loop .inv) (omega arith))))  -- returns

@@ -1,0 +1,28 @@
+-- Made from crates/rows/proofs/words/subpel/tap_row/Proof.antt by tools/sets: change that.
+use lib.Dec.{T}
+use mathlib.Core.Path.{sym, subst}
+use native.Mathlib.Omega.{arith}
+use borrow.Author.Needs.{needs}
+use Rattle.rows.proofs.Laws.Near.{row-copied}
+use Rattle.rows.proofs.bytes.subpel.tap_row.Statement.{statement}
+use Rattle.rows.proofs.bytes.subpel.tap_row.Tie as tie
+
+returns-2 : tie.Need-returns-2
+returns-2 c =
+    let e = c .before .before .before .before .before in let t = e .before in
+    row-copied 0 _ (t .before .by-eight .ensures (t .if3 .taken)) (c .before .before .take-eight .ensures) (e .near-eight .ensures)
+
+pub tap-row-spec : {M : Type 1} → statement M
+tap-row-spec =
+    tie.close
+    (tie.spec
+    (λ c κs. (omega arith, omega arith, λ e. absurd (subst T (sym e) tt), omega arith))  -- tap_by(..), of few
+    (λ c κs. search needs) (λ c κs. search needs)  -- near_way(..), by_eight(..)
+    (λ c κs. (omega (arith, c .before .by-eight .ensures (c .if3 .taken)), c .before .before .before .near-way .ensures (c .before .before .if2 .taken), omega arith, omega arith))  -- near_eight(..)
+    (λ c κs. let t = c .before .before .before in t .before .by-eight .ensures (t .if3 .taken))  -- take_eight(..)
+    (λ c κs. (omega arith, omega arith, λ e. c .before .before .before .before .near-way .ensures (c .before .before .before .if2 .taken), omega arith))  -- tap_by(..), near
+    (λ c κs. (omega arith, omega arith, λ e. absurd (subst T (sym e) tt), omega arith))  -- tap_by(..), far
+    (λ c. search needs) (λ c. search needs)  -- returns, of few
+    (λ c. search needs) returns-2  -- of eight
+    (λ c. search needs) (λ c. search needs)  -- near
+    (λ c. search needs) (λ c. search needs))  -- far

@@ -1,0 +1,24 @@
+use native.Mathlib.Omega.{arith}
+use mir.Syntax.{w16, w32}
+use mir.Val.{SFits}
+use borrow.Author.Needs.{needs}
+use Rattle.rows.proofs.Laws.Signed.{back}
+use Rattle.rows.proofs.bytes.sums.tap_mid_px.Statement.{statement}
+use Rattle.rows.proofs.bytes.sums.tap_mid_px.Tie as tie
+
+returns : tie.Need-returns
+returns c =
+    let k = c .before in let r = k .before in
+    let fv : SFits w16 (c .wrapping-sub16 .result) = omega arith in
+    let fk : SFits w16 (k .keep16 .result) = omega arith in
+    let fr : SFits w32 (r .rounded-taps .result) = omega arith in
+    rw (back fv, c .wrapping-sub16 .ensures, back fk, k .keep16 .ensures, back fr, r .rounded-taps .ensures, back (r .before .before .fits .bias))
+
+pub tap-mid-px-spec : {M : Type 1} → statement M
+tap-mid-px-spec =
+    tie.close
+    (tie.spec
+    (λ c κs. search needs)  -- rounded-taps-requires
+    (λ c κs. search needs)  -- keep16-requires
+    (λ c κs. search needs)  -- wrapping-sub16-requires
+    returns)

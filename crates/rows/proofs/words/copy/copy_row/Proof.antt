@@ -1,0 +1,21 @@
+use native.Mathlib.Omega.{arith}
+use borrow.Author.Needs.{needs}
+use Rattle.rows.proofs.words.copy.copy_row.Statement.{statement}
+use Rattle.rows.proofs.words.copy.copy_row.Tie as tie
+
+pub copy-row-spec : {M : Type 1} → statement M
+copy-row-spec =
+    tie.close
+    (tie.spec
+    (λ c κs. search needs)  -- copy-each-requires
+    (λ c κs. (omega arith, omega arith, omega arith, omega arith))  -- copy-ends-requires
+    (λ c κs. (omega arith, omega arith, omega arith, omega arith))  -- copy-ends-requires-2
+    (λ c κs. (omega arith, omega arith, omega arith, omega arith))  -- copy-ends-requires-3
+    (λ c κs. (omega arith, omega arith, omega arith, omega arith))  -- copy-ends-requires-4
+    (λ c κs. search needs)  -- copy-each-requires-2
+    (λ c. search needs) (λ c. search needs)  -- returns
+    (λ c. search needs) (λ c. search needs)  -- returns-2
+    (λ c. search needs) (λ c. search needs)  -- returns-3
+    (λ c. search needs) (λ c. search needs)  -- returns-4
+    (λ c. search needs) (λ c. search needs)  -- returns-5
+    (λ c. search needs) (λ c. search needs))  -- returns-6

@@ -1,0 +1,38 @@
+use mathlib.Core.Path.{refl}
+use native.Mathlib.Omega.{arith}
+use Prim.Native.Nat.{_+_, _*_, _-_, _≤_}
+use mir.Syntax.{w8}
+use Rattle.rows.specs.Numbers.{px}
+use Rattle.rows.specs.Subpel.{byteOf}
+use Rattle.rows.proofs.Laws.Signed.{fit}
+use Rattle.rows.proofs.Laws.Sum.{within}
+use Rattle.rows.proofs.Laws.Near.{NearSum, near-none, near-room, near-more, near-all}
+use Rattle.rows.proofs.words.sums.near_bytes.Statement.{statement}
+use Rattle.rows.proofs.words.sums.near_bytes.Tie as tie
+
+-- s holds the bits of the sum of the first j taps
+abbrev Inv-loop : tie.InvT-loop
+Inv-loop src o step f high s₀ j₀ s j = NearSum f (λ k. byteOf high (px src (o + k * step))) j s
+
+abbrev μ-loop : tie.MeasureT-loop
+μ-loop src o step f high s₀ j₀ s j = 8 - j
+
+-- place j is within src
+place : (c : tie.In-loop Inv-loop μ-loop) → c .before .loop .j * c .before .before .before .args .step ≤ 7 * c .before .before .before .args .step
+place c = within (c .before .loop .j) (c .before .before .before .args .step) (c .loop-test .taken)
+
+loop-again : tie.Need-loop-again Inv-loop μ-loop
+loop-again c =
+    let h = c .before .before .before .before in
+    near-more (h .loop .inv) (omega arith) (h .before .before .pre .1) (fit w8 (c .before .before .near-byte-arg .given)) refl (c .near-byte .ensures)
+
+pub near-bytes-spec : {M : Type 1} → statement M
+near-bytes-spec =
+    tie.close
+    (tie.spec Inv-loop μ-loop (λ c. near-none _ _)  -- while j < 8
+    (λ c. omega arith)  -- f[j]
+    (λ c. omega (arith, place (c .before))) (λ c. omega (arith, place (c .before)))  -- o + j * step
+    (λ c. omega (arith, place (c .before))) (λ c. omega (arith, place (c .before .before)))  -- src[..]
+    (λ c κs. let h = c .before .before .before in near-room (h .loop .inv) (omega arith) (h .before .before .pre .1) (fit w8 (c .before .near-byte-arg .given)))
+    (λ c. omega arith) (λ c. omega arith) loop-again  -- j += 1
+    (λ c. near-all (c .before .loop .inv) (omega arith)))  -- returns

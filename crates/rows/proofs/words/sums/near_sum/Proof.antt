@@ -1,0 +1,23 @@
+use mathlib.Core.Path.{_∙_}
+use native.Mathlib.Omega.{arith}
+use mir.Syntax.{w32}
+use mir.Val.{SFits}
+use borrow.Author.Needs.{needs}
+use Rattle.rows.proofs.Laws.Signed.{back}
+use Rattle.rows.proofs.Laws.Near.{parts-fit, whole-is}
+use Rattle.rows.proofs.words.sums.near_sum.Statement.{statement}
+use Rattle.rows.proofs.words.sums.near_sum.Tie as tie
+
+returns : tie.Need-returns
+returns c =
+    let l = c .before in
+    let fr : SFits w32 (c .near-whole .result) = omega arith in
+    rw (back fr) (c .near-whole .ensures .0 ∙ whole-is _ _ (l .before .near-bytes .ensures) (l .near-bytes2 .ensures), c .near-whole .ensures .1)
+
+pub near-sum-spec : {M : Type 1} → statement M
+near-sum-spec =
+    tie.close
+    (tie.spec
+    (λ c κs. search needs) (λ c κs. search needs)  -- the sums of both bytes
+    (λ c κs. parts-fit (c .before .near-bytes .ensures) (c .near-bytes2 .ensures))  -- near_whole(..)
+    returns)

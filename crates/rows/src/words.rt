@@ -1,0 +1,13 @@
+// 16-bit pixels: the half that is written.
+pub mod between;
+pub mod bilinear;
+pub mod blend;
+pub mod combine;
+pub mod copy;
+pub mod edge;
+pub mod pixel;
+pub mod search;
+pub mod subpel;
+pub mod sums;
+pub mod taps;
+pub mod warp;
