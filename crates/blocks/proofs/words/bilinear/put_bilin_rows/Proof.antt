@@ -28,7 +28,7 @@ across-requires c κs =
 downward-requires : tie.Need-put-bilin-axis-requires-2
 downward-requires c κs =
     let t = c .before in let s = entry (t .before .before) in
-    (downward (s .pre .0) _ (omega arith) (t .before .if1 .left) (omega (arith, t .if3)), omega arith, omega arith, s .pre .2)
+    (downward (s .pre .0) _ (omega arith) (t .before .if1 .left) (omega (arith, t .if3)), omega arith, omega arith, omega (arith, s .pre .2))
 
 copied-requires : tie.Need-put-rows-requires
 copied-requires c κs =
