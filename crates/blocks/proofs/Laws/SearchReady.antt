@@ -49,12 +49,7 @@ pub row-apart : (p : List ℕ) (o s : ℕ) (q : List ℕ) (o′ s′ w y : ℕ) 
 unfolding rowApart
 row-apart p o s q o′ s′ w y e = e
 
--- bytes are not shifted
-pub sad-bytes : (p q : ℕ → ℕ → ℕ) (w h : ℕ) {n : ℕ} → n ≡ sum ((h + 1) / 2) (λ r. rowApart p q w (2 * r)) → n ≡ sad 8 p q w h
-unfolding sad
-sad-bytes p q w h e = omega arith
-
--- 16-bit pixels are
+-- sums are shifted right by depth - 8, which is nothing for bytes
 pub sad-shifted : (depth : ℕ) (p q : ℕ → ℕ → ℕ) (w h : ℕ) {n : ℕ} → (n ≡ sum ((h + 1) / 2) (λ r. rowApart p q w (2 * r))) × (n ≤ 2 ^ 28)
     → (n / 2 ^ (depth - 8) ≡ sad depth p q w h) × (n / 2 ^ (depth - 8) ≤ 2 ^ 28)
 unfolding sad
