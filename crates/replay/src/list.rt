@@ -1,6 +1,7 @@
 // Numbers and contents of one record of the list, read at their places. Past the record's end stand zeros.
 use rows::numbers::keep16;
 use rows::numbers::keep32;
+ghost use Prim.Native.Nat.{_≤_};
 
 // Places of the longest buffer.
 pub const ROOM: usize = 40000;
@@ -25,6 +26,27 @@ pub(crate) struct Layout {
 pub(crate) struct Value {
     pub first: u16,
     pub k: u32,
+}
+
+// Numbers of the record that stand one after the other.
+pub(crate) struct Sizes {
+    pub a: usize,
+    pub b: usize,
+    pub c: usize,
+    pub d: usize,
+}
+
+pub(crate) struct Ints {
+    pub a: i32,
+    pub b: i32,
+    pub c: i32,
+}
+
+pub(crate) struct Shorts {
+    pub a: i16,
+    pub b: i16,
+    pub c: i16,
+    pub d: i16,
 }
 
 pub(crate) fn byte(r: &[u8], p: usize) -> u8 {
@@ -72,6 +94,39 @@ pub(crate) fn flag(r: &[u8], k: u8) -> bool {
 pub(crate) fn word(r: &[u8], k: u8) -> u32 {
     let p = 60 + 8 * (k as usize);
     half(r, p) as u32 | (half(r, p + 2) as u32) << 16
+}
+
+// The record's numbers from number k on.
+pub(crate) fn sizes_at(r: &[u8], k: u8) -> Sizes
+    requires { ⌜ k ≤ 100 ⌝ }
+{
+    Sizes {
+        a: size(r, k),
+        b: size(r, k + 1),
+        c: size(r, k + 2),
+        d: size(r, k + 3),
+    }
+}
+
+pub(crate) fn ints_at(r: &[u8], k: u8) -> Ints
+    requires { ⌜ k ≤ 100 ⌝ }
+{
+    Ints {
+        a: int(r, k),
+        b: int(r, k + 1),
+        c: int(r, k + 2),
+    }
+}
+
+pub(crate) fn shorts_at(r: &[u8], k: u8) -> Shorts
+    requires { ⌜ k ≤ 100 ⌝ }
+{
+    Shorts {
+        a: short(r, k),
+        b: short(r, k + 1),
+        c: short(r, k + 2),
+        d: short(r, k + 3),
+    }
 }
 
 // Which function the record calls, and the number that it is to answer.

@@ -26,16 +26,19 @@ fn matrix_at(r: &[u8], k: u8) -> [i32; 6]
 }
 
 fn same_matrix(m: &[i32; 6], n: [i32; 6]) -> bool {
-    (m[0] == n[0])
-        & (m[1] == n[1])
-        & (m[2] == n[2])
-        & (m[3] == n[3])
-        & (m[4] == n[4])
-        & (m[5] == n[5])
+    let mut same = true;
+    for i in 0..6 {
+        same = same & (m[i] == n[i]);
+    }
+    same
 }
 
 fn same_shears(s: &[i16; 4], t: [i16; 4]) -> bool {
-    (s[0] == t[0]) & (s[1] == t[1]) & (s[2] == t[2]) & (s[3] == t[3])
+    let mut same = true;
+    for i in 0..4 {
+        same = same & (s[i] == t[i]);
+    }
+    same
 }
 
 pub(crate) fn resolve_divisor_32(r: &[u8]) -> bool {

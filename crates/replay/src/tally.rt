@@ -21,41 +21,65 @@ fn first(id: u16) -> usize
     if id < 38 { 3 * (id as usize) } else { 0 }
 }
 
-// Counts a call for its function and for all.
-pub(crate) fn count(tally: &mut [u32; 117], id: u16, accepted: bool, same: bool) {
-    let k = first(id);
+// Counts a call where the three counts begin at place k.
+fn count_at(tally: &mut [u32; 117], k: usize, accepted: bool, same: bool)
+    requires { ⌜ k ≤ 114 ⌝ }
+{
     tally[k] = more(tally[k], accepted);
     tally[k + 1] = more(tally[k + 1], !accepted);
     tally[k + 2] = more(tally[k + 2], !same);
-    tally[114] = more(tally[114], accepted);
-    tally[115] = more(tally[115], !accepted);
-    tally[116] = more(tally[116], !same);
 }
 
-// The name of a function without prefix and set.
-fn print_name(id: u16) -> bool {
+// Counts a call for its function and for all.
+pub(crate) fn count(tally: &mut [u32; 117], id: u16, accepted: bool, same: bool) {
+    count_at(tally, first(id), accepted, same);
+    count_at(tally, 114, accepted, same);
+}
+
+// The name of a function without prefix and set: the first nine of a set, the others of a set, those without a set and all.
+fn print_first(k: u16) -> bool {
+    match k {
+        1 => io::write_all(1, b"put"),
+        2 => io::write_all(1, b"prep"),
+        3 => io::write_all(1, b"avg"),
+        4 => io::write_all(1, b"w_avg"),
+        5 => io::write_all(1, b"mask"),
+        6 => io::write_all(1, b"blend"),
+        7 => io::write_all(1, b"morph"),
+        8 => io::write_all(1, b"w_mask"),
+        _ => io::write_all(1, b"emu_edge"),
+    }
+}
+
+fn print_other(k: u16) -> bool {
+    match k {
+        10 => io::write_all(1, b"put_8tap"),
+        11 => io::write_all(1, b"prep_8tap"),
+        12 => io::write_all(1, b"put_bilin"),
+        13 => io::write_all(1, b"prep_bilin"),
+        14 => io::write_all(1, b"sad_nxn"),
+        15 => io::write_all(1, b"sad_refine_mv"),
+        16 => io::write_all(1, b"warp_affine_8x8"),
+        _ => io::write_all(1, b"warp_affine_8x8t"),
+    }
+}
+
+fn print_alone(id: u16) -> bool {
     match id {
-        1 | 18 => io::write_all(1, b"put"),
-        2 | 19 => io::write_all(1, b"prep"),
-        3 | 20 => io::write_all(1, b"avg"),
-        4 | 21 => io::write_all(1, b"w_avg"),
-        5 | 22 => io::write_all(1, b"mask"),
-        6 | 23 => io::write_all(1, b"blend"),
-        7 | 24 => io::write_all(1, b"morph"),
-        8 | 25 => io::write_all(1, b"w_mask"),
-        9 | 26 => io::write_all(1, b"emu_edge"),
-        10 | 27 => io::write_all(1, b"put_8tap"),
-        11 | 28 => io::write_all(1, b"prep_8tap"),
-        12 | 29 => io::write_all(1, b"put_bilin"),
-        13 | 30 => io::write_all(1, b"prep_bilin"),
-        14 | 31 => io::write_all(1, b"sad_nxn"),
-        15 | 32 => io::write_all(1, b"sad_refine_mv"),
-        16 | 33 => io::write_all(1, b"warp_affine_8x8"),
-        17 | 34 => io::write_all(1, b"warp_affine_8x8t"),
         35 => io::write_all(1, b"resolve_divisor_32"),
         36 => io::write_all(1, b"get_shear_params"),
         37 => io::write_all(1, b"set_affine_mv2d"),
         _ => io::write_all(1, b"all"),
+    }
+}
+
+fn print_name(id: u16) -> bool {
+    match id {
+        1..=9 => print_first(id),
+        10..=17 => print_other(id),
+        18..=26 => print_first(id - 17),
+        27..=34 => print_other(id - 17),
+        _ => print_alone(id),
     }
 }
 

@@ -1,17 +1,21 @@
 // Made from crates/replay/src/words/blend.rt by tools/sets: change that.
-// Replays calls of blend and morph.
+// Calls of blend and morph.
 use super::pixel::AFTER;
+use super::pixel::Pixel;
 use super::rooms::fill;
 use super::rooms::same;
 use crate::bytes::rooms::fill as fill_weights;
 use crate::list::ROOM;
 use crate::list::UNSET_PLACE;
 use crate::list::int;
+use crate::list::ints_at;
 use crate::list::size;
+use crate::list::sizes_at;
 use crate::list::told;
 use blocks::bytes::blend::hv_blend_8bpc;
 use blocks::bytes::calls::hv_morph_8bpc;
 
+// No other call has its buffers, so it fills and compares them itself.
 pub(crate) fn blend_8bpc(r: &[u8]) -> bool {
     let mut dst = [0; ROOM];
     let mut tmp = [0; ROOM];
@@ -21,29 +25,29 @@ pub(crate) fn blend_8bpc(r: &[u8]) -> bool {
     let n0 = fill(r, 0, &mut dst);
     let n1 = fill(r, 1, &mut tmp);
     let n2 = fill_weights(r, 2, &mut mask);
+    let s = sizes_at(r, 0);
     let number = hv_blend_8bpc(
         &mut dst[..n0],
-        size(r, 0),
+        s.a,
         &tmp[..n1],
-        size(r, 1),
-        size(r, 2),
+        s.b,
+        s.c,
         &mask[..n2],
         &mut row,
         &mut col,
     );
-    told(r, number) & same(r, 0, &dst) & (row == size(r, 3)) & (col == size(r, 4))
+    told(r, number) & same(r, 0, &dst) & (row == s.d) & (col == size(r, 4))
 }
 
-pub(crate) fn morph_8bpc(r: &[u8]) -> bool {
-    let mut dst = [0; ROOM];
-    let n0 = fill(r, 0, &mut dst);
+pub(crate) fn morph_8bpc(r: &[u8], dst: &mut [Pixel]) -> bool {
+    let m = ints_at(r, AFTER + 1);
     let number = hv_morph_8bpc(
-        &mut dst[..n0],
+        dst,
         size(r, AFTER),
-        int(r, AFTER + 1),
-        int(r, AFTER + 2),
+        m.a,
+        m.b,
         size(r, AFTER + 3),
         size(r, AFTER + 4),
     );
-    told(r, number) & same(r, 0, &dst)
+    told(r, number)
 }

@@ -1,45 +1,27 @@
 // Made from crates/replay/src/words/copy.rt by tools/sets: change that.
-// Replays calls of put and prep.
+// Calls of put and prep.
 use super::pixel::AFTER;
-use super::rooms::fill;
-use super::rooms::same;
-use crate::list::ROOM;
+use super::pixel::Pixel;
 use crate::list::int;
-use crate::list::size;
+use crate::list::sizes_at;
 use crate::list::told;
-use crate::rooms::fill_mids;
-use crate::rooms::same_mids;
 use blocks::bytes::calls::hv_prep_8bpc;
 use blocks::bytes::copy::hv_put_8bpc;
 
-pub(crate) fn put_8bpc(r: &[u8]) -> bool {
-    let mut dst = [0; ROOM];
-    let mut src = [0; ROOM];
-    let n0 = fill(r, 0, &mut dst);
-    let n1 = fill(r, 1, &mut src);
-    let number = hv_put_8bpc(
-        &mut dst[..n0],
-        size(r, 0),
-        &src[..n1],
-        size(r, 1),
-        size(r, 2),
-        size(r, 3),
-    );
-    told(r, number) & same(r, 0, &dst)
+pub(crate) fn put_8bpc(r: &[u8], dst: &mut [Pixel], src: &[Pixel]) -> bool {
+    let s = sizes_at(r, 0);
+    told(r, hv_put_8bpc(dst, s.a, src, s.b, s.c, s.d))
 }
 
-pub(crate) fn prep_8bpc(r: &[u8]) -> bool {
-    let mut tmp = [0; ROOM];
-    let mut src = [0; ROOM];
-    let n0 = fill_mids(r, 0, &mut tmp);
-    let n1 = fill(r, 1, &mut src);
+pub(crate) fn prep_8bpc(r: &[u8], tmp: &mut [i16], src: &[Pixel]) -> bool {
+    let s = sizes_at(r, AFTER);
     let number = hv_prep_8bpc(
-        &mut tmp[..n0],
-        size(r, AFTER),
-        &src[..n1],
-        size(r, AFTER + 1),
-        size(r, AFTER + 2),
-        size(r, AFTER + 3),
+        tmp,
+        s.a, // its stride
+        src,
+        s.b,
+        s.c,
+        s.d,
     );
-    told(r, number) & same_mids(r, 0, &tmp)
+    told(r, number)
 }

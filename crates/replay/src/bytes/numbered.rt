@@ -1,35 +1,118 @@
 // Made from crates/replay/src/words/numbered.rt by tools/sets: change that.
-// The functions by their numbers, in the list's order.
+// The functions by their numbers, in the list's order. Those whose buffers are of the same kinds share what fills and compares them; a buffer that a
+// call hasn't is empty.
 use super::bilinear;
 use super::blend;
 use super::combine;
 use super::copy;
 use super::edge;
 use super::mask;
+use super::pixel::Pixel;
+use super::rooms::fill;
+use super::rooms::same;
 use super::search;
 use super::subpel;
 use super::warp;
+use crate::bytes::rooms::fill as fill_weights;
+use crate::bytes::rooms::same as same_weights;
+use crate::list::ROOM;
+use crate::rooms::fill_mids;
+use crate::rooms::fill_taps;
+use crate::rooms::same_mids;
+
+fn to_pixels(k: u16, r: &[u8], dst: &mut [Pixel], src: &[Pixel], taps: &[i8], ext: &[i8]) -> bool {
+    match k {
+        1 => copy::put_8bpc(r, dst, src),
+        7 => blend::morph_8bpc(r, dst),
+        9 => edge::emu_edge_8bpc(r, dst, src),
+        10 => subpel::put_8tap_8bpc(r, dst, src, taps, ext),
+        12 => bilinear::put_bilin_8bpc(r, dst, src),
+        14 => search::sad_nxn_8bpc(r, dst, src),
+        15 => search::sad_refine_mv_8bpc(r, dst, src),
+        16 => warp::warp_affine_8x8_8bpc(r, dst, src, taps),
+        _ => false,
+    }
+}
+
+// Pixels from pixels, and searches, which leave their pixels as they are.
+fn pixels(k: u16, r: &[u8]) -> bool {
+    let mut dst = [0; ROOM];
+    let mut src = [0; ROOM];
+    let mut taps = [0; ROOM];
+    let mut ext = [0; ROOM];
+    let n0 = fill(r, 0, &mut dst);
+    let n1 = fill(r, 1, &mut src);
+    let n2 = fill_taps(r, 2, &mut taps);
+    let n3 = fill_taps(r, 3, &mut ext);
+    to_pixels(k, r, &mut dst[..n0], &src[..n1], &taps[..n2], &ext[..n3]) & same(r, 0, &dst)
+}
+
+fn to_mids(k: u16, r: &[u8], tmp: &mut [i16], src: &[Pixel], taps: &[i8], ext: &[i8]) -> bool {
+    match k {
+        2 => copy::prep_8bpc(r, tmp, src),
+        11 => subpel::prep_8tap_8bpc(r, tmp, src, taps, ext),
+        13 => bilinear::prep_bilin_8bpc(r, tmp, src),
+        _ => warp::warp_affine_8x8t_8bpc(r, tmp, src, taps),
+    }
+}
+
+// Intermediates from pixels.
+fn mids(k: u16, r: &[u8]) -> bool {
+    let mut tmp = [0; ROOM];
+    let mut src = [0; ROOM];
+    let mut taps = [0; ROOM];
+    let mut ext = [0; ROOM];
+    let n0 = fill_mids(r, 0, &mut tmp);
+    let n1 = fill(r, 1, &mut src);
+    let n2 = fill_taps(r, 2, &mut taps);
+    let n3 = fill_taps(r, 3, &mut ext);
+    to_mids(k, r, &mut tmp[..n0], &src[..n1], &taps[..n2], &ext[..n3]) & same_mids(r, 0, &tmp)
+}
+
+fn to_combined(
+    k: u16,
+    r: &[u8],
+    dst: &mut [Pixel],
+    tmp1: &[i16],
+    tmp2: &[i16],
+    mask: &mut [u8],
+) -> bool {
+    match k {
+        3 => combine::avg_8bpc(r, dst, tmp1, tmp2),
+        4 => combine::w_avg_8bpc(r, dst, tmp1, tmp2),
+        5 => combine::mask_8bpc(r, dst, tmp1, tmp2, mask),
+        _ => mask::w_mask_8bpc(r, dst, tmp1, tmp2, mask),
+    }
+}
+
+// Pixels from two blocks of intermediates.
+fn combined(k: u16, r: &[u8]) -> bool {
+    let mut dst = [0; ROOM];
+    let mut tmp1 = [0; ROOM];
+    let mut tmp2 = [0; ROOM];
+    let mut mask = [0; ROOM];
+    let n0 = fill(r, 0, &mut dst);
+    let n1 = fill_mids(r, 1, &mut tmp1);
+    let n2 = fill_mids(r, 2, &mut tmp2);
+    let n3 = fill_weights(r, 3, &mut mask);
+    to_combined(
+        k,
+        r,
+        &mut dst[..n0],
+        &tmp1[..n1],
+        &tmp2[..n2],
+        &mut mask[..n3],
+    )
+        & same(r, 0, &dst)
+        & same_weights(r, 3, &mask)
+}
 
 // Replays a call of function k of this set: whether it answered as the record says.
 pub(crate) fn replayed(k: u16, r: &[u8]) -> bool {
     match k {
-        1 => copy::put_8bpc(r),
-        2 => copy::prep_8bpc(r),
-        3 => combine::avg_8bpc(r),
-        4 => combine::w_avg_8bpc(r),
-        5 => combine::mask_8bpc(r),
+        2 | 11 | 13 | 17 => mids(k, r),
+        3..=5 | 8 => combined(k, r),
         6 => blend::blend_8bpc(r),
-        7 => blend::morph_8bpc(r),
-        8 => mask::w_mask_8bpc(r),
-        9 => edge::emu_edge_8bpc(r),
-        10 => subpel::put_8tap_8bpc(r),
-        11 => subpel::prep_8tap_8bpc(r),
-        12 => bilinear::put_bilin_8bpc(r),
-        13 => bilinear::prep_bilin_8bpc(r),
-        14 => search::sad_nxn_8bpc(r),
-        15 => search::sad_refine_mv_8bpc(r),
-        16 => warp::warp_affine_8x8_8bpc(r),
-        17 => warp::warp_affine_8x8t_8bpc(r),
-        _ => false,
+        _ => pixels(k, r),
     }
 }

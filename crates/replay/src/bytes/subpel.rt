@@ -1,66 +1,63 @@
 // Made from crates/replay/src/words/subpel.rt by tools/sets: change that.
-// Replays calls of put_8tap and prep_8tap.
+// Calls of put_8tap and prep_8tap.
 use super::pixel::AFTER;
-use super::rooms::fill;
-use super::rooms::same;
-use crate::list::ROOM;
+use super::pixel::Pixel;
 use crate::list::int;
+use crate::list::ints_at;
 use crate::list::size;
+use crate::list::sizes_at;
 use crate::list::told;
-use crate::rooms::fill_mids;
-use crate::rooms::fill_taps;
-use crate::rooms::same_mids;
 use blocks::bytes::calls::hv_prep_8tap_8bpc;
 use blocks::bytes::calls::hv_put_8tap_8bpc;
 
-pub(crate) fn put_8tap_8bpc(r: &[u8]) -> bool {
-    let mut dst = [0; ROOM];
-    let mut src = [0; ROOM];
-    let mut subpel = [0; ROOM];
-    let mut ext = [0; ROOM];
-    let n0 = fill(r, 0, &mut dst);
-    let n1 = fill(r, 1, &mut src);
-    let n2 = fill_taps(r, 2, &mut subpel);
-    let n3 = fill_taps(r, 3, &mut ext);
+pub(crate) fn put_8tap_8bpc(
+    r: &[u8],
+    dst: &mut [Pixel],
+    src: &[Pixel],
+    subpel: &[i8],
+    ext: &[i8],
+) -> bool {
+    let s = sizes_at(r, AFTER);
+    let m = ints_at(r, AFTER + 5);
     let number = hv_put_8tap_8bpc(
-        &mut dst[..n0],
-        size(r, AFTER),
-        &src[..n1],
-        size(r, AFTER + 1),
-        size(r, AFTER + 2),
-        size(r, AFTER + 3),
+        dst,
+        s.a,
+        src,
+        s.b,
+        s.c,
+        s.d,
         size(r, AFTER + 4),
-        int(r, AFTER + 5),
-        int(r, AFTER + 6),
-        int(r, AFTER + 7),
-        &subpel[..n2],
-        &ext[..n3],
+        m.a,
+        m.b,
+        m.c,
+        subpel,
+        ext,
     );
-    told(r, number) & same(r, 0, &dst)
+    told(r, number)
 }
 
-pub(crate) fn prep_8tap_8bpc(r: &[u8]) -> bool {
-    let mut tmp = [0; ROOM];
-    let mut src = [0; ROOM];
-    let mut subpel = [0; ROOM];
-    let mut ext = [0; ROOM];
-    let n0 = fill_mids(r, 0, &mut tmp);
-    let n1 = fill(r, 1, &mut src);
-    let n2 = fill_taps(r, 2, &mut subpel);
-    let n3 = fill_taps(r, 3, &mut ext);
+pub(crate) fn prep_8tap_8bpc(
+    r: &[u8],
+    tmp: &mut [i16],
+    src: &[Pixel],
+    subpel: &[i8],
+    ext: &[i8],
+) -> bool {
+    let s = sizes_at(r, AFTER);
+    let m = ints_at(r, AFTER + 5);
     let number = hv_prep_8tap_8bpc(
-        &mut tmp[..n0],
-        size(r, AFTER),
-        &src[..n1],
-        size(r, AFTER + 1),
-        size(r, AFTER + 2),
-        size(r, AFTER + 3),
+        tmp,
+        s.a,
+        src,
+        s.b,
+        s.c,
+        s.d,
         size(r, AFTER + 4),
-        int(r, AFTER + 5),
-        int(r, AFTER + 6),
-        int(r, AFTER + 7),
-        &subpel[..n2],
-        &ext[..n3],
+        m.a,
+        m.b,
+        m.c,
+        subpel,
+        ext,
     );
-    told(r, number) & same_mids(r, 0, &tmp)
+    told(r, number)
 }

@@ -1,64 +1,64 @@
-// Replays calls of warp_affine_8x8 and warp_affine_8x8t.
+// Calls of warp_affine_8x8 and warp_affine_8x8t.
 use super::pixel::AFTER;
-use super::rooms::fill;
-use super::rooms::same;
-use crate::list::ROOM;
+use super::pixel::Pixel;
 use crate::list::int;
-use crate::list::short;
-use crate::list::size;
+use crate::list::ints_at;
+use crate::list::shorts_at;
+use crate::list::sizes_at;
 use crate::list::told;
-use crate::rooms::fill_mids;
-use crate::rooms::fill_taps;
-use crate::rooms::same_mids;
 use blocks::words::warp::hv_warp_affine_8x8_16bpc;
 use blocks::words::warp::hv_warp_affine_8x8t_16bpc;
 
-pub(crate) fn warp_affine_8x8_16bpc(r: &[u8]) -> bool {
-    let mut dst = [0; ROOM];
-    let mut src = [0; ROOM];
-    let mut warp = [0; ROOM];
-    let n0 = fill(r, 0, &mut dst);
-    let n1 = fill(r, 1, &mut src);
-    let n2 = fill_taps(r, 2, &mut warp);
+pub(crate) fn warp_affine_8x8_16bpc(
+    r: &[u8],
+    dst: &mut [Pixel],
+    src: &[Pixel],
+    filters: &[i8],
+) -> bool {
+    let s = sizes_at(r, AFTER);
+    let shears = shorts_at(r, AFTER + 3);
+    let m = ints_at(r, AFTER + 7);
     let number = hv_warp_affine_8x8_16bpc(
         int(r, 0), // words
-        &mut dst[..n0],
-        size(r, AFTER),
-        &src[..n1],
-        size(r, AFTER + 1),
-        size(r, AFTER + 2),
-        short(r, AFTER + 3),
-        short(r, AFTER + 4),
-        short(r, AFTER + 5),
-        short(r, AFTER + 6),
-        int(r, AFTER + 7),
-        int(r, AFTER + 8),
-        &warp[..n2],
+        dst,
+        s.a,
+        src,
+        s.b,
+        s.c,
+        shears.a,
+        shears.b,
+        shears.c,
+        shears.d,
+        m.a,
+        m.b,
+        filters,
     );
-    told(r, number) & same(r, 0, &dst)
+    told(r, number)
 }
 
-pub(crate) fn warp_affine_8x8t_16bpc(r: &[u8]) -> bool {
-    let mut tmp = [0; ROOM];
-    let mut src = [0; ROOM];
-    let mut warp = [0; ROOM];
-    let n0 = fill_mids(r, 0, &mut tmp);
-    let n1 = fill(r, 1, &mut src);
-    let n2 = fill_taps(r, 2, &mut warp);
+pub(crate) fn warp_affine_8x8t_16bpc(
+    r: &[u8],
+    tmp: &mut [i16],
+    src: &[Pixel],
+    filters: &[i8],
+) -> bool {
+    let s = sizes_at(r, AFTER);
+    let shears = shorts_at(r, AFTER + 3);
+    let m = ints_at(r, AFTER + 7);
     let number = hv_warp_affine_8x8t_16bpc(
         int(r, 0), // words
-        &mut tmp[..n0],
-        size(r, AFTER),
-        &src[..n1],
-        size(r, AFTER + 1),
-        size(r, AFTER + 2),
-        short(r, AFTER + 3),
-        short(r, AFTER + 4),
-        short(r, AFTER + 5),
-        short(r, AFTER + 6),
-        int(r, AFTER + 7),
-        int(r, AFTER + 8),
-        &warp[..n2],
+        tmp,
+        s.a,
+        src,
+        s.b,
+        s.c,
+        shears.a,
+        shears.b,
+        shears.c,
+        shears.d,
+        m.a,
+        m.b,
+        filters,
     );
-    told(r, number) & same_mids(r, 0, &tmp)
+    told(r, number)
 }
