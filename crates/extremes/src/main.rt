@@ -106,31 +106,34 @@ fn total(name: &[u8], n: u32) {
 }
 
 fn run_copy() {
+    let s8: &[u8] = &[255u8; 1];
+    let s16: &[u16] = &[65535u16; 1];
     let mut d8 = [0u8; 1];
-    copy_row8(&mut d8, &[255u8; 1], 0);
+    copy_row8(&mut d8, s8, 0);
     row8(b"copy_row8", &d8);
     let mut d16 = [0u16; 1];
-    copy_row16(&mut d16, &[65535u16; 1], 0);
+    copy_row16(&mut d16, s16, 0);
     row16(b"copy_row16", &d16);
     let mut t = [0i16; 1];
-    prep_row8(&mut t, &[255u8; 1], 0, 4, 0);
+    prep_row8(&mut t, s8, 0, 4, 0);
     mids(b"prep_row8", &t);
-    prep_row16(&mut t, &[65535u16; 1], 0, 4, 8192);
+    prep_row16(&mut t, s16, 0, 4, 8192);
     mids(b"prep_row16", &t);
 }
 
 fn run_combine() {
-    let low = [-32768i16; 2];
-    let high = [32767i16; 2];
+    let low: &[i16] = &[-32768i16; 2];
+    let high: &[i16] = &[32767i16; 2];
+    let weights: &[u8] = &[255u8; 2];
     let mut d8 = [0u8; 2];
-    avg_row8(&mut d8, &high, &high, 0, 4, 0, 255);
+    avg_row8(&mut d8, high, high, 0, 4, 0, 255);
     row8(b"avg_row8", &d8);
-    mask_row8(&mut d8, &high, &low, 0, &[255u8; 2], 0, 4, 0, 255);
+    mask_row8(&mut d8, high, low, 0, weights, 0, 4, 0, 255);
     row8(b"mask_row8", &d8);
     let mut d16 = [0u16; 2];
-    avg_row16(&mut d16, &low, &low, 0, 2, 8192, 4095);
+    avg_row16(&mut d16, low, low, 0, 2, 8192, 4095);
     row16(b"avg_row16", &d16);
-    mask_row16(&mut d16, &high, &low, 0, &[255u8; 2], 0, 2, 8192, 4095);
+    mask_row16(&mut d16, high, low, 0, weights, 0, 2, 8192, 4095);
     row16(b"mask_row16", &d16);
 }
 
@@ -148,13 +151,14 @@ fn run_blend() {
 }
 
 fn run_mask() {
+    let weights: &[u8] = &[255u8; 4];
     let mut m = [0u8; 4];
     weight_row(&mut m, &[32767i16; 4], &[-32768i16; 4], 0, 8, 4);
     row8(b"weight_row", &m);
     let mut mask = [0u8; 2];
     pair_row(&mut mask, &m, 1);
     row8(b"pair_row", &mask);
-    four_row(&mut mask, &[255u8; 4], &[255u8; 4], 0);
+    four_row(&mut mask, weights, weights, 0);
     row8(b"four_row", &mask);
 }
 
@@ -168,24 +172,28 @@ fn run_edge() {
 }
 
 fn run_subpel() {
-    let f = [-128i8; 8];
-    let g = [127i8; 8];
+    let f = &[-128i8; 8];
+    let g = &[127i8; 8];
     let mut d8 = [0u8; 1];
-    tap_row8(&mut d8, &[255u8; 8], 0, 1, &g, 34, 6, 255);
+    tap_row8(&mut d8, &[255u8; 8], 0, 1, g, 34, 6, 255);
     row8(b"tap_row8", &d8);
-    mid_row8(&mut d8, &[-32768i16; 8], 0, 1, &f, 1024, 11, 255);
+    mid_row8(&mut d8, &[-32768i16; 8], 0, 1, f, 1024, 11, 255);
     row8(b"mid_row8", &d8);
     let mut d16 = [0u16; 1];
-    tap_row16(&mut d16, &[65535u16; 8], 0, 1, &f, 64, 7, 4095);
+    tap_row16(&mut d16, &[65535u16; 8], 0, 1, f, 64, 7, 4095);
     row16(b"tap_row16", &d16);
-    mid_row16(&mut d16, &[32767i16; 8], 0, 1, &g, 512, 10, 1023);
+    mid_row16(&mut d16, &[32767i16; 8], 0, 1, g, 512, 10, 1023);
     row16(b"mid_row16", &d16);
+}
+
+fn run_subpel_mids() {
+    let g = &[127i8; 8];
     let mut t = [0i16; 1];
-    tap_mid_row8(&mut t, &[255u8; 8], 0, 1, &g, 2, 2, 0);
+    tap_mid_row8(&mut t, &[255u8; 8], 0, 1, g, 2, 2, 0);
     mids(b"tap_mid_row8", &t);
-    tap_mid_row16(&mut t, &[65535u16; 8], 0, 1, &g, 4, 3, 8192);
+    tap_mid_row16(&mut t, &[65535u16; 8], 0, 1, g, 4, 3, 8192);
     mids(b"tap_mid_row16", &t);
-    mid_prep_row(&mut t, &[-32768i16; 8], 0, 1, &f, 32, 6, 8192);
+    mid_prep_row(&mut t, &[-32768i16; 8], 0, 1, &[-128i8; 8], 32, 6, 8192);
     mids(b"mid_prep_row", &t);
 }
 
@@ -200,6 +208,9 @@ fn run_bilinear() {
     row16(b"put_bilin_row16", &d16);
     mid_bilin_row16(&mut d16, &[32767i16; 2], 0, 1, 1, 6, 4095);
     row16(b"mid_bilin_row16", &d16);
+}
+
+fn run_bilinear_mids() {
     let mut t = [0i16; 1];
     prep_bilin_row8(&mut t, &[255u8; 2], 0, 1, 15, 0, 0);
     mids(b"prep_bilin_row8", &t);
@@ -218,21 +229,22 @@ fn run_search() {
 }
 
 fn run_warp() {
-    let low = [-128i8; 1544];
-    let high = [127i8; 1544];
+    let low: &[i8] = &[-128i8; 1544];
+    let high: &[i8] = &[127i8; 1544];
+    let least: &[i16] = &[-32768i16; 113];
     let mut mid = [0i16; 15];
-    warp_column8(&mut mid, &[255u8; 120], 0, 8, &high, 0, 0, 0, 7, 3);
+    warp_column8(&mut mid, &[255u8; 120], 0, 8, high, 0, 0, 0, 7, 3);
     mids(b"warp_column8", &mid);
-    warp_column16(&mut mid, &[65535u16; 120], 0, 8, &high, 0, 0, 0, 7, 5);
+    warp_column16(&mut mid, &[65535u16; 120], 0, 8, high, 0, 0, 0, 7, 5);
     mids(b"warp_column16", &mid);
     let mut d8 = [0u8; 8];
-    warp_put_row8(&mut d8, &[-32768i16; 113], 0, &low, 0, 0, 0, 7, 11, 255);
+    warp_put_row8(&mut d8, least, 0, low, 0, 0, 0, 7, 11, 255);
     row8(b"warp_put_row8", &d8);
     let mut d16 = [0u16; 8];
-    warp_put_row16(&mut d16, &[32767i16; 113], 0, &high, 0, 0, 0, 7, 9, 4095);
+    warp_put_row16(&mut d16, &[32767i16; 113], 0, high, 0, 0, 0, 7, 9, 4095);
     row16(b"warp_put_row16", &d16);
     let mut tmp = [0i16; 8];
-    warp_prep_row(&mut tmp, &[-32768i16; 113], 0, &low, 0, 0, 0, 7, 7, 8192);
+    warp_prep_row(&mut tmp, least, 0, low, 0, 0, 0, 7, 7, 8192);
     mids(b"warp_prep_row", &tmp);
 }
 
@@ -243,7 +255,9 @@ fn main() {
     run_mask();
     run_edge();
     run_subpel();
+    run_subpel_mids();
     run_bilinear();
+    run_bilinear_mids();
     run_search();
     run_warp();
 }

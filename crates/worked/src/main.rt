@@ -9,8 +9,9 @@ use blocks::bytes::edge::hv_emu_edge_8bpc;
 use blocks::shear::hv_get_shear_params;
 use blocks::words::combine::hv_avg_16bpc;
 
-fn say(name: &[u8], ok: bool) {
-    io::write_all(1, name);
+fn say(n: u64, ok: bool) {
+    io::write_all(1, b"C");
+    io::print_decimal(1, n);
     if ok {
         io::write_all(1, b" ok\n");
     } else {
@@ -165,14 +166,14 @@ fn c10() -> bool {
 }
 
 fn main() {
-    say(b"C1", c1());
-    say(b"C2", c2());
-    say(b"C3", c3());
-    say(b"C4", c4());
-    say(b"C5", c5());
-    say(b"C6", c6());
-    say(b"C7", c7());
-    say(b"C8", c8());
-    say(b"C9", c9());
-    say(b"C10", c10());
+    say(1, c1());
+    say(2, c2());
+    say(3, c3());
+    say(4, c4());
+    say(5, c5());
+    say(6, c6());
+    say(7, c7());
+    say(8, c8());
+    say(9, c9());
+    say(10, c10());
 }

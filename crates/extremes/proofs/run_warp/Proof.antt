@@ -17,37 +17,33 @@ pub run-warp-spec : {M : Type 1} → statement M
 run-warp-spec =
     tie.close
     (tie.spec
+    (λ c. search needs)  -- slice-aggregate-low
+    (λ c. search needs)  -- slice-aggregate-high
+    (λ c. search needs)  -- slice-aggregate-least
     (λ c. search needs)  -- slice-aggregate-warp-column8
     (λ c. search needs)  -- slice-aggregate-warp-column8-2
-    (λ c. search needs)  -- slice-aggregate-warp-column8-3
     (λ c κs. (search needs, λ r h. there r 7))  -- warp-column8-requires
     (λ c. search needs)  -- slice-aggregate-mids
     (λ c. search needs)  -- slice-aggregate-mids-2
     (λ c κs. search needs)  -- mids-requires
     (λ c. search needs)  -- slice-aggregate-warp-column16
     (λ c. search needs)  -- slice-aggregate-warp-column16-2
-    (λ c. search needs)  -- slice-aggregate-warp-column16-3
     (λ c κs. (search needs, λ r h. there r 7))  -- warp-column16-requires
     (λ c. search needs)  -- slice-aggregate-mids-3
     (λ c. search needs)  -- slice-aggregate-mids-4
     (λ c κs. search needs)  -- mids-requires-2
     (λ c. search needs)  -- slice-aggregate-warp-put-row8
-    (λ c. search needs)  -- slice-aggregate-warp-put-row8-2
-    (λ c. search needs)  -- slice-aggregate-warp-put-row8-3
     (λ c κs. (search needs, λ c h. there 7 c))  -- warp-put-row8-requires
     (λ c. search needs)  -- slice-aggregate-row8
     (λ c. search needs)  -- slice-aggregate-row8-2
     (λ c κs. search needs)  -- row8-requires
     (λ c. search needs)  -- slice-aggregate-warp-put-row16
     (λ c. search needs)  -- slice-aggregate-warp-put-row16-2
-    (λ c. search needs)  -- slice-aggregate-warp-put-row16-3
     (λ c κs. (search needs, λ c h. there 7 c))  -- warp-put-row16-requires
     (λ c. search needs)  -- slice-aggregate-row16
     (λ c. search needs)  -- slice-aggregate-row16-2
     (λ c κs. search needs)  -- row16-requires
     (λ c. search needs)  -- slice-aggregate-warp-prep-row
-    (λ c. search needs)  -- slice-aggregate-warp-prep-row-2
-    (λ c. search needs)  -- slice-aggregate-warp-prep-row-3
     (λ c κs. (search needs, λ c h. there 7 c))  -- warp-prep-row-requires
     (λ c. search needs)  -- slice-aggregate-mids-5
     (λ c. search needs)  -- slice-aggregate-mids-6
