@@ -2,9 +2,19 @@ use borrow.Author.Needs.{needs}
 use Rattle.blocks.proofs.blend.check_blend.Statement.{statement}
 use Rattle.blocks.proofs.blend.check_blend.Tie as tie
 
+returns : tie.Need-returns
+returns c =
+    rw (
+      c .sizes .ensures,
+      c .before .stride .ensures,
+      c .before .before .held3 .ensures,
+      c .before .before .before .held2 .ensures,
+      c .before .before .before .before .held .ensures,
+    )
+
 pub check-blend-spec : {M : Type 1} → statement M
 check-blend-spec =
     tie.close
     (tie.spec
     (λ c κs. search needs) (λ c κs. search needs) (λ c κs. search needs) (λ c κs. search needs) (λ c κs. search needs)  -- held, stride, sizes
-    (λ c. cc))  -- returns
+    returns)

@@ -12,7 +12,7 @@ use Rattle.blocks.proofs.filters.check_8tap.Tie as tie
 -- what the first part answers
 shape : (c : tie.After-sizes) → let a = c .before .before .before .args in
     c .sizes .result ≡ lowest (shapeTests (a .dst-stride) (a .src-stride) (a .w) (a .h))
-shape c = cc
+shape c = rw (c .sizes .ensures, c .before .stride2 .ensures, c .before .before .stride .ensures)
 
 none : (c : tie.Else1) → let a = c .before .before .before .before .args in lowest (shapeTests (a .dst-stride) (a .src-stride) (a .w) (a .h)) ≡ 0
 none c = sym (shape (c .before)) ∙ c .if1 .left
