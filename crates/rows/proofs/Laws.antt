@@ -5,6 +5,7 @@ pub mod Depth
 pub mod Sum
 pub mod Added
 pub mod Row
+pub mod Part
 pub mod Over
 pub mod Taps
 pub mod Places
@@ -19,5 +20,6 @@ pub mod Edge
 pub mod Filter
 pub mod Near
 pub mod Bilinear
+pub mod Scaled
 pub mod Warp
 pub mod Worked

@@ -11,9 +11,18 @@ use crate::numbers::half_power;
 use crate::subpel::kept;
 use crate::subpel::rounded;
 
+// 16a + f(b - a), within 2^22. A fraction that is seen to be a byte makes the product of bytes a short one.
+pub fn bilin_sum(a: i32, b: i32, f: u32) -> i32
+    requires { ⌜ (natAbs a ≤ 65535) × (natAbs b ≤ 65535) × (f ≤ 15) ⌝ }
+    ensures { λ r. ⌜ (r ≡ bilin a b f) × (mag r < 2 ^ 22) ⌝ }
+{
+    let f = f as u8;
+    16 * a + f as i32 * (b - a)
+}
+
 // 16a + f(b - a), as (16 - f)a + fb and within 2^22: intermediates, unlike their differences, are of sixteen bits, and so both products are short ones.
 fn bilin_weighed(a: i32, b: i32, f: u32) -> i32
-    requires { ⌜ (natAbs a ≤ 65535) × (natAbs b ≤ 65535) × (f ≤ 15) ⌝ }
+    requires { ⌜ (natAbs a ≤ 65535) × (natAbs b ≤ 65535) × (f ≤ 16) ⌝ }
     ensures { λ r. ⌜ (r ≡ bilin a b f) × (mag r < 2 ^ 22) ⌝ }
 {
     let f = f as u8;
@@ -22,7 +31,7 @@ fn bilin_weighed(a: i32, b: i32, f: u32) -> i32
 
 // The sum of two intermediates.
 pub fn between_i16(mid: &[i16], p: usize, step: usize, f: u32) -> i32
-    requires { ⌜ (p + step < length (now mid)) × (f ≤ 15) ⌝ }
+    requires { ⌜ (p + step < length (now mid)) × (f ≤ 16) ⌝ }
     ensures { λ r. ⌜ (r ≡ bilinAt (at (now (mid .entry))) p step f) × (mag r < 2 ^ 22) ⌝ }
 {
     bilin_weighed(mid[p] as i32, mid[p + step] as i32, f)
@@ -62,7 +71,7 @@ pub fn mid_bilin_prep_row(
     n: u32,
     bias: i16,
 )
-    requires { ⌜ (o + length (now tmp) + step ≤ length (now mid)) × (f ≤ 15) × (n ≤ 8) ⌝ }
+    requires { ⌜ (o + length (now tmp) + step ≤ length (now mid)) × (f ≤ 16) × (n ≤ 8) ⌝ }
     ensures { λ _. ⌜ now (tmp .exit) ≡ rowOf (length (now (tmp .entry)))
         (λ i. minus16 (low16 (R n (bilinAt (at (now (mid .entry))) (o + i) step f))) bias) ⌝ }
 {

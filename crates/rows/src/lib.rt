@@ -8,6 +8,7 @@ pub mod edge;
 pub mod mask;
 pub mod near;
 pub mod numbers;
+pub mod scaled;
 pub mod subpel;
 pub mod warp;
 pub mod words;

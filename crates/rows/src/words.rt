@@ -6,6 +6,7 @@ pub mod combine;
 pub mod copy;
 pub mod edge;
 pub mod pixel;
+pub mod scaled;
 pub mod search;
 pub mod subpel;
 pub mod sums;

@@ -1,26 +1,18 @@
 // What stands between two bytes, in one sum. Each set writes this file by hand.
 ghost use mathlib.Core.Path.{_≡_};
 ghost use Prim.Native.Nat.{_+_, _^_, _<_, _≤_};
-ghost use lib.IntN.{pos, natAbs, _+ℤ_};
+ghost use lib.IntN.{pos, _+ℤ_};
 ghost use lib.ListN.{length};
 ghost use lib.Signed.{mag, shrZ};
 ghost use Rattle.rows.specs.Numbers.{px, half, low16, minus16};
 ghost use Rattle.rows.specs.Numbers as numbers;
-ghost use Rattle.rows.specs.Bilinear.{bilin, R, bilinAt};
+ghost use Rattle.rows.specs.Bilinear.{R, bilinAt};
 ghost use Rattle.rows.specs.bytes.Pixel.{MaxOk};
 use super::pixel::Pixel;
 use super::pixel::clip;
+use crate::bilinear::bilin_sum;
 use crate::subpel::kept;
 use crate::subpel::rounded;
-
-// 16a + f(b - a), within 2^22. A fraction that is seen to be a byte makes the product of bytes a short one.
-fn bilin_sum(a: i32, b: i32, f: u32) -> i32
-    requires { ⌜ (natAbs a ≤ 65535) × (natAbs b ≤ 65535) × (f ≤ 15) ⌝ }
-    ensures { λ r. ⌜ (r ≡ bilin a b f) × (mag r < 2 ^ 22) ⌝ }
-{
-    let f = f as u8;
-    16 * a + f as i32 * (b - a)
-}
 
 // The sum of two bytes.
 fn between_u8(src: &[Pixel], p: usize, step: usize, f: u32) -> i32

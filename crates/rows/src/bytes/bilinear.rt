@@ -87,7 +87,7 @@ pub fn mid_bilin_row(
     n: u32,
     max: u16,
 )
-    requires { ⌜ (o + length (now dst) + step ≤ length (now mid)) × (f ≤ 15) × (n ≤ 8) × MaxOk max ⌝ }
+    requires { ⌜ (o + length (now dst) + step ≤ length (now mid)) × (f ≤ 16) × (n ≤ 8) × MaxOk max ⌝ }
     ensures { λ _. ⌜ now (dst .exit)
         ≡ rowOf (length (now (dst .entry))) (λ i. numbers.clip max (R n (bilinAt (at (now (mid .entry))) (o + i) step f))) ⌝ }
 {

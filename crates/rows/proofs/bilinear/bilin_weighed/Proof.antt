@@ -20,8 +20,8 @@ module _ (c : tie.Start) where
   l-le : mag l ≤ 16 * 65535
   l-le = mag-mul (pos (16 - c .args .f)) (c .args .a) 16 65535 (omega arith) (c .pre .0)
 
-  r-le : mag r ≤ 15 * 65535
-  r-le = mag-mul (pos (c .args .f)) (c .args .b) 15 65535 (c .pre .2) (c .pre .1)
+  r-le : mag r ≤ 16 * 65535
+  r-le = mag-mul (pos (c .args .f)) (c .args .b) 16 65535 (c .pre .2) (c .pre .1)
 
   l-fits : SFits w32 l
   l-fits = omega (arith, l-le)

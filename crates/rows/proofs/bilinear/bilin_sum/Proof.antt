@@ -8,8 +8,8 @@ use mir.Syntax.{w32}
 use mir.Val.{SFits}
 use Rattle.rows.specs.Bilinear.{bilin}
 use Rattle.rows.proofs.Laws.Signed.{back, backn, mag-add, mag-abs, mag-mul, abs-sub}
-use Rattle.rows.proofs.bytes.between.bilin_sum.Statement.{statement}
-use Rattle.rows.proofs.bytes.between.bilin_sum.Tie as tie
+use Rattle.rows.proofs.bilinear.bilin_sum.Statement.{statement}
+use Rattle.rows.proofs.bilinear.bilin_sum.Tie as tie
 
 module _ (c : tie.Start) where
   abbrev l : ℤ
