@@ -24,6 +24,16 @@ pub mod SubpelCases
 pub mod SubpelAnswers
 pub mod BilinReady
 pub mod BilinRule
+pub mod ScaledReady
+pub mod ScaledPlaces
+pub mod ScaledRows
+pub mod ScaledLines
+pub mod ScaledPairs
+pub mod ScaledRule
+pub mod ScaledStep
+pub mod ScaledEight
+pub mod ScaledSame
+pub mod ScaledAnswers
 pub mod Weighed
 pub mod MaskReady
 pub mod MaskAnswers

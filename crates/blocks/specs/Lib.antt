@@ -9,6 +9,7 @@ pub mod Blend
 pub mod Edge
 pub mod Subpel
 pub mod Bilinear
+pub mod Scaled
 pub mod Mask
 pub mod Search
 pub mod Warp

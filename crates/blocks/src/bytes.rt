@@ -10,6 +10,7 @@ pub mod kinds;
 pub mod mask;
 pub mod predict;
 pub mod row;
+pub mod scaled;
 pub mod search;
 pub mod subpel;
 pub mod warp;

@@ -9,6 +9,7 @@ ghost use Rattle.blocks.specs.Subpel.{typeOk, fractionOk, subpelOk, filt
 use crate::refuse::above;
 use crate::refuse::held;
 use crate::refuse::needed;
+use crate::refuse::reads_around;
 use crate::refuse::sizes;
 use crate::refuse::stride;
 use rows::numbers::half_power;
@@ -54,14 +55,7 @@ fn reads_taps(sl: usize, o: usize, s: usize, w: usize, h: usize, x: usize, y: us
     requires { ⌜ (s ≤ 32768) × (w ≤ 64) × (1 ≤ w) × (1 ≤ h) × (h ≤ 64) × (x ≤ 1) × (y ≤ 1) ⌝ }
     ensures { λ r. ⌜ r ≡ reads sl o s w h (3 * x) (4 * x) (3 * y) (4 * y) ⌝ }
 {
-    let last = (h - 1 + 4 * y) * s + (w - 1 + 4 * x);
-    if o < 3 * y * s + 3 * x {
-        return false;
-    }
-    if sl < o {
-        return false;
-    }
-    last < sl - o
+    reads_around(sl, o, s, w, h, 3 * x, 4 * x, 3 * y, 4 * y)
 }
 
 // The tests of the motion and of the tables, as links of the chain.

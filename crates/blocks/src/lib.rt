@@ -11,6 +11,7 @@ pub mod mask;
 pub mod order;
 pub mod refuse;
 pub mod row;
+pub mod scaled;
 pub mod search;
 pub mod shear;
 pub mod subpel;

@@ -11,6 +11,7 @@ use Rattle.blocks.specs.Blend.{blendTests, morphTests}
 use Rattle.blocks.specs.Edge.{edgeTests}
 use Rattle.blocks.specs.Subpel.{subpelTests}
 use Rattle.blocks.specs.Bilinear.{bilinTests}
+use Rattle.blocks.specs.Scaled.{scaledTests}
 use Rattle.blocks.specs.Mask.{wMaskTests}
 use Rattle.blocks.specs.Search.{sadsTests}
 use Rattle.blocks.specs.Warp.{warpTests}
@@ -51,6 +52,11 @@ subpel-order deep dl dstStride sl srcOff srcStride w h mx my filterType tl el = 
 bilin-order : (deep : Bool) (dl dstStride sl srcStride w h : ℕ) (mx my : ℤ) → inOrder 1 (bilinTests deep dl dstStride sl srcStride w h mx my) ≡ true
 unfolding inOrder
 bilin-order deep dl dstStride sl srcStride w h mx my = refl
+
+scaled-order : (eight deep typed tabled : Bool) (dl dstStride sl srcOff srcStride w h : ℕ) (mx my dx dy : ℤ)
+    → inOrder 1 (scaledTests eight deep typed tabled dl dstStride sl srcOff srcStride w h mx my dx dy) ≡ true
+unfolding inOrder
+scaled-order eight deep typed tabled dl dstStride sl srcOff srcStride w h mx my dx dy = refl
 
 w-mask-order : (deep : Bool) (dl dstStride l1 l2 w h ml maskStride : ℕ) (sign : ℤ) (ssHor ssVer : Bool) → inOrder 1 (wMaskTests deep dl dstStride l1 l2 w h ml maskStride sign ssHor ssVer) ≡ true
 unfolding inOrder

@@ -34,7 +34,7 @@ shape-met ds ss w h e =
     record { block = block-met w h (m .0) (m .1 .0); wide = p .0; most = p .1 }
 
 -- ---- the filter that passed its tests is in its table
-family-le : (t side : ℕ) → t ≤ 2 → family t side ≤ 4
+pub family-le : (t side : ℕ) → t ≤ 2 → family t side ≤ 4
 family-le t side h = by-lt 4 side (λ b. rw (← family-high t side b) (omega arith)) λ b. rw (← family-low t side b) (omega arith)
 
 first-of : (a b : Bool) → a || b ≡ true → b ≡ false → a ≡ true

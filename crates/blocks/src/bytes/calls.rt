@@ -7,6 +7,7 @@ ghost use Rattle.blocks.specs.Combine.{AvgAnswer, WAvgAnswer, MaskAnswer
 ghost use Rattle.blocks.specs.Copy.{PrepAnswer};
 ghost use Rattle.blocks.specs.Mask.{WMaskAnswer};
 ghost use Rattle.blocks.specs.Order.{kindOf, OrderPutAnswer, OrderPrepAnswer};
+ghost use Rattle.blocks.specs.Scaled.{Put8ScaledAnswer, Prep8ScaledAnswer, PutBilinScaledAnswer, PrepBilinScaledAnswer};
 ghost use Rattle.blocks.specs.Search.{SadAnswer, RefineAnswer};
 ghost use Rattle.blocks.specs.Subpel.{Put8Answer, Prep8Answer};
 ghost use Rattle.blocks.specs.Warp.{WarpAnswer, WarpTAnswer};
@@ -20,6 +21,10 @@ use super::copy::prep_at;
 use super::mask::w_mask_at;
 use super::predict::order_prep_at;
 use super::predict::order_put_at;
+use super::scaled::prep_8tap_scaled_at;
+use super::scaled::prep_bilin_scaled_at;
+use super::scaled::put_8tap_scaled_at;
+use super::scaled::put_bilin_scaled_at;
 use super::search::sad_nxn_at;
 use super::search::sad_refine_mv_at;
 use super::subpel::prep_8tap_at;
@@ -292,6 +297,146 @@ pub extern "C" fn hv_order_prep_8bpc(
         scratch,
         tmp,
         tmp_stride,
+    )
+}
+
+#[no_mangle]
+pub extern "C" fn hv_put_8tap_scaled_8bpc(
+    dst: &mut [u8],
+    dst_stride: usize,
+    src: &[u8],
+    src_off: usize,
+    src_stride: usize,
+    w: usize,
+    h: usize,
+    mx: i32,
+    my: i32,
+    dx: i32,
+    dy: i32,
+    filter_type: i32,
+    subpel: &[i8],
+) -> u32
+    ensures { λ r. ⌜ Put8ScaledAnswer true 8 (now (dst .entry)) «dst_stride» (now (src .entry)) «src_off» «src_stride» w h mx my dx dy
+        «filter_type» (now (subpel .entry)) r (now (dst .exit)) ⌝ }
+{
+    put_8tap_scaled_at(
+        8,
+        dst,
+        dst_stride,
+        src,
+        src_off,
+        src_stride,
+        w,
+        h,
+        mx,
+        my,
+        dx,
+        dy,
+        filter_type,
+        subpel,
+    )
+}
+
+#[no_mangle]
+pub extern "C" fn hv_prep_8tap_scaled_8bpc(
+    tmp: &mut [i16],
+    tmp_stride: usize,
+    src: &[u8],
+    src_off: usize,
+    src_stride: usize,
+    w: usize,
+    h: usize,
+    mx: i32,
+    my: i32,
+    dx: i32,
+    dy: i32,
+    filter_type: i32,
+    subpel: &[i8],
+) -> u32
+    ensures { λ r. ⌜ Prep8ScaledAnswer true 8 (now (tmp .entry)) «tmp_stride» (now (src .entry)) «src_off» «src_stride» w h mx my dx dy
+        «filter_type» (now (subpel .entry)) r (now (tmp .exit)) ⌝ }
+{
+    prep_8tap_scaled_at(
+        8,
+        tmp,
+        tmp_stride,
+        src,
+        src_off,
+        src_stride,
+        w,
+        h,
+        mx,
+        my,
+        dx,
+        dy,
+        filter_type,
+        subpel,
+    )
+}
+
+#[no_mangle]
+pub extern "C" fn hv_put_bilin_scaled_8bpc(
+    dst: &mut [u8],
+    dst_stride: usize,
+    src: &[u8],
+    src_off: usize,
+    src_stride: usize,
+    w: usize,
+    h: usize,
+    mx: i32,
+    my: i32,
+    dx: i32,
+    dy: i32,
+) -> u32
+    ensures { λ r. ⌜ PutBilinScaledAnswer true 8 (now (dst .entry)) «dst_stride» (now (src .entry)) «src_off» «src_stride» w h mx my dx dy r
+        (now (dst .exit)) ⌝ }
+{
+    put_bilin_scaled_at(
+        8,
+        dst,
+        dst_stride,
+        src,
+        src_off,
+        src_stride,
+        w,
+        h,
+        mx,
+        my,
+        dx,
+        dy,
+    )
+}
+
+#[no_mangle]
+pub extern "C" fn hv_prep_bilin_scaled_8bpc(
+    tmp: &mut [i16],
+    tmp_stride: usize,
+    src: &[u8],
+    src_off: usize,
+    src_stride: usize,
+    w: usize,
+    h: usize,
+    mx: i32,
+    my: i32,
+    dx: i32,
+    dy: i32,
+) -> u32
+    ensures { λ r. ⌜ PrepBilinScaledAnswer true 8 (now (tmp .entry)) «tmp_stride» (now (src .entry)) «src_off» «src_stride» w h mx my dx dy
+        r (now (tmp .exit)) ⌝ }
+{
+    prep_bilin_scaled_at(
+        8,
+        tmp,
+        tmp_stride,
+        src,
+        src_off,
+        src_stride,
+        w,
+        h,
+        mx,
+        my,
+        dx,
+        dy,
     )
 }
 

@@ -1,0 +1,63 @@
+-- Made from crates/blocks/proofs/words/scaled/next_rows/Proof.antt by tools/sets: change that.
+use borrow.Author.Needs.{needs}
+use mathlib.Core.Path.{_≡_, subst}
+use native.Mathlib.Omega.{arith}
+use Prim.Native.Nat.{ℕ, _+_, _-_, _*_, _%_, _≤_, _<_}
+use lib.ListN.{length, getD}
+use Rattle.rows.specs.Scaled.{position, Fetched}
+use Rattle.blocks.specs.Scaled.{lineOf, LastEight}
+use Rattle.blocks.proofs.Laws.ScaledRows.{eight-order, eight-more}
+use Rattle.blocks.proofs.bytes.scaled.next_rows.Statement.{statement}
+use Rattle.blocks.proofs.bytes.scaled.next_rows.Tie as tie
+
+abbrev Inv-loop : tie.InvT-loop
+Inv-loop rows₀ n m src subpel p w by order₀ k₀ rows order k = (k ≤ m) × LastEight w (lineOf src subpel p) k rows order
+
+abbrev μ-loop : tie.MeasureT-loop
+μ-loop rows₀ n m src subpel p w by order₀ k₀ rows order k = m - k
+
+-- the function's entry, from a turn of the loop
+abbrev entry : tie.In-loop Inv-loop μ-loop → tie.Start Inv-loop μ-loop
+entry c = c .before .before .before
+
+-- where the row comes in
+newest : (c : tie.After-turned Inv-loop μ-loop) → getD (c .turned .result) 7 0 ≡ c .before .before .loop .k % 8
+newest c = eight-order (c .before .before .loop .inv .1) _ (c .turned .ensures) .1
+
+-- what is fetched for its columns
+fetched : (c : tie.In-loop Inv-loop μ-loop) (i : ℕ) → let a = entry c .args in
+    i < a .w → Fetched (length (a .src .now)) (a .p .start + c .before .loop .k * a .p .stride) (position (a .p .mx) (a .p .dx) i)
+fetched c i b = entry c .pre .2 .fetched (c .before .loop .k) i (c .loop-test .taken) b
+
+place : (c : tie.In-loop Inv-loop μ-loop) → let a = entry c .args in a .p .start + c .before .loop .k * a .p .stride ≤ length (a .src .now)
+place c = omega (arith, fetched c 0 (omega (arith, entry c .pre .2 .w1)))
+
+scaled-row-requires : tie.Need-scaled-row-requires Inv-loop μ-loop
+scaled-row-requires c κs =
+    let t = c .before .before .before in let l = t .before in let s = entry l in (
+      (l .before .loop .inv .1 .size, omega (arith, newest t, s .pre .2 .w64), s .pre .2 .w64, s .pre .2 .table, s .pre .2 .wide, s .pre .2 .across, s .pre .3),
+      fetched l,
+    )
+
+loop-again : tie.Need-loop-again Inv-loop μ-loop
+unfolding lineOf
+loop-again c =
+    let t = c .before .before .before .before in let l = t .before in let s = entry l in
+    (omega (arith, l .loop-test .taken), rw (c .scaled-row .ensures) (eight-more (l .before .loop .inv .1) (s .pre .2 .w64) _ (t .turned .ensures)))
+
+returns : tie.Need-returns Inv-loop μ-loop
+returns c =
+    let l = c .before .loop in let a = c .before .before .before .args in
+    subst (λ (n : ℕ). LastEight (a .w) (lineOf (a .src .now) (a .subpel .now) (a .p)) n (l .rows) (l .order)) (omega (arith, l .inv .0)) (l .inv .1)
+
+pub next-rows-spec : {M : Type 1} → statement M
+next-rows-spec =
+    tie.close
+    (tie.spec Inv-loop μ-loop (λ c. (c .before .pre .1, c .before .pre .0))
+    (λ c κs. search needs)  -- turned
+    (λ c. search needs)  -- order[7]
+    (λ c. omega (arith, newest c))  -- * 64
+    (λ c. omega (arith, place (c .before .before))) (λ c. omega (arith, place (c .before .before .before)))  -- p.start + k * p.stride
+    scaled-row-requires
+    (λ c. omega arith) (λ c. omega arith) loop-again  -- k += 1
+    returns)

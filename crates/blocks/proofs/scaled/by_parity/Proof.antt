@@ -1,0 +1,14 @@
+use borrow.Author.Needs.{needs}
+use mathlib.Core.Path.{_≡_, refl}
+use native.Mathlib.Omega.{arith}
+use Rattle.blocks.specs.Scaled.{byParity}
+use Rattle.blocks.proofs.Laws.ScaledRows.{parity-even, parity-odd}
+use Rattle.blocks.proofs.scaled.by_parity.Statement.{statement}
+use Rattle.blocks.proofs.scaled.by_parity.Tie as tie
+
+pub by-parity-spec : {M : Type 1} → statement M
+by-parity-spec =
+    tie.close
+    (tie.spec
+    (λ c. search needs) (λ c. search needs)  -- as u32, 16 - f
+    (λ c. parity-even _ (omega (arith, c .if1 .taken))) (λ c. parity-odd _ (omega (arith, c .if1 .left))))

@@ -1,0 +1,21 @@
+use borrow.Author.Needs.{needs}
+use mathlib.Core.Path.{_≡_, ap, _∙_}
+use native.Mathlib.Omega.{arith}
+use Prim.Native.Nat.{ℕ, _+_, _%_}
+use Rattle.rows.specs.Numbers.{up}
+use Rattle.rows.proofs.Laws.Signed.{rd}
+use Rattle.blocks.proofs.Laws.SubpelChoice.{family-low, family-high}
+use Rattle.blocks.proofs.scaled.family_of.Statement.{statement}
+use Rattle.blocks.proofs.scaled.family_of.Tie as tie
+
+-- the type, as it is carried
+t-is : (c : tie.After-above) → c .above .result ≡ up (c .before .args .filter-type)
+t-is c = omega (arith, c .above .ensures, rd (c .before .fits .filter-type))
+
+pub family-of-spec : {M : Type 1} → statement M
+family-of-spec =
+    tie.close
+    (tie.spec
+    (λ c κs. search needs) (λ c. search needs) (λ c. search needs)  -- above, cast, 3 + t % 2
+    (λ c. ap (λ (n : ℕ). 3 + n % 2) (t-is (c .before)) ∙ family-low _ _ (c .if1 .taken))
+    (λ c. t-is (c .before) ∙ family-high _ _ (c .if1 .left)))

@@ -1,0 +1,86 @@
+use mathlib.Core.Path.{_≡_, refl, sym}
+use Prim.Native.Nat.{ℕ, _-_, _*_, _≤_}
+use native.Mathlib.Nat.{mul-le-mul}
+use native.Mathlib.Numerals.{add-one}
+use native.Mathlib.Omega.{arith}
+use borrow.Author.Needs.{needs}
+use mir.Syntax.{w32}
+use Rattle.rows.specs.Numbers.{up}
+use Rattle.rows.specs.Scaled.{position}
+use Rattle.blocks.specs.Scaled.{each, columnRead, readsScaled}
+use Rattle.blocks.proofs.Laws.Told.{told-back}
+use Rattle.blocks.proofs.Laws.ScaledReady.{each-none, column-past}
+use Rattle.blocks.proofs.scaled.reads_scaled.Statement.{statement}
+use Rattle.blocks.proofs.scaled.reads_scaled.Tie as tie
+
+abbrev Inv-loop : tie.InvT-loop
+Inv-loop taps l w h rows start step ok₀ x₀ ok x =
+    (x ≤ w) × (ok ≡ each x (λ k. columnRead taps (l .sl) (l .«src_off») (l .«src_stride») rows (position start step k)))
+
+abbrev μ-loop : tie.MeasureT-loop
+μ-loop taps l w h rows start step ok₀ x₀ ok x = w - x
+
+abbrev begin : tie.Else1 Inv-loop μ-loop → tie.Start Inv-loop μ-loop
+begin c = c .before .before
+
+-- start and step of the rows, and of the columns
+down : (c : tie.After-above2 Inv-loop μ-loop) → let a = c .before .before in let m = begin (a .before .before) .args .m in
+    (a .above .result ≡ up (m .my)) × (c .above2 .result ≡ up (m .dy))
+down c =
+    let g = c .before .struct-told2 .given in
+    (rw (c .before .before .above .ensures, told-back w32 (g .1)) refl, rw (c .above2 .ensures, told-back w32 (g .1 .1 .1)) refl)
+
+across : (c : tie.After-above4 Inv-loop μ-loop) → let a = c .before .before in let m = begin (a .before .before .before .before .before .before) .args .m in
+    (a .above3 .result ≡ up (m .mx)) × (c .above4 .result ≡ up (m .dx))
+across c =
+    let g = c .before .struct-told4 .given in
+    (rw (c .before .before .above3 .ensures, told-back w32 g) refl, rw (c .above4 .ensures, told-back w32 (g .1 .1)) refl)
+
+-- as far as 63 steps lead
+far : (k step : ℕ) → k ≤ 63 → step ≤ 4096 → k * step ≤ 63 * 4096
+far k step p q = mul-le-mul p q
+
+last-row : (c : tie.After-above2 Inv-loop μ-loop) → (begin (c .before .before .before .before) .args .h - 1) * c .above2 .result ≤ 63 * 4096
+last-row c = far _ _ (omega arith) (omega (arith, down c))
+
+column : (c : tie.In-loop Inv-loop μ-loop) → c .before .loop .x * c .before .before .above4 .result ≤ 63 * 4096
+column c = far _ _ (omega arith) (omega (arith, across (c .before .before)))
+
+returns : tie.Need-returns Inv-loop μ-loop
+unfolding readsScaled
+returns c =
+    let a = c .before .before .args in
+    sym (each-none (a .w) _ 0 (omega arith) (column-past (a .taps) (a .l .sl) (a .l .«src_off») (a .l .«src_stride») _ _ (omega arith)))
+
+column-read-requires : tie.Need-column-read-requires Inv-loop μ-loop
+column-read-requires c κs =
+    let b = c .before .before in let d = b .before .before .before .before in
+    omega (arith, across b, column c, down d, last-row d)
+
+loop-again : tie.Need-loop-again Inv-loop μ-loop
+unfolding each
+loop-again c =
+    let l = c .before .before .loop in
+    (omega arith, rw (c .column-read .ensures, add-one (l .x), l .inv .1) refl)
+
+returns-2 : tie.Need-returns-2 Inv-loop μ-loop
+unfolding readsScaled
+returns-2 c =
+    let l = c .before .loop in
+    let b = c .before .before in
+    let d = b .before .before .before .before in
+    let e : l .x ≡ begin (d .before .before .before .before) .args .w = omega arith in
+    rw (l .inv .1, e, across b .0, across b .1, down d .0, down d .1) refl
+
+pub reads-scaled-spec : {M : Type 1} → statement M
+unfolding each
+reads-scaled-spec =
+    tie.close
+    (tie.spec
+    Inv-loop μ-loop returns
+    (λ c κs. search needs) (λ c. search needs) (λ c. search needs) (λ c κs. search needs) (λ c. search needs)  -- above, cast-rows, sub-rows, above, cast-rows
+    (λ c. omega (arith, last-row c)) (λ c. omega (arith, down c, last-row c)) (λ c. omega (arith, down c, last-row c))  -- mul-rows, add-rows, add-rows-2
+    (λ c κs. search needs) (λ c. search needs) (λ c κs. search needs) (λ c. search needs)  -- above, cast-start, above, cast-step
+    (λ c. (omega arith, refl))  -- loop-holds
+    (λ c. omega (arith, column c)) (λ c. omega (arith, across (c .before .before), column c))  -- mul-column-read, add-column-read
+    column-read-requires (λ c. search needs) (λ c. search needs) loop-again returns-2)  -- column-read, add-x, loop-less

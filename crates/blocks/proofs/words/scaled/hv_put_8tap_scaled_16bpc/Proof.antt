@@ -1,0 +1,76 @@
+use mathlib.Core.Path.{_≡_, sym, _∙_}
+use mathlib.Core.Bool.{true}
+use native.Mathlib.Omega.{arith}
+use lib.ListN.{length}
+use borrow.Author.Needs.{needs}
+use Rattle.rows.proofs.Laws.Signed.{back}
+use Rattle.blocks.specs.Refuse.{lowest}
+use Rattle.blocks.specs.words.Depth.{depthOk}
+use Rattle.blocks.specs.Subpel.{subpelOk}
+use Rattle.blocks.specs.Scaled.{scaledTypeOk, scaledTests, scaledPlan}
+use Rattle.blocks.proofs.Laws.words.Deep.{deep-bits, deep-max}
+use Rattle.blocks.proofs.Laws.Refuse.{done, refused}
+use Rattle.blocks.proofs.Laws.ScaledReady.{ScaledMet, scaled-ready, taps-met}
+use Rattle.blocks.proofs.Laws.ScaledRule.{put-planned}
+use Rattle.blocks.proofs.words.scaled.hv_put_8tap_scaled_16bpc.Statement.{statement}
+use Rattle.blocks.proofs.words.scaled.hv_put_8tap_scaled_16bpc.Tie as tie
+
+abbrev begin : tie.After-check-scaled → tie.Start
+begin c = c .before .before .before .before .before
+
+number : (c : tie.After-check-scaled) → let a = begin c .args in
+    c .check-scaled .result ≡ lowest (scaledTests true (depthOk (a .depth)) (scaledTypeOk (a .filter-type)) (subpelOk (length (a .subpel .now)))
+    (length (a .dst .now)) (a .dst-stride) (length (a .src .now)) (a .src-off) (a .src-stride) (a .w) (a .h) (a .mx) (a .my) (a .dx) (a .dy))
+unfolding subpelOk
+number c =
+    let f = begin c .fits in let t = c .before in
+    rw (
+      t .scaled-type-ok .ensures,
+      t .before .depth-ok .ensures,
+      back (f .depth),
+      back (f .filter-type),
+      back (f .mx),
+      back (f .my),
+      back (f .dx),
+      back (f .dy),
+    ) at (c .check-scaled .ensures)
+
+met : (c : tie.Then1) → let a = begin (c .before) .args in
+    ScaledMet true (depthOk (a .depth)) (scaledTypeOk (a .filter-type)) (subpelOk (length (a .subpel .now)))
+    (length (a .dst .now)) (a .dst-stride) (length (a .src .now)) (a .src-off) (a .src-stride) (a .w) (a .h) (a .mx) (a .my) (a .dx) (a .dy)
+met c = scaled-ready true _ _ _ _ _ _ _ _ _ _ _ _ _ _ (sym (number (c .before)) ∙ c .if1 .taken)
+
+returns : tie.Need-returns
+returns c =
+    let e = c .before .before in let p = e .before .before in let d = p .before in let t = d .before in let m = met t in
+    let f = begin (t .before) .fits in
+    let q =
+    rw (
+      p .scaled-plan .ensures,
+      d .depth-numbers .ensures,
+      back (f .depth),
+      back (f .filter-type),
+      back (f .mx),
+      back (f .my),
+      back (f .dx),
+      back (f .dy),
+    ) at (e .put-8tap-scaled-rows .ensures) in (
+      number (t .before),
+      q ∙ put-planned _ _ _ _ _ _ _ _ _ _ _ _ (taps-met _ _ m 0 .0) _ _ _ (omega (arith, m .rows, m .block)) ∙ sym (done _ _ _ (t .if1 .taken)),
+    )
+
+put-8tap-scaled-rows-requires : tie.Need-put-8tap-scaled-rows-requires
+unfolding scaledPlan
+put-8tap-scaled-rows-requires c κs =
+    let p = c .before in let d = p .before in let t = d .before in let m = met t in let f = begin (t .before) .fits in
+    rw (p .scaled-plan .ensures, d .depth-numbers .ensures, back (f .depth), back (f .filter-type), back (f .mx), back (f .my), back (f .dx), back (f .dy))
+    (m .block, m .rows, taps-met _ _ m _ .1, deep-bits _ (m .deep), deep-max _ (m .deep))
+
+pub hv-put-8tap-scaled-16bpc-spec : {M : Type 1} → statement M
+hv-put-8tap-scaled-16bpc-spec =
+    tie.close
+    (tie.spec (λ c κs. search needs) (λ c κs. search needs) (λ c κs. search needs)  -- depth-ok, scaled-type-ok, check-scaled
+    (λ c κs. rw (back (begin (c .before) .fits .depth)) (met c .deep))  -- depth-numbers
+    (λ c. omega (arith, met (c .before) .most)) (λ c. taps-met _ _ (met (c .before)) 0 .0)  -- src_off - 3 * src_stride
+    (λ c κs. search needs)  -- scaled-plan
+    put-8tap-scaled-rows-requires (λ c. search needs) returns (λ c. (number (c .before), sym (refused _ _ _ (c .if1 .left)))))

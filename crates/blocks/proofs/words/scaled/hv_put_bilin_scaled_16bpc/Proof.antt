@@ -1,0 +1,56 @@
+use mathlib.Core.Path.{_≡_, sym, _∙_}
+use mathlib.Core.Bool.{true, false}
+use native.Mathlib.Omega.{arith}
+use lib.IntN.{pos}
+use lib.ListN.{length}
+use borrow.Author.Needs.{needs}
+use Rattle.rows.specs.Numbers.{up}
+use Rattle.rows.proofs.Laws.Signed.{back}
+use Rattle.blocks.specs.Refuse.{lowest}
+use Rattle.blocks.specs.words.Depth.{depthOk}
+use Rattle.blocks.specs.Scaled.{scaledTests, scaledPlan}
+use Rattle.blocks.proofs.Laws.words.Deep.{deep-bits, deep-max}
+use Rattle.blocks.proofs.Laws.Refuse.{done, refused}
+use Rattle.blocks.proofs.Laws.ScaledReady.{ScaledMet, scaled-ready, even-bits, pairs-met}
+use Rattle.blocks.proofs.Laws.ScaledRule.{put-paired}
+use Rattle.blocks.proofs.words.scaled.hv_put_bilin_scaled_16bpc.Statement.{statement}
+use Rattle.blocks.proofs.words.scaled.hv_put_bilin_scaled_16bpc.Tie as tie
+
+abbrev begin : tie.After-check-scaled → tie.Start
+begin c = c .before .before .before .before
+
+number : (c : tie.After-check-scaled) → let a = begin c .args in
+    c .check-scaled .result ≡ lowest (scaledTests false (depthOk (a .depth)) true true
+    (length (a .dst .now)) (a .dst-stride) (length (a .src .now)) (a .src-off) (a .src-stride) (a .w) (a .h) (a .mx) (a .my) (a .dx) (a .dy))
+number c =
+    let f = begin c .fits in
+    rw (c .before .depth-ok .ensures, back (f .depth), back (f .mx), back (f .my), back (f .dx), back (f .dy)) at (c .check-scaled .ensures)
+
+met : (c : tie.Then1) → let a = begin (c .before) .args in
+    ScaledMet false (depthOk (a .depth)) true true
+    (length (a .dst .now)) (a .dst-stride) (length (a .src .now)) (a .src-off) (a .src-stride) (a .w) (a .h) (a .mx) (a .my) (a .dx) (a .dy)
+met c = scaled-ready false _ _ _ _ _ _ _ _ _ _ _ _ _ _ (sym (number (c .before)) ∙ c .if1 .taken)
+
+returns : tie.Need-returns
+returns c =
+    let e = c .before .before in let p = e .before .before in let d = p .before in let t = d .before in let m = met t in
+    let f = begin (t .before) .fits in
+    let q =
+    rw (p .scaled-plan .ensures, d .depth-numbers .ensures, back (f .depth), back (f .mx), back (f .my), back (f .dx), back (f .dy))
+    at (e .put-bilin-scaled-rows .ensures) in
+    (number (t .before), q ∙ put-paired _ _ _ _ _ _ _ _ _ _ _ _ _ _ (omega (arith, m .rows, m .block)) ∙ sym (done _ _ _ (t .if1 .taken)))
+
+put-bilin-scaled-rows-requires : tie.Need-put-bilin-scaled-rows-requires
+unfolding scaledPlan
+put-bilin-scaled-rows-requires c κs =
+    let p = c .before in let d = p .before in let t = d .before in let m = met t in let f = begin (t .before) .fits in
+    rw (p .scaled-plan .ensures, d .depth-numbers .ensures, back (f .depth), back (f .mx), back (f .my), back (f .dx), back (f .dy))
+    (m .block, m .rows, pairs-met m (pos 0) _ (even-bits (up (begin (t .before) .args .depth))), deep-bits _ (m .deep), deep-max _ (m .deep))
+
+pub hv-put-bilin-scaled-16bpc-spec : {M : Type 1} → statement M
+hv-put-bilin-scaled-16bpc-spec =
+    tie.close
+    (tie.spec (λ c κs. search needs) (λ c κs. search needs)  -- depth-ok, check-scaled
+    (λ c κs. rw (back (begin (c .before) .fits .depth)) (met c .deep))  -- depth-numbers
+    (λ c κs. search needs)  -- scaled-plan
+    put-bilin-scaled-rows-requires (λ c. search needs) returns (λ c. (number (c .before), sym (refused _ _ _ (c .if1 .left)))))
