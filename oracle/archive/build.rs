@@ -10,7 +10,7 @@ const VARIABLE: &str = "HEMAVOLUPS_ARCHIVE";
 const PLACES: [&str; 2] = ["../dist/libblocks.a", "../target/staticlib/libblocks.a"];
 
 /// The functions that have a byte set and a 16-bit set.
-const WITH_SETS: [&str; 21] = [
+const WITH_SETS: [&str; 25] = [
     "hv_put",
     "hv_prep",
     "hv_avg",
@@ -24,6 +24,10 @@ const WITH_SETS: [&str; 21] = [
     "hv_prep_8tap",
     "hv_put_bilin",
     "hv_prep_bilin",
+    "hv_put_8tap_scaled",
+    "hv_prep_8tap_scaled",
+    "hv_put_bilin_scaled",
+    "hv_prep_bilin_scaled",
     "hv_sad_nxn",
     "hv_sad_refine_mv",
     "hv_warp_affine_8x8",

@@ -2,6 +2,7 @@
 //! way: a type of its own with `Answers` for each call.
 
 pub mod order;
+mod scaled;
 
 use original::headers::WarpedMotionParams;
 use original::levels::MvXY;

@@ -25,6 +25,7 @@ macro_rules! lowest {
 }
 
 mod order;
+mod scaled;
 
 /// Is a number outside its range?
 fn outside(value: i128, low: i128, high: i128) -> bool {

@@ -129,6 +129,23 @@ sets! { PrepBilin: hv_prep_bilin_8bpc, depth hv_prep_bilin_16bpc;
 tmp: *mut i16, tmp_len: usize, tmp_stride: usize, src: *const P, src_len: usize, src_stride: usize, w: usize,
 h: usize, mx: i32, my: i32 }
 
+sets! { Put8tapScaled: hv_put_8tap_scaled_8bpc, depth hv_put_8tap_scaled_16bpc;
+dst: *mut P, dst_len: usize, dst_stride: usize, src: *const P, src_len: usize, src_off: usize, src_stride: usize,
+w: usize, h: usize, mx: i32, my: i32, dx: i32, dy: i32, filter_type: i32, subpel: *const i8, subpel_len: usize }
+
+sets! { Prep8tapScaled: hv_prep_8tap_scaled_8bpc, depth hv_prep_8tap_scaled_16bpc;
+tmp: *mut i16, tmp_len: usize, tmp_stride: usize, src: *const P, src_len: usize, src_off: usize,
+src_stride: usize, w: usize, h: usize, mx: i32, my: i32, dx: i32, dy: i32, filter_type: i32, subpel: *const i8,
+subpel_len: usize }
+
+sets! { PutBilinScaled: hv_put_bilin_scaled_8bpc, depth hv_put_bilin_scaled_16bpc;
+dst: *mut P, dst_len: usize, dst_stride: usize, src: *const P, src_len: usize, src_off: usize, src_stride: usize,
+w: usize, h: usize, mx: i32, my: i32, dx: i32, dy: i32 }
+
+sets! { PrepBilinScaled: hv_prep_bilin_scaled_8bpc, depth hv_prep_bilin_scaled_16bpc;
+tmp: *mut i16, tmp_len: usize, tmp_stride: usize, src: *const P, src_len: usize, src_off: usize,
+src_stride: usize, w: usize, h: usize, mx: i32, my: i32, dx: i32, dy: i32 }
+
 sets! { SadNxn: hv_sad_nxn_8bpc, depth hv_sad_nxn_16bpc;
 p0: *const P, p0_len: usize, p0_stride: usize, p1: *const P, p1_len: usize, p1_stride: usize, w: usize, h: usize,
 sum: *mut i32 }

@@ -5,6 +5,7 @@ pub mod combine;
 pub mod copy;
 pub mod edge;
 pub mod order;
+pub mod scaled;
 pub mod search;
 pub mod shear;
 pub mod subpel;

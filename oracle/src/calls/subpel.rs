@@ -78,7 +78,7 @@ pub fn motion(rng: &mut Rng, faults: &Faults, numbers_wrong: [bool; 3]) -> Motio
 }
 
 /// The offset and the length of a source that must hold `before` places before the block and `after` from its first on.
-fn place(rng: &mut Rng, faults: &Faults, before: u128, after: u128, wrong: bool) -> (usize, usize) {
+pub fn place(rng: &mut Rng, faults: &Faults, before: u128, after: u128, wrong: bool) -> (usize, usize) {
     let lead = before.min(1 << 40) as usize;
     if !wrong {
         let longer = rng.place(0, 90);

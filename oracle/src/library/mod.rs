@@ -5,6 +5,7 @@ mod combine;
 mod copy;
 mod edge;
 mod order;
+mod scaled;
 mod search;
 mod shear;
 mod subpel;

@@ -6,7 +6,7 @@ use crate::answer::{Answer, Buffer, Px};
 use crate::calls::bilinear::{PrepBilin, PutBilin, Source};
 
 /// Bilinear of a, b at f: 16a + f(b-a).
-fn between(a: i64, b: i64, f: i32) -> i64 {
+pub fn between(a: i64, b: i64, f: i32) -> i64 {
     16 * a + f as i64 * (b - a)
 }
 

@@ -6,6 +6,7 @@ mod combine;
 mod copy;
 mod edge;
 mod order;
+mod scaled;
 mod search;
 pub mod shear;
 mod subpel;

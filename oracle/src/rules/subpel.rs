@@ -6,7 +6,7 @@ use crate::answer::{Answer, Buffer, Px};
 use crate::calls::subpel::{Prep8tap, Put8tap, Source};
 
 /// Eight taps, standing at -3 to +4.
-type Filter = [i64; 8];
+pub type Filter = [i64; 8];
 
 /// The two filters of a call, none where a fraction is 0, and N.
 struct Filters {
@@ -15,20 +15,25 @@ struct Filters {
     n: u32,
 }
 
-/// The filter for a fraction on an axis whose side is this long.
-fn filter<P: Px>(from: &Source<P>, fraction: i32, side: usize) -> Option<Filter> {
-    if fraction == 0 {
-        return None;
-    }
-    let number = fraction as usize - 1;
-    let table = if from.filter_type == -1 { &from.ext } else { &from.subpel };
-    let family = match from.filter_type {
-        -1 => 0,
-        kind if side > 4 => kind as usize,
-        kind => 3 + (kind & 1) as usize,
-    };
+/// The filter for a fraction in a family of a table; none for fraction 0.
+fn family_filter(table: &[i8], family: usize, fraction: i32) -> Option<Filter> {
+    let number = (fraction as usize).checked_sub(1)?;
     let first = 8 * (15 * family + number);
     Some(std::array::from_fn(|tap| table[first + tap] as i64))
+}
+
+/// The subpel filter of a type, 0 to 2, for a fraction on an axis whose side is this long.
+pub fn subpel_filter(subpel: &[i8], filter_type: i32, fraction: i32, side: usize) -> Option<Filter> {
+    let family = if side > 4 { filter_type } else { 3 + (filter_type & 1) };
+    family_filter(subpel, family as usize, fraction)
+}
+
+/// The filter for a fraction on an axis whose side is this long.
+fn filter<P: Px>(from: &Source<P>, fraction: i32, side: usize) -> Option<Filter> {
+    match from.filter_type {
+        -1 => family_filter(&from.ext, 0, fraction),
+        filter_type => subpel_filter(&from.subpel, filter_type, fraction, side),
+    }
 }
 
 /// Both filters of a call: width chooses the one across, height the one down.
@@ -47,7 +52,7 @@ fn pixel<P: Px>(from: &Source<P>, x: i64, y: i64) -> i64 {
 }
 
 /// S: the filter's sum of what stands at its taps.
-fn sum(filter: &Filter, at: impl Fn(i64) -> i64) -> i64 {
+pub fn sum(filter: &Filter, at: impl Fn(i64) -> i64) -> i64 {
     (0..8).map(|tap| filter[tap] * at(tap as i64 - 3)).sum()
 }
 
