@@ -6,13 +6,16 @@
 //! least byte comes first.
 //!
 //! - The function: 1 to 17 in the order of `every_entry!` for the byte set, 18 to 34 for the 16-bit set, then the three
-//!   without a set. 0 is none.
+//!   without a set, 35 to 37. Where scaled kernels are asked for: 38 to 41 for the byte set, 42 to 45 for the 16-bit set.
+//!   0 is none.
 //! - A buffer, in the interface's order (an unused one has length 0): its length; the count of the values it comes with, which
 //!   repeat, and the place of the first in the record; then stride, row, rows and the place of the values that are left
 //!   in the first `row` columns of the first `rows` rows. Other places are left as they came.
 //! - Numbers: the parameters that aren't buffers, a record's entries too, in the interface's order; then the results, and
 //!   what a record is left with.
 //! - Values: one byte each for u8 and i8, two for u16 and i16.
+
+mod scaled;
 
 use std::collections::BTreeMap;
 use std::fs;
@@ -533,19 +536,25 @@ fn record_entry<C: Recorded, S: Answers<C>>(depth: Option<i32>, amount: Amount) 
 
 /// The function's number in the list, of the entry that comes after so many sets and depths.
 fn function(after: usize) -> u16 {
+    // Each entry that has sets comes at depth 8, 10 and 12.
+    let of_set = |first: usize, words: usize, after: usize| match after % 3 {
+        0 => first + after / 3,
+        _ => words + after / 3,
+    };
     let number = match after {
-        0..51 if after % 3 == 0 => 1 + after / 3,
-        0..51 => 18 + after / 3,
-        _ => after - 16,
+        0..51 => of_set(1, 18, after),
+        51..54 => after - 16,
+        _ => of_set(38, 42, after - 54),
     };
     number as u16
 }
 
-/// Writes the list of so many calls of each entry and depth, and says whether it could.
-pub fn write(amount: Amount, file: &str) -> bool {
+/// Writes the list of so many calls of each entry and depth, of the scaled ones too where they are asked for, and says
+/// whether it could.
+pub fn write(amount: Amount, with_scaled: bool, file: &str) -> bool {
     let mut list = vec![];
     let (mut after, mut count) = (0, 0);
-    every_entry!(kernels record_entry of Original, amount, |all: Records| {
+    let mut each = |all: Records| {
         println!("{:<18} {:>5}  {:?} {:?}", all.name, shown(all.depth), all.numbers, all.rare);
         count += all.records.len();
         for record in all.records {
@@ -554,7 +563,11 @@ pub fn write(amount: Amount, file: &str) -> bool {
             list.extend(record);
         }
         after += 1;
-    });
+    };
+    every_entry!(kernels record_entry of Original, amount, each);
+    if with_scaled {
+        every_entry!(scaled record_entry of Original, amount, each);
+    }
     let Ok(records) = u16::try_from(count) else {
         return false;
     };
