@@ -5,6 +5,7 @@ use original::pixel::{BitDepth, BitDepth8, BitDepth16};
 use original::tables::with_tables;
 
 use super::{case, room};
+use crate::answer::Room;
 use crate::calls::{bilinear, subpel, warp};
 use crate::tables::{real_ext, real_subpel, real_warp};
 
@@ -119,11 +120,7 @@ fn warps() -> Vec<String> {
 /// cut to -28580, and minus 8192 it wraps to 28764.
 fn sixteen_bits() -> String {
     let (subpel, ext) = (real_subpel(), real_ext());
-    let filter = 8 * (15 * 2 + 7);
-    // A pixel is 1023 where the product of its two taps is above 0, else 0: the greatest sum.
-    let taps: Vec<i8> = subpel[filter..filter + 8].to_vec();
-    let src: Vec<u16> = (0..12 * 12).map(|place| greatest(&taps, place % 12, place / 12)).collect();
-    let (src, src_stride) = (room(&src), 12);
+    let (src, src_stride) = (greatest_sum(), 12);
     let from = subpel::Source {
         depth: 10,
         src,
@@ -150,6 +147,14 @@ fn sixteen_bits() -> String {
             String::new()
         },
     )
+}
+
+/// Twelve rows of twelve pixels at depth 10, on which filter 7 of family 2, taken both ways, has the greatest sum: a pixel
+/// is 1023 where the product of its two taps is above 0, else 0.
+pub fn greatest_sum() -> Room<u16> {
+    let filter = 8 * (15 * 2 + 7);
+    let taps = &real_subpel()[filter..filter + 8];
+    Room((0..12 * 12).map(|place| greatest(taps, place % 12, place / 12)).collect())
 }
 
 /// The pixel at a column and row that makes the first place's sum the greatest.

@@ -4,6 +4,7 @@
 mod copied;
 mod filtered;
 mod motion;
+mod scaled;
 
 use std::panic::{self, AssertUnwindSafe};
 
@@ -33,7 +34,7 @@ pub fn print() {
     // A panic is told in its row.
     panic::set_hook(Box::new(|_| {}));
     println!("| entry | what | call | the Rust | number |\n|---|---|---|---|---|");
-    let cases = [copied::cases(), filtered::cases(), motion::cases()];
+    let cases = [copied::cases(), filtered::cases(), scaled::cases(), motion::cases()];
     for row in cases.concat() {
         println!("{row}");
     }
