@@ -15,7 +15,7 @@
  * - A single result is a pointer, never null; so are matrix (6 entries) and abcd (4).
  * - Nothing that is written overlaps anything else that the call was lent. What is only read may overlap.
  * - A bool is 0 or 1.
- * - 8-tap takes src_off before src_stride, warp takes src_stride before src_off.
+ * - 8-tap and the scaled functions take src_off before src_stride, warp takes src_stride before src_off.
  *
  * Words used below:
  * - Strides, offsets and places count elements, not bytes. A stride is from the row that it carries (a source's w, a
@@ -28,7 +28,8 @@
  * - Tables are lent by the caller. A filter is 8 numbers. subpel has 600 numbers, 5 families of 15 filters; ext and
  *   warp have any whole number of filters, none too; recip has 129 numbers. A wrong length is HV_TABLE, also where the
  *   table isn't used.
- * - mx and my of a block are fractions of a pixel in sixteenths, 0 to 15; 0 means no filter on that axis.
+ * - mx and my of a block are fractions of a pixel in sixteenths, 0 to 15; 0 means no filter on that axis. The scaled
+ *   functions and warp have their own.
  */
 #ifndef HEMAVOLUPS_H
 #define HEMAVOLUPS_H
@@ -108,6 +109,53 @@ uint32_t hv_prep_bilin_8bpc(int16_t *tmp, size_t tmp_len, size_t tmp_stride, con
     size_t src_stride, size_t w, size_t h, int32_t mx, int32_t my);
 uint32_t hv_prep_bilin_16bpc(int32_t depth, int16_t *tmp, size_t tmp_len, size_t tmp_stride,
     const uint16_t *src, size_t src_len, size_t src_stride, size_t w, size_t h, int32_t mx, int32_t my);
+
+/*
+ * Scaled: predicts a block from a reference of another size. The block's first pixel is src[src_off]. Column x of the
+ * block stands at mx + x dx, row y at my + y dy, in 1/1024 of a pixel of the source: the whole pixel is that >> 10, and
+ * the top four bits of the fraction, in sixteenths, choose the filter of that column or row. The starts mx and my are 0
+ * to 1023, the steps dx and dy 0 to 4096; 1024 is no scaling.
+ *
+ * src has to hold each place that is fetched, whether or not a pixel comes of it. 8-tap fetches every row from -3 to
+ * ((my + (h - 1) dy) >> 10) + 4, and in each, for every x with c = (mx + x dx) >> 10, column c alone where its
+ * sixteenths are 0, else c - 3 to c + 4. Bilinear fetches every row from 0 to ((my + (h - 1) dy) >> 10) + 1, and in
+ * each always c and c + 1. src_stride is from w, also where more of a row is fetched.
+ *
+ * Without a fraction a pixel is no copy: it goes through the intermediate, which has 16 bits, and is clipped.
+ */
+
+/*
+ * Predicts a block of pixels by 8 taps. filter_type is 0 to 2; families go by w and h as in hv_put_8tap, and there is
+ * no ext. Writes dst. Numbers 1 2 3 4 5 6.
+ */
+uint32_t hv_put_8tap_scaled_8bpc(uint8_t *dst, size_t dst_len, size_t dst_stride, const uint8_t *src, size_t src_len,
+    size_t src_off, size_t src_stride, size_t w, size_t h, int32_t mx, int32_t my, int32_t dx, int32_t dy,
+    int32_t filter_type, const int8_t *subpel, size_t subpel_len);
+uint32_t hv_put_8tap_scaled_16bpc(int32_t depth, uint16_t *dst, size_t dst_len, size_t dst_stride,
+    const uint16_t *src, size_t src_len, size_t src_off, size_t src_stride, size_t w, size_t h, int32_t mx, int32_t my,
+    int32_t dx, int32_t dy, int32_t filter_type, const int8_t *subpel, size_t subpel_len);
+
+/* Predicts a block's intermediate by 8 taps. Writes tmp. Numbers 1 2 3 4 5 6. */
+uint32_t hv_prep_8tap_scaled_8bpc(int16_t *tmp, size_t tmp_len, size_t tmp_stride, const uint8_t *src, size_t src_len,
+    size_t src_off, size_t src_stride, size_t w, size_t h, int32_t mx, int32_t my, int32_t dx, int32_t dy,
+    int32_t filter_type, const int8_t *subpel, size_t subpel_len);
+uint32_t hv_prep_8tap_scaled_16bpc(int32_t depth, int16_t *tmp, size_t tmp_len, size_t tmp_stride,
+    const uint16_t *src, size_t src_len, size_t src_off, size_t src_stride, size_t w, size_t h, int32_t mx, int32_t my,
+    int32_t dx, int32_t dy, int32_t filter_type, const int8_t *subpel, size_t subpel_len);
+
+/* Predicts a block of pixels, bilinear. Writes dst. Numbers 1 2 3 5 6. */
+uint32_t hv_put_bilin_scaled_8bpc(uint8_t *dst, size_t dst_len, size_t dst_stride, const uint8_t *src, size_t src_len,
+    size_t src_off, size_t src_stride, size_t w, size_t h, int32_t mx, int32_t my, int32_t dx, int32_t dy);
+uint32_t hv_put_bilin_scaled_16bpc(int32_t depth, uint16_t *dst, size_t dst_len, size_t dst_stride,
+    const uint16_t *src, size_t src_len, size_t src_off, size_t src_stride, size_t w, size_t h, int32_t mx, int32_t my,
+    int32_t dx, int32_t dy);
+
+/* Predicts a block's intermediate, bilinear. Writes tmp. Numbers 1 2 3 5 6. */
+uint32_t hv_prep_bilin_scaled_8bpc(int16_t *tmp, size_t tmp_len, size_t tmp_stride, const uint8_t *src, size_t src_len,
+    size_t src_off, size_t src_stride, size_t w, size_t h, int32_t mx, int32_t my, int32_t dx, int32_t dy);
+uint32_t hv_prep_bilin_scaled_16bpc(int32_t depth, int16_t *tmp, size_t tmp_len, size_t tmp_stride,
+    const uint16_t *src, size_t src_len, size_t src_off, size_t src_stride, size_t w, size_t h, int32_t mx, int32_t my,
+    int32_t dx, int32_t dy);
 
 /* Combine: two intermediates without gaps become a block of pixels. Writes dst. */
 
