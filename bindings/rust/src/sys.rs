@@ -71,6 +71,22 @@ prep_bilin: hv_prep_bilin_8bpc, hv_prep_bilin_16bpc, [depth],
     tmp: *mut i16, tmp_len: usize, tmp_stride: usize, src: *const P, src_len: usize, src_stride: usize, w: usize,
     h: usize, mx: i32, my: i32;
 
+put_8tap_scaled: hv_put_8tap_scaled_8bpc, hv_put_8tap_scaled_16bpc, [depth],
+    dst: *mut P, dst_len: usize, dst_stride: usize, src: *const P, src_len: usize, src_off: usize, src_stride: usize,
+    w: usize, h: usize, mx: i32, my: i32, dx: i32, dy: i32, filter_type: i32, subpel: *const i8, subpel_len: usize;
+
+prep_8tap_scaled: hv_prep_8tap_scaled_8bpc, hv_prep_8tap_scaled_16bpc, [depth],
+    tmp: *mut i16, tmp_len: usize, tmp_stride: usize, src: *const P, src_len: usize, src_off: usize, src_stride: usize,
+    w: usize, h: usize, mx: i32, my: i32, dx: i32, dy: i32, filter_type: i32, subpel: *const i8, subpel_len: usize;
+
+put_bilin_scaled: hv_put_bilin_scaled_8bpc, hv_put_bilin_scaled_16bpc, [depth],
+    dst: *mut P, dst_len: usize, dst_stride: usize, src: *const P, src_len: usize, src_off: usize, src_stride: usize,
+    w: usize, h: usize, mx: i32, my: i32, dx: i32, dy: i32;
+
+prep_bilin_scaled: hv_prep_bilin_scaled_8bpc, hv_prep_bilin_scaled_16bpc, [depth],
+    tmp: *mut i16, tmp_len: usize, tmp_stride: usize, src: *const P, src_len: usize, src_off: usize, src_stride: usize,
+    w: usize, h: usize, mx: i32, my: i32, dx: i32, dy: i32;
+
 avg: hv_avg_8bpc, hv_avg_16bpc, [depth],
     dst: *mut P, dst_len: usize, dst_stride: usize, tmp1: *const i16, tmp1_len: usize, tmp2: *const i16,
     tmp2_len: usize, w: usize, h: usize;
