@@ -12,7 +12,8 @@ use crate::room::Room;
 #[rustfmt::skip]
 pub trait Library<P>:
     Put<P> + Prep<P> + Avg<P> + WAvg<P> + Mask<P> + Blend<P> + Morph<P> + WMask<P> + EmuEdge<P> + Put8tap<P>
-    + Prep8tap<P> + PutBilin<P> + PrepBilin<P> + SadNxn<P> + SadRefineMv<P> + WarpAffine<P> + WarpAffineT<P> {}
+    + Prep8tap<P> + PutBilin<P> + PrepBilin<P> + Put8tapScaled<P> + Prep8tapScaled<P> + PutBilinScaled<P>
+    + PrepBilinScaled<P> + SadNxn<P> + SadRefineMv<P> + WarpAffine<P> + WarpAffineT<P> {}
 
 impl Library<u8> for Linked {}
 impl Library<u16> for Linked {}

@@ -3,9 +3,10 @@
 use original::pixel::{BitDepth, Pixel};
 use original::real_tables::{EXT_WARP_FILTER, MC_SUBPEL_FILTERS, MC_WARP_FILTER};
 
-/// Columns of every picture, and its places: blocks of 64 with taps or offsets around them.
+/// Columns of every picture, and its places: blocks of 64 at twice the step, with taps or offsets around them. The last
+/// taps of such a scaled row are the next row's first pixels.
 const STRIDE: usize = 128;
-const PLACES: usize = STRIDE * (64 + 16);
+const PLACES: usize = STRIDE * (2 * 64 + 16);
 
 pub struct Room<BD: BitDepth> {
     pub bd: BD,

@@ -3,6 +3,7 @@
 mod combined;
 mod copied;
 mod filtered;
+mod scaled;
 mod searched;
 mod warped;
 
@@ -21,6 +22,7 @@ where
     let mut kernels = copied::kernels();
     kernels.extend(combined::kernels());
     kernels.extend(filtered::kernels());
+    kernels.extend(scaled::kernels());
     kernels.extend(searched::kernels());
     kernels.extend(warped::kernels());
     kernels
