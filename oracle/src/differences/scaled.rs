@@ -78,6 +78,7 @@ fn outside() -> Vec<String> {
         case("type -2, narrow: family 3", put_8tap(at(64), -2), run_put_8tap),
         case("start 1024 across", put_8tap(Source { my: 0, ..at(1024) }, 0), run_put_8tap),
         case("start 1024 down: a row on", put_bilin(Source { my: 1024, ..pair.clone() }), run_put_bilin),
+        case("start -1 down: row -1 counts as zeros", put_bilin(Source { my: -1, ..pair.clone() }), run_put_bilin),
         case("step -1024: the column before", put_8tap(Source { dx: -1024, ..pair.clone() }, 0), run_put_8tap),
         case("step 4097: four columns on", put_bilin(Source { dx: 4097, ..pair }), run_put_bilin),
         case("stride -1: rows upward", put_8tap(upward.clone(), 0), run_put_8tap),
