@@ -111,12 +111,12 @@ where
 }
 
 /// Runs `$run::<call, $subject>` on every entry and depth, and hands what it gives to `$each` as soon as it is there. With
-/// `kernels` before it, on document 01's kernels alone; with `scaled`, on document 02's scaled ones.
+/// `kernels` before it, on the kernels alone, which have no plane: document 01's, then document 02's scaled ones.
 #[macro_export]
 macro_rules! every_entry {
     ($run:ident of $subject:ty, $amount:expr, $each:expr) => {{
         $crate::every_entry! { @kernels $run, $subject, $amount, $each }
-        $crate::every_entry! { scaled $run of $subject, $amount, $each }
+        $crate::every_entry! { @scaled $run, $subject, $amount, $each }
         $crate::every_entry! { @sets $run, $subject, $amount, $each;
             window::Window, window::Row, order::OrderPut, order::OrderPrep }
         $crate::every_entry! { @shears $run, $subject, $amount, $each }
@@ -124,8 +124,9 @@ macro_rules! every_entry {
     (kernels $run:ident of $subject:ty, $amount:expr, $each:expr) => {{
         $crate::every_entry! { @kernels $run, $subject, $amount, $each }
         $crate::every_entry! { @shears $run, $subject, $amount, $each }
+        $crate::every_entry! { @scaled $run, $subject, $amount, $each }
     }};
-    (scaled $run:ident of $subject:ty, $amount:expr, $each:expr) => {
+    (@scaled $run:ident, $subject:ty, $amount:expr, $each:expr) => {
         $crate::every_entry! { @sets $run, $subject, $amount, $each;
             scaled::Put8tapScaled, scaled::Prep8tapScaled, scaled::PutBilinScaled, scaled::PrepBilinScaled }
     };

@@ -1,8 +1,7 @@
 //! `oracle`: the worked numbers. `oracle compare [N] [SEED]`: the library's C functions against the original, and the
 //! original against document 01's rules. `oracle guard [N] [SEED]`: the C functions on buffers at unreadable pages.
 //! `oracle cut [N] [SEED]`: blocks cut into rectangles, which `compare` does too. `oracle differences`: where the original
-//! and document 01 part. `oracle record N SEED FILE`: the list of the original's answers that the program `replay` reads;
-//! `oracle record scaled N SEED FILE` adds the scaled kernels' calls to it.
+//! and document 01 part. `oracle record N SEED FILE`: the list of the original's answers that the program `replay` reads.
 
 use std::process::ExitCode;
 
@@ -10,7 +9,7 @@ use oracle::compare::{self, Amount};
 use oracle::{cut, differences, guard, record, worked};
 
 const USAGE: &str = "usage: oracle | oracle compare [N] [SEED] | oracle guard [N] [SEED] | oracle cut [N] [SEED] | \
-                     oracle differences | oracle record [scaled] N SEED FILE";
+                     oracle differences | oracle record N SEED FILE";
 
 fn main() -> ExitCode {
     let arguments: Vec<String> = std::env::args().skip(1).collect();
@@ -24,10 +23,7 @@ fn main() -> ExitCode {
             differences::print();
             true
         }
-        ["record", "scaled", numbers @ .., file] => {
-            amount(numbers).map_or_else(usage, |all| record::write(all, true, file))
-        }
-        ["record", numbers @ .., file] => amount(numbers).map_or_else(usage, |all| record::write(all, false, file)),
+        ["record", numbers @ .., file] => amount(numbers).map_or_else(usage, |all| record::write(all, file)),
         _ => usage(),
     };
     if well { ExitCode::SUCCESS } else { ExitCode::FAILURE }

@@ -6,8 +6,7 @@
 //! least byte comes first.
 //!
 //! - The function: 1 to 17 in the order of `every_entry!` for the byte set, 18 to 34 for the 16-bit set, then the three
-//!   without a set, 35 to 37. Where scaled kernels are asked for: 38 to 41 for the byte set, 42 to 45 for the 16-bit set.
-//!   0 is none.
+//!   without a set, 35 to 37, then the scaled ones, 38 to 41 for the byte set, 42 to 45 for the 16-bit set. 0 is none.
 //! - A buffer, in the interface's order (an unused one has length 0): its length; the count of the values it comes with, which
 //!   repeat, and the place of the first in the record; then stride, row, rows and the place of the values that are left
 //!   in the first `row` columns of the first `rows` rows. Other places are left as they came.
@@ -549,9 +548,8 @@ fn function(after: usize) -> u16 {
     number as u16
 }
 
-/// Writes the list of so many calls of each entry and depth, of the scaled ones too where they are asked for, and says
-/// whether it could.
-pub fn write(amount: Amount, with_scaled: bool, file: &str) -> bool {
+/// Writes the list of so many calls of each entry and depth, and says whether it could.
+pub fn write(amount: Amount, file: &str) -> bool {
     let mut list = vec![];
     let (mut after, mut count) = (0, 0);
     let mut each = |all: Records| {
@@ -565,9 +563,6 @@ pub fn write(amount: Amount, with_scaled: bool, file: &str) -> bool {
         after += 1;
     };
     every_entry!(kernels record_entry of Original, amount, each);
-    if with_scaled {
-        every_entry!(scaled record_entry of Original, amount, each);
-    }
     let Ok(records) = u16::try_from(count) else {
         return false;
     };
