@@ -4,7 +4,8 @@
 //
 // The list: the count of its records; then each record, its length before it. A record: the function, the number that is due, four buffers, numbers
 // of eight bytes, and the values of the buffers. Everything else is two bytes wide; the least byte comes first.
-// - The function: 1 to 17 for the byte set, 18 to 34 for the 16-bit set, in the order below, then the three without a set. 0 is none.
+// - The function: 1 to 17 for the byte set, 18 to 34 for the 16-bit set, 35 to 37 without a set; then the scaled ones, 38 to 41 for the byte set and
+//   42 to 45 for the 16-bit set. Each in the order in which they are printed. 0 is none.
 // - A buffer, in the interface's order (an unused one has length 0): its length; the count of the values it comes with, which repeat, and the place
 //   of the first in the record; then stride, row, rows and the place of the values that are left in the first `row` columns of the first `rows`
 //   rows. Other places are left as they came.
@@ -33,6 +34,8 @@ fn replayed(id: u16, r: &[u8]) -> bool {
         36 => shear::get_shear_params(r),
         37 => shear::set_affine_mv2d(r),
         18..=34 => words::numbered::replayed(id - 17, r),
+        38..=41 => bytes::numbered::replayed(id - 20, r),
+        42..=45 => words::numbered::replayed(id - 24, r),
         _ => bytes::numbered::replayed(id, r),
     }
 }
@@ -70,7 +73,7 @@ fn mixed(sum: u32, r: &[u8]) -> u32
 }
 
 // Replays the next call, counts it, and mixes its record in.
-fn step(tally: &mut [u32; 117], sum: u32) -> u32
+fn step(tally: &mut [u32; 141], sum: u32) -> u32
     requires { ⌜ sum < 134217689 ⌝ }
     ensures { λ r. ⌜ r < 134217689 ⌝ }
 {
@@ -84,7 +87,7 @@ fn step(tally: &mut [u32; 117], sum: u32) -> u32
 }
 
 fn main() {
-    let mut tally = [0u32; 117];
+    let mut tally = [0u32; 141];
     let mut sum = 0;
     let n = ahead();
     let mut i = 0;

@@ -16,14 +16,14 @@ fn more(n: u32, so: bool) -> u32 {
 
 // Where the counts of a function begin.
 fn first(id: u16) -> usize
-    ensures { λ r. ⌜ r ≤ 111 ⌝ }
+    ensures { λ r. ⌜ r ≤ 135 ⌝ }
 {
-    if id < 38 { 3 * (id as usize) } else { 0 }
+    if id < 46 { 3 * (id as usize) } else { 0 }
 }
 
 // Counts a call where the three counts begin at place k.
-fn count_at(tally: &mut [u32; 117], k: usize, accepted: bool, same: bool)
-    requires { ⌜ k ≤ 114 ⌝ }
+fn count_at(tally: &mut [u32; 141], k: usize, accepted: bool, same: bool)
+    requires { ⌜ k ≤ 138 ⌝ }
 {
     tally[k] = more(tally[k], accepted);
     tally[k + 1] = more(tally[k + 1], !accepted);
@@ -31,12 +31,12 @@ fn count_at(tally: &mut [u32; 117], k: usize, accepted: bool, same: bool)
 }
 
 // Counts a call for its function and for all.
-pub(crate) fn count(tally: &mut [u32; 117], id: u16, accepted: bool, same: bool) {
+pub(crate) fn count(tally: &mut [u32; 141], id: u16, accepted: bool, same: bool) {
     count_at(tally, first(id), accepted, same);
-    count_at(tally, 114, accepted, same);
+    count_at(tally, 138, accepted, same);
 }
 
-// The name of a function without prefix and set: the first nine of a set, the others of a set, those without a set and all.
+// The name of a function without prefix and set: the first nine of a set, the others of a set, the scaled ones of a set, those without a set and all.
 fn print_first(k: u16) -> bool {
     match k {
         1 => io::write_all(1, b"put"),
@@ -64,6 +64,15 @@ fn print_other(k: u16) -> bool {
     }
 }
 
+fn print_scaled(k: u16) -> bool {
+    match k {
+        1 => io::write_all(1, b"put_8tap_scaled"),
+        2 => io::write_all(1, b"prep_8tap_scaled"),
+        3 => io::write_all(1, b"put_bilin_scaled"),
+        _ => io::write_all(1, b"prep_bilin_scaled"),
+    }
+}
+
 fn print_alone(id: u16) -> bool {
     match id {
         35 => io::write_all(1, b"resolve_divisor_32"),
@@ -79,14 +88,16 @@ fn print_name(id: u16) -> bool {
         10..=17 => print_other(id),
         18..=26 => print_first(id - 17),
         27..=34 => print_other(id - 17),
+        38..=41 => print_scaled(id - 37),
+        42..=45 => print_scaled(id - 41),
         _ => print_alone(id),
     }
 }
 
 fn print_set(id: u16) -> bool {
     match id {
-        1..=17 => io::write_all(1, b"_8bpc "),
-        18..=34 => io::write_all(1, b"_16bpc "),
+        1..=17 | 38..=41 => io::write_all(1, b"_8bpc "),
+        18..=34 | 42..=45 => io::write_all(1, b"_16bpc "),
         _ => io::write_all(1, b" "),
     }
 }
@@ -104,9 +115,9 @@ fn print_line(id: u16, accepted: u32, refused: u32, differ: u32) {
     io::write_all(1, b" differ\n");
 }
 
-pub(crate) fn print_all(tally: &[u32; 117]) {
+pub(crate) fn print_all(tally: &[u32; 141]) {
     let mut id = 1;
-    while id < 39 {
+    while id < 47 {
         let k = 3 * (id as usize);
         print_line(id, tally[k], tally[k + 1], tally[k + 2]);
         id += 1;

@@ -8,6 +8,7 @@ pub mod mask;
 pub mod numbered;
 pub mod pixel;
 pub mod rooms;
+pub mod scaled;
 pub mod search;
 pub mod subpel;
 pub mod warp;

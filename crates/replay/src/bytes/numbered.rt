@@ -10,6 +10,7 @@ use super::mask;
 use super::pixel::Pixel;
 use super::rooms::fill;
 use super::rooms::same;
+use super::scaled;
 use super::search;
 use super::subpel;
 use super::warp;
@@ -30,6 +31,8 @@ fn to_pixels(k: u16, r: &[u8], dst: &mut [Pixel], src: &[Pixel], taps: &[i8], ex
         14 => search::sad_nxn_8bpc(r, dst, src),
         15 => search::sad_refine_mv_8bpc(r, dst, src),
         16 => warp::warp_affine_8x8_8bpc(r, dst, src, taps),
+        18 => scaled::put_8tap_scaled_8bpc(r, dst, src, taps),
+        20 => scaled::put_bilin_scaled_8bpc(r, dst, src),
         _ => false,
     }
 }
@@ -52,7 +55,9 @@ fn to_mids(k: u16, r: &[u8], tmp: &mut [i16], src: &[Pixel], taps: &[i8], ext: &
         2 => copy::prep_8bpc(r, tmp, src),
         11 => subpel::prep_8tap_8bpc(r, tmp, src, taps, ext),
         13 => bilinear::prep_bilin_8bpc(r, tmp, src),
-        _ => warp::warp_affine_8x8t_8bpc(r, tmp, src, taps),
+        17 => warp::warp_affine_8x8t_8bpc(r, tmp, src, taps),
+        19 => scaled::prep_8tap_scaled_8bpc(r, tmp, src, taps),
+        _ => scaled::prep_bilin_scaled_8bpc(r, tmp, src),
     }
 }
 
@@ -107,10 +112,10 @@ fn combined(k: u16, r: &[u8]) -> bool {
         & same_weights(r, 3, &mask)
 }
 
-// Replays a call of function k of this set: whether it answered as the record says.
+// Replays a call of function k of this set, the scaled ones being 18 to 21: whether it answered as the record says.
 pub(crate) fn replayed(k: u16, r: &[u8]) -> bool {
     match k {
-        2 | 11 | 13 | 17 => mids(k, r),
+        2 | 11 | 13 | 17 | 19 | 21 => mids(k, r),
         3..=5 | 8 => combined(k, r),
         6 => blend::blend_8bpc(r),
         _ => pixels(k, r),

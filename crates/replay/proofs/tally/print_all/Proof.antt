@@ -5,10 +5,10 @@ use Rattle.replay.proofs.tally.print_all.Statement.{statement}
 use Rattle.replay.proofs.tally.print_all.Tie as tie
 
 abbrev Inv-loop : tie.InvT-loop
-Inv-loop tally id₀ id = id ≤ 39
+Inv-loop tally id₀ id = id ≤ 47
 
 abbrev μ-loop : tie.MeasureT-loop
-μ-loop tally id₀ id = 39 - id
+μ-loop tally id₀ id = 47 - id
 
 pub print-all-spec : {M : Type 1} → statement M
 print-all-spec =
