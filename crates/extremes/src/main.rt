@@ -11,6 +11,8 @@ use rows::bytes::combine::mask_row as mask_row8;
 use rows::bytes::copy::copy_row as copy_row8;
 use rows::bytes::copy::prep_row as prep_row8;
 use rows::bytes::edge::edge_row as edge_row8;
+use rows::bytes::scaled::scaled_bilin_row as scaled_bilin_row8;
+use rows::bytes::scaled::scaled_row as scaled_row8;
 use rows::bytes::search::sad_row as sad_row8;
 use rows::bytes::subpel::mid_row as mid_row8;
 use rows::bytes::subpel::tap_mid_row as tap_mid_row8;
@@ -21,6 +23,7 @@ use rows::mask::abs_diff16;
 use rows::mask::four_row;
 use rows::mask::pair_row;
 use rows::mask::weight_row;
+use rows::scaled::Columns;
 use rows::subpel::mid_prep_row;
 use rows::warp::warp_prep_row;
 use rows::words::bilinear::mid_bilin_row as mid_bilin_row16;
@@ -33,6 +36,8 @@ use rows::words::combine::mask_row as mask_row16;
 use rows::words::copy::copy_row as copy_row16;
 use rows::words::copy::prep_row as prep_row16;
 use rows::words::edge::edge_row as edge_row16;
+use rows::words::scaled::scaled_bilin_row as scaled_bilin_row16;
+use rows::words::scaled::scaled_row as scaled_row16;
 use rows::words::search::sad_row as sad_row16;
 use rows::words::subpel::mid_row as mid_row16;
 use rows::words::subpel::tap_mid_row as tap_mid_row16;
@@ -248,6 +253,60 @@ fn run_warp() {
     mids(b"warp_prep_row", &tmp);
 }
 
+// 64 columns of the longest step, by the last filter of the table.
+fn run_scaled8() {
+    let far = Columns {
+        start: 1023,
+        step: 4096,
+    };
+    let mut rows = [0i16; 512];
+    scaled_row8(
+        &mut rows,
+        448,
+        64,
+        &[255u8; 260],
+        3,
+        &[-128i8; 600],
+        4,
+        far,
+        4,
+    );
+    mids(b"scaled_row8", &[rows[510], rows[511]]);
+}
+
+// A column by that filter, which fetches all eight pixels, and one without a filter.
+fn run_scaled16() {
+    let near = Columns {
+        start: 1023,
+        step: 1,
+    };
+    let mut rows = [0i16; 512];
+    scaled_row16(
+        &mut rows,
+        510,
+        2,
+        &[65535u16; 8],
+        3,
+        &[127i8; 600],
+        4,
+        near,
+        2,
+    );
+    mids(b"scaled_row16", &[rows[510], rows[511]]);
+}
+
+fn run_scaled_bilin() {
+    let far = Columns {
+        start: 1023,
+        step: 4096,
+    };
+    let mut mid = [0i16; 2];
+    scaled_bilin_row8(&mut mid, &[255u8; 6], 0, far, 0);
+    mids(b"scaled_bilin_row8", &mid);
+    scaled_bilin_row16(&mut mid, &[65535u16; 6], 0, far, 2);
+    mids(b"scaled_bilin_row16", &mid);
+}
+
 fn main() {
     run_copy();
     run_combine();
@@ -260,4 +319,7 @@ fn main() {
     run_bilinear_mids();
     run_search();
     run_warp();
+    run_scaled8();
+    run_scaled16();
+    run_scaled_bilin();
 }
