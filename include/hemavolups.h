@@ -113,15 +113,17 @@ uint32_t hv_prep_bilin_16bpc(int32_t depth, int16_t *tmp, size_t tmp_len, size_t
 /*
  * Scaled: predicts a block from a reference of another size. The block's first pixel is src[src_off]. Column x of the
  * block stands at mx + x dx, row y at my + y dy, in 1/1024 of a pixel of the source: the whole pixel is that >> 10, and
- * the top four bits of the fraction, in sixteenths, choose the filter of that column or row. The starts mx and my are 0
- * to 1023, the steps dx and dy 0 to 4096; 1024 is no scaling.
+ * of the fraction only the top four bits count, its sixteenths. In 8-tap they choose the filter of that column or row,
+ * none for 0; in bilinear they are the weight. Row r and column c of the source are src[src_off + r src_stride + c]. The
+ * starts mx and my are 0 to 1023, the steps dx and dy 0 to 4096; 1024 is no scaling.
  *
  * src has to hold each place that is fetched, whether or not a pixel comes of it. 8-tap fetches every row from -3 to
  * ((my + (h - 1) dy) >> 10) + 4, and in each, for every x with c = (mx + x dx) >> 10, column c alone where its
  * sixteenths are 0, else c - 3 to c + 4. Bilinear fetches every row from 0 to ((my + (h - 1) dy) >> 10) + 1, and in
  * each always c and c + 1. src_stride is from w, also where more of a row is fetched.
  *
- * Without a fraction a pixel is no copy: it goes through the intermediate, which has 16 bits, and is clipped.
+ * A pixel that is put without a fraction is no copy: it goes through the intermediate, which has 16 bits, and is
+ * clipped. Within the depth it is the same pixel.
  */
 
 /*

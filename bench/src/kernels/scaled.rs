@@ -28,7 +28,7 @@ fn put_8tap<BD: BitDepth>(step: i32) -> Kernel<BD>
 where
     Linked: Library<BD::Pixel>,
 {
-    kernel(format!("put_8tap_scaled {step}"), 1.0,
+    kernel(format!("put_8tap_scaled {step}"), 0.5,
         move |r| {
             let (n, from, ss, by) = (r.size, r.start, r.stride as isize, r.filter_type);
             mc::put_8tap_scaled(r.bd, &mut r.dst, r.stride, &r.src, from, ss, n, n, START, START, step, step, by);
@@ -45,7 +45,7 @@ fn prep_8tap<BD: BitDepth>(step: i32) -> Kernel<BD>
 where
     Linked: Library<BD::Pixel>,
 {
-    kernel(format!("prep_8tap_scaled {step}"), 1.0,
+    kernel(format!("prep_8tap_scaled {step}"), 0.5,
         move |r| {
             let (n, from, ss, by) = (r.size, r.start, r.stride as isize, r.filter_type);
             mc::prep_8tap_scaled(r.bd, &mut r.tmp, r.stride, &r.src, from, ss, n, n, START, START, step, step, by);
@@ -62,7 +62,7 @@ fn put_bilin<BD: BitDepth>(step: i32) -> Kernel<BD>
 where
     Linked: Library<BD::Pixel>,
 {
-    kernel(format!("put_bilin_scaled {step}"), 1.0,
+    kernel(format!("put_bilin_scaled {step}"), 0.5,
         move |r| {
             let (n, from, ss) = (r.size, r.start, r.stride as isize);
             mc::put_bilin_scaled(r.bd, &mut r.dst, r.stride, &r.src, from, ss, n, n, START, START, step, step);
@@ -78,7 +78,7 @@ fn prep_bilin<BD: BitDepth>(step: i32) -> Kernel<BD>
 where
     Linked: Library<BD::Pixel>,
 {
-    kernel(format!("prep_bilin_scaled {step}"), 1.0,
+    kernel(format!("prep_bilin_scaled {step}"), 0.5,
         move |r| {
             let (n, from, ss) = (r.size, r.start, r.stride as isize);
             mc::prep_bilin_scaled(r.bd, &mut r.tmp, r.stride, &r.src, from, ss, n, n, START, START, step, step);

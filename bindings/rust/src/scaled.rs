@@ -3,8 +3,8 @@
 use crate::Pixel;
 use crate::refusal::{Refusal, done};
 
-/// Where a scaled block begins on its reference and how it steps there, in 1/1024 of a pixel. Column x stands at
-/// mx + x dx, row y at my + y dy; the top four bits of the fraction choose the filter of that column or row.
+/// Where in its first pixel a scaled block starts and how it steps, in 1/1024 of a pixel. Column x stands at mx + x dx,
+/// row y at my + y dy; the top four bits of the fraction are 8-tap's filter (0 is none) or bilinear's weight.
 #[derive(Clone, Copy, Debug, PartialEq, Eq)]
 pub struct ScaledMotion {
     /// The horizontal start, 0 to 1023.
@@ -17,9 +17,9 @@ pub struct ScaledMotion {
     pub dy: i32,
 }
 
-/// Predicts a block of pixels by 8 taps. Its first pixel is `src[src_off]`. Rows are fetched from 3 before the first to 4
-/// after the last, whatever the fractions are; columns from 3 before a pixel that has a fraction to 4 after it. The
-/// type is 0 to 2.
+/// Predicts a block of pixels by 8 taps. Its first pixel is `src[src_off]`. Every row is fetched from 3 before the first
+/// to 4 after the one that the block's last row stands in, whatever the fractions are; in each, for a column whose
+/// fraction's top four bits are 0 its own pixel alone, else from 3 before it to 4 after it. The type is 0 to 2.
 ///
 /// ```
 /// use hemavolups::{Eight, ScaledMotion, put_8tap_scaled};
