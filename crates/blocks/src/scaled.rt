@@ -15,8 +15,9 @@ use crate::refuse::reads_around;
 use crate::refuse::sizes;
 use crate::refuse::stride;
 use rows::bilinear::mid_bilin_prep_row;
+use rows::subpel::Way;
 use rows::subpel::eight;
-use rows::subpel::mid_prep_row;
+use rows::subpel::mid_prep_by;
 
 // The motion of a scaled block: where it starts in a pixel, and its steps.
 pub struct ScaledMotion {
@@ -241,7 +242,12 @@ pub fn prep_scaled_line(
         mid_bilin_prep_row(tmp, rows, order[3] * 64, 0, 0, 4, bias as i16);
     } else {
         let g = by_rows(eight(subpel, 15 * family + (f - 1)), order[0]);
-        mid_prep_row(tmp, rows, 0, 64, &g, 32, 6, bias as i16);
+        let by = Way {
+            step: 64,
+            r: 32,
+            n: 6,
+        };
+        mid_prep_by(tmp, rows, 0, &g, false, by, bias as i16);
     }
 }
 

@@ -128,7 +128,15 @@ pub fn take_eight_mid(tmp: &mut [i16], line: &[i16; 8])
 }
 
 // Intermediates from intermediates, the near way or the far way: near is passed as a constant, so the compiler makes a loop of each.
-fn mid_prep_by(tmp: &mut [i16], mid: &[i16], o: usize, f: &[i8; 8], near: bool, by: Way, bias: i16)
+pub fn mid_prep_by(
+    tmp: &mut [i16],
+    mid: &[i16],
+    o: usize,
+    f: &[i8; 8],
+    near: bool,
+    by: Way,
+    bias: i16,
+)
     requires { ⌜ (o + length (now tmp) + 7 * by .step ≤ length (now mid)) × Rounds (by .r) (by .n) × (near ≡ true → Short (now f) (by .r) (by .n)) ⌝ }
     ensures { λ _. ⌜ now (tmp .exit) ≡ rowOf (length (now (tmp .entry)))
         (λ i. minus16 (low16 (tapped (now (f .entry)) (by .r) (by .n) (λ t. at (now (mid .entry)) (o + i + t * by .step)))) bias) ⌝ }

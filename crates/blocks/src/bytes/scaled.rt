@@ -33,9 +33,10 @@ use rows::bytes::pixel::bias_of;
 use rows::bytes::pixel::bits_of;
 use rows::bytes::scaled::scaled_bilin_row;
 use rows::bytes::scaled::scaled_row;
-use rows::bytes::subpel::mid_row;
+use rows::bytes::subpel::mid_by;
 use rows::numbers::half_power;
 use rows::scaled::Columns;
+use rows::subpel::Way;
 use rows::subpel::eight;
 
 // Rows n to m - 1 are filtered, each into the place of the oldest; the answer is the order after them.
@@ -91,7 +92,12 @@ fn put_scaled_line(
         mid_bilin_row(dst, rows, order[3] * 64, 0, 0, 4 + b, max);
     } else {
         let g = by_rows(eight(subpel, 15 * family + (f - 1)), order[0]);
-        mid_row(dst, rows, 0, 64, &g, half_power(6 + b), 6 + b, max);
+        let by = Way {
+            step: 64,
+            r: half_power(6 + b),
+            n: 6 + b,
+        };
+        mid_by(dst, rows, 0, &g, false, by, max);
     }
 }
 

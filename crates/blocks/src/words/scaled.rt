@@ -28,6 +28,7 @@ use crate::scaled::turned;
 use rows::bilinear::mid_bilin_prep_row;
 use rows::numbers::half_power;
 use rows::scaled::Columns;
+use rows::subpel::Way;
 use rows::subpel::eight;
 use rows::words::bilinear::mid_bilin_row;
 use rows::words::pixel::Pixel;
@@ -35,7 +36,7 @@ use rows::words::pixel::bias_of;
 use rows::words::pixel::bits_of;
 use rows::words::scaled::scaled_bilin_row;
 use rows::words::scaled::scaled_row;
-use rows::words::subpel::mid_row;
+use rows::words::subpel::mid_by;
 
 // Rows n to m - 1 are filtered, each into the place of the oldest; the answer is the order after them.
 fn next_rows(
@@ -90,7 +91,12 @@ fn put_scaled_line(
         mid_bilin_row(dst, rows, order[3] * 64, 0, 0, 4 + b, max);
     } else {
         let g = by_rows(eight(subpel, 15 * family + (f - 1)), order[0]);
-        mid_row(dst, rows, 0, 64, &g, half_power(6 + b), 6 + b, max);
+        let by = Way {
+            step: 64,
+            r: half_power(6 + b),
+            n: 6 + b,
+        };
+        mid_by(dst, rows, 0, &g, false, by, max);
     }
 }
 

@@ -158,7 +158,7 @@ pub fn tap_mid_row(
 }
 
 // Pixels from intermediates, the near way or the far way.
-fn mid_by(dst: &mut [Pixel], mid: &[i16], o: usize, f: &[i8; 8], near: bool, by: Way, max: u16)
+pub fn mid_by(dst: &mut [Pixel], mid: &[i16], o: usize, f: &[i8; 8], near: bool, by: Way, max: u16)
     requires { ⌜ (o + length (now dst) + 7 * by .step ≤ length (now mid)) × Rounds (by .r) (by .n) × (near ≡ true → Near (now f)) × MaxOk max ⌝ }
     ensures { λ _. ⌜ now (dst .exit) ≡ rowOf (length (now (dst .entry)))
         (λ i. numbers.clip max (tapped (now (f .entry)) (by .r) (by .n) (λ t. at (now (mid .entry)) (o + i + t * by .step)))) ⌝ }

@@ -1,7 +1,8 @@
 use borrow.Author.Needs.{needs}
-use mathlib.Core.Path.{_∙_}
+use mathlib.Core.Path.{_∙_, sym, subst}
 use native.Mathlib.Omega.{arith}
 use Prim.Native.Nat.{_<_}
+use lib.Dec.{T}
 use lib.ListN.{getD}
 use mir.Syntax.{w16}
 use Rattle.rows.proofs.Laws.Signed.{backn}
@@ -28,7 +29,7 @@ returns-2 c =
     let t = e .before in
     let s = t .before in
     let a = s .args in
-    rw (backn w16 (a .bias) (omega arith)) at (c .before .mid-prep-row .ensures)
+    rw (backn w16 (a .bias) (omega arith)) at (c .before .mid-prep-by .ensures)
     ∙ prep-line-by (a .rows .now) (a .t3) (a .subpel .now) _ (a .family) _ (s .pre .2) (omega (arith, t .if1 .left)) _
     (rw (e .eight .ensures) at (r .by-rows .ensures)) (a .bias)
 
@@ -45,5 +46,5 @@ prep-scaled-line-spec =
     (λ c. search needs)  -- order[0]
     (λ c κs. c .before .before .pre .2 .0)  -- by-rows
     (λ c. search needs)  -- bias as i16
-    (λ c κs. omega arith)  -- mid-prep-row
+    (λ c κs. (omega arith, omega arith, λ e. absurd (subst T (sym e) tt)))  -- mid-prep-by
     (λ c. search needs) returns (λ c. search needs) returns-2)

@@ -1,7 +1,8 @@
 use borrow.Author.Needs.{needs}
-use mathlib.Core.Path.{_∙_}
+use mathlib.Core.Path.{_∙_, sym, subst}
 use native.Mathlib.Omega.{arith}
 use Prim.Native.Nat.{_≤_, _<_}
+use lib.Dec.{T}
 use lib.ListN.{getD}
 use Rattle.blocks.proofs.Laws.ScaledLines.{turned-lt, put-line-whole, put-line-by}
 use Rattle.blocks.proofs.words.scaled.put_scaled_line.Statement.{statement}
@@ -28,17 +29,23 @@ returns c =
 
 returns-2 : tie.Need-returns-2
 returns-2 c =
-    let h = c .before .before .before in
-    let r = h .before .before .before in
+    let q = c .before .before in
+    let h = q .before .before .before in
+    let r = h .before in
     let e = r .before in
     let t = e .before in
     let b = t .before in
     let s = begin b in
     let a = s .args in
-    rw (b .bits-of .ensures) at (c .before .before .mid-row .ensures)
+    rw (b .bits-of .ensures) at (q .mid-by .ensures)
     ∙ put-line-by (a .rows .now) (a .t3) (a .subpel .now) _ (a .family) _ (s .pre .2) (omega (arith, t .if1 .left)) _
     (rw (e .eight .ensures) at (r .by-rows .ensures))
     (a .max) (a .bits) _ (rw (b .bits-of .ensures) at (h .half-power .ensures .0))
+
+mid-by-requires : tie.Need-mid-by-requires
+mid-by-requires c κs =
+    let h = c .before .before in let b = h .before .before .before .before in
+    (omega (arith, begin b .pre), omega (arith, few b, h .half-power .ensures), λ e. absurd (subst T (sym e) tt), begin b .pre .6)
 
 pub put-scaled-line-spec : {M : Type 1} → statement M
 put-scaled-line-spec =
@@ -53,8 +60,7 @@ put-scaled-line-spec =
     (λ c κs. omega arith)  -- eight
     (λ c. search needs)  -- order[0]
     (λ c κs. begin (c .before .before) .pre .2 .0)  -- by-rows
-    (λ c. let b = c .before .before .before .before .before in omega (arith, few b))  -- 6 + b
-    (λ c κs. let b = c .before .before .before .before .before in omega (arith, few b))  -- half-power
-    (λ c. let b = c .before .before .before .before .before .before in omega (arith, few b))
-    (λ c κs. let b = c .before .before .before .before .before .before in omega (arith, few b, begin b .pre, c .half-power .ensures))  -- mid-row
+    (λ c. omega (arith, few (c .before .before .before))) (λ c κs. omega (arith, few (c .before .before .before)))  -- half-power
+    (λ c. omega (arith, few (c .before .before .before .before)))  -- 6 + b
+    mid-by-requires
     (λ c. search needs) returns (λ c. search needs) returns-2)
