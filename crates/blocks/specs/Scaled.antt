@@ -134,8 +134,8 @@ pairLineOf src p k i =
     (R (4 - p .bits)
     (bilinAt (px src) (p .start + k * p .stride + pixelOf (position (p .mx) (p .dx) i)) 1 (sixteenth (position (p .mx) (p .dx) i))))
 
--- "Keep the last eight filtered rows in a record with their order", 64 places each: after n rows, row k stands at k % 8, its column i at place 64 (k % 8) + i, and the order
--- lists where the last eight stand, from the oldest to the newest
+-- "Keep the last eight filtered rows in a record with their order", 64 places each: after n rows, row k stands at k % 8, its column i at place
+-- 64 (k % 8) + i, and the order lists where the last eight stand, from the oldest to the newest
 pub record LastEight (w : ℕ) (line : ℕ → ℕ → ℤ) (n : ℕ) (rows : List ℤ) (order : List ℕ) : Type 0 where
   pub size : length rows ≡ 512
   pub turns : order ≡ rowOf 8 (λ t. (n + t) % 8)

@@ -223,7 +223,7 @@ pub fn by_rows(f: [i8; 8], first: usize) -> [i8; 8]
     g
 }
 
-// Prep's last step, likewise: without a fraction the shift by 4 gives the row itself.
+// Prep's last step: the block's row at position p, from the last eight. Without a fraction it is the fourth of them, which the shift by 4 leaves as it is.
 pub fn prep_scaled_line(
     tmp: &mut [i16],
     rows: &[i16],
