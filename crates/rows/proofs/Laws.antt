@@ -8,6 +8,7 @@ pub mod Row
 pub mod Part
 pub mod Over
 pub mod Taps
+pub mod Centred
 pub mod Places
 pub mod Fill
 pub mod Cut

@@ -33,7 +33,7 @@ pub fn tap(acc: i32, f: i8, x: i32) -> i32
 }
 
 // The same of an intermediate.
-fn tap_i16(acc: i32, f: i8, x: i16) -> i32
+pub fn tap_i16(acc: i32, f: i8, x: i16) -> i32
     requires { ⌜ mag acc < 2 ^ 30 ⌝ }
     ensures { λ r. ⌜ (r ≡ acc +ℤ f *ℤ x) × (mag (f *ℤ x) < 2 ^ 24) ⌝ }
 {

@@ -1,4 +1,3 @@
-// Made from crates/rows/src/words/taps.rt by tools/sets: change that.
 // The filter sum S of pixels.
 ghost use mathlib.Core.Path.{_≡_};
 ghost use Prim.Native.Nat.{_+_, _*_, _^_, _<_, _≤_};

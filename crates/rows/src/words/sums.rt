@@ -9,7 +9,6 @@ ghost use Rattle.rows.specs.Numbers.{px, low16, minus16};
 ghost use Rattle.rows.specs.Subpel.{S, tapped, Near, Short, Rounds, byteOf};
 ghost use Rattle.rows.specs.words.Sums.{NearOk};
 use super::pixel::Pixel;
-use super::taps::taps;
 use crate::near::is_near;
 use crate::near::near_kept;
 use crate::near::near_tap_u8;
@@ -17,6 +16,7 @@ use crate::near::near_whole;
 use crate::subpel::Way;
 use crate::subpel::kept;
 use crate::subpel::rounded;
+use crate::subpel::tap;
 
 // acc + f x of a byte of a pixel, in sixteen bits.
 fn near_byte(acc: i16, f: i8, x: Pixel, high: bool) -> i16
@@ -55,6 +55,27 @@ fn near_sum(src: &[Pixel], o: usize, step: usize, f: &[i8; 8]) -> i32
     )
 }
 
+fn tap_pixel(acc: i32, f: i8, x: Pixel) -> i32
+    requires { ⌜ mag acc < 2 ^ 30 ⌝ }
+    ensures { λ r. ⌜ (r ≡ acc +ℤ f *ℤ pos x) × (mag (f *ℤ pos x) < 2 ^ 24) ⌝ }
+{
+    tap(acc, f, x as i32)
+}
+
+// The filter sum S by taps that aren't near: `taps`, as is faster where a row's loop takes several places at once.
+fn far_taps(src: &[Pixel], o: usize, step: usize, f: &[i8; 8]) -> i32
+    requires { ⌜ o + 7 * step < length (now src) ⌝ }
+    ensures { λ r. ⌜ (r ≡ S (now (f .entry)) (λ t. px (now (src .entry)) (o + t * step))) × (mag r < 2 ^ 30) ⌝ }
+{
+    let mut s: i32 = 0;
+    let mut j = 0;
+    while j < 8 {
+        s = tap_pixel(s, f[j], src[o + j * step]);
+        j += 1;
+    }
+    s
+}
+
 // Whether pixels are made the near way.
 pub fn near_way(f: &[i8; 8], r: u32, n: u32) -> bool
     ensures { λ b. ⌜ (b ≡ true → NearOk (now (f .entry)) r n) ⌝ }
@@ -77,7 +98,7 @@ pub fn rounded_taps(src: &[Pixel], o: usize, f: &[i8; 8], near: bool, by: Way) -
     if near {
         rounded(near_sum(src, o, by.step, f), by.r, by.n)
     } else {
-        rounded(taps(src, o, by.step, f), by.r, by.n)
+        rounded(far_taps(src, o, by.step, f), by.r, by.n)
     }
 }
 
@@ -95,6 +116,6 @@ pub fn tap_mid_px(src: &[Pixel], o: usize, f: &[i8; 8], near: bool, by: Way, bia
             bias,
         )
     } else {
-        kept(taps(src, o, by.step, f), by.r, by.n, bias)
+        kept(far_taps(src, o, by.step, f), by.r, by.n, bias)
     }
 }

@@ -1,4 +1,3 @@
--- Made from crates/rows/proofs/words/taps/tap_pixel/Proof.antt by tools/sets: change that.
 use native.Mathlib.Omega.{arith}
 use mir.Syntax.{w32}
 use mir.Val.{SFits}

@@ -1,4 +1,3 @@
--- Made from crates/rows/proofs/words/taps/taps/Proof.antt by tools/sets: change that.
 use native.Mathlib.Omega.{arith}
 use Prim.Native.Nat.{_+_, _*_, _-_, _^_, _≤_}
 use lib.IntN.{_*ℤ_}

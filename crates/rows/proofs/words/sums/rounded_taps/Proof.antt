@@ -10,7 +10,7 @@ rounded-taps-spec =
     (tie.spec
     (λ c κs. (omega arith, c .before .before .pre .2 (c .if1 .taken)))  -- near-sum-requires
     (λ c κs. search needs)  -- rounded-requires
-    (λ c κs. search needs)  -- taps-requires
+    (λ c κs. search needs)  -- far-taps-requires
     (λ c κs. search needs)  -- rounded-requires-2
     (λ c. rounded-is _ _ _ _ (omega arith) (omega arith) (c .before .near-sum .ensures .0) (c .rounded .ensures))  -- returns
-    (λ c. rounded-is _ _ _ _ (omega arith) (omega arith) (c .before .taps .ensures .0) (c .rounded2 .ensures)))  -- returns-2
+    (λ c. rounded-is _ _ _ _ (omega arith) (omega arith) (c .before .far-taps .ensures .0) (c .rounded2 .ensures)))  -- returns-2

@@ -18,7 +18,7 @@ returns c =
 returns-2 : tie.Need-returns-2
 returns-2 c =
     let t = c .before in
-    kept-is _ _ _ _ (omega arith) (t .before .before .before .before .fits .bias) (omega arith) (t .taps .ensures .0) (c .kept .ensures)
+    kept-is _ _ _ _ (omega arith) (t .before .before .before .fits .bias) (omega arith) (t .far-taps .ensures .0) (c .kept .ensures)
 
 pub tap-mid-px-spec : {M : Type 1} → statement M
 tap-mid-px-spec =
@@ -27,6 +27,6 @@ tap-mid-px-spec =
     (λ c κs. (omega arith, c .before .before .pre .2 (c .if1 .taken) .0))  -- the sum of high bytes
     (λ c κs. (omega arith, c .before .before .before .pre .2 (c .before .if1 .taken) .0))  -- the sum of low bytes
     near-kept-requires
-    (λ c κs. search needs) (λ c κs. search needs)  -- kept(taps(..), ..)
+    (λ c κs. search needs) (λ c κs. search needs)  -- kept(far_taps(..), ..)
     returns
     returns-2)

@@ -3,8 +3,8 @@ use mir.Syntax.{w32}
 use mir.Val.{SFits}
 use Rattle.rows.proofs.Laws.Signed.{back, backn, rd, rdn}
 use borrow.Author.Needs.{needs}
-use Rattle.rows.proofs.words.taps.tap_pixel.Statement.{statement}
-use Rattle.rows.proofs.words.taps.tap_pixel.Tie as tie
+use Rattle.rows.proofs.words.sums.tap_pixel.Statement.{statement}
+use Rattle.rows.proofs.words.sums.tap_pixel.Tie as tie
 
 returns : tie.Need-returns
 returns c =

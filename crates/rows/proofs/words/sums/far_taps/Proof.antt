@@ -1,0 +1,45 @@
+use native.Mathlib.Omega.{arith}
+use Prim.Native.Nat.{_+_, _*_, _-_, _^_, _≤_}
+use lib.IntN.{_*ℤ_}
+use mir.Syntax.{w8}
+use Rattle.rows.specs.Numbers.{at, px}
+use Rattle.rows.specs.Subpel.{S}
+use Rattle.rows.proofs.Laws.Signed.{back, fit}
+use Rattle.rows.proofs.Laws.Sum.{Summed, summed-none, summed-mag, summed-more, within}
+use Rattle.rows.proofs.Laws.Filter.{summed-eight}
+use Rattle.rows.proofs.words.sums.far_taps.Statement.{statement}
+use Rattle.rows.proofs.words.sums.far_taps.Tie as tie
+
+-- s holds the bits of the sum of the first j taps
+abbrev Inv-loop : tie.InvT-loop
+Inv-loop src o step f s₀ j₀ s j = (j ≤ 8) × Summed (λ k. at f k *ℤ px src (o + k * step)) (2 ^ 24) j s
+
+abbrev μ-loop : tie.MeasureT-loop
+μ-loop src o step f s₀ j₀ s j = 8 - j
+
+-- place j is within src
+place : (c : tie.In-loop Inv-loop μ-loop) → c .before .loop .j * c .before .before .before .args .step ≤ 7 * c .before .before .before .args .step
+place c = within (c .before .loop .j) (c .before .before .before .args .step) (c .loop-test .taken)
+
+loop-again : tie.Need-loop-again Inv-loop μ-loop
+loop-again c =
+    let h = c .before .before .before .before in
+    let ff = back (fit w8 {z = at (h .before .before .args .f .now) (h .loop .j)} (c .before .before .tap-pixel-arg .given)) in
+    (omega arith, summed-more (h .loop .inv .1) (omega arith) (rw ff at (c .tap-pixel .ensures)))
+
+returns : tie.Need-returns Inv-loop μ-loop
+unfolding S
+returns c = let h = c .before .loop in summed-eight (h .inv .0) (omega arith) (h .inv .1)
+
+pub far-taps-spec : {M : Type 1} → statement M
+far-taps-spec =
+    tie.close
+    (tie.spec Inv-loop μ-loop (λ c. (omega arith, summed-none _ _))  -- while j < 8
+    (λ c. omega arith)  -- f[j]
+    (λ c. omega (arith, place (c .before)))  -- j * step
+    (λ c. omega (arith, place (c .before)))  -- o + j * step
+    (λ c. omega (arith, place (c .before)))  -- 2 * (o + j * step)
+    (λ c. omega (arith, place (c .before .before)))  -- src[..]
+    (λ c κs. omega (arith, summed-mag (c .before .before .before .loop .inv .1) (omega arith)))  -- tap-pixel-requires
+    (λ c. omega arith) (λ c. omega arith) loop-again  -- j += 1
+    returns)

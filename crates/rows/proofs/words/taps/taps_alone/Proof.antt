@@ -1,0 +1,47 @@
+use native.Mathlib.Omega.{arith}
+use Prim.Native.Nat.{_-_, _≤_}
+use mathlib.Core.Path.{_≡_, refl}
+use mir.Syntax.{w8, w32}
+use mir.Val.{SFits, toZ}
+use Rattle.rows.specs.Numbers.{at}
+use Rattle.rows.proofs.Laws.Signed.{back8, fit, mag-add, reading}
+use Rattle.rows.proofs.Laws.Sum.{Summed, summed-none, summed-mag, summed-more, summed-is}
+use Rattle.rows.proofs.words.taps.taps_alone.Statement.{statement}
+use Rattle.rows.proofs.words.taps.taps_alone.Tie as tie
+
+abbrev Inv-loop : tie.InvT-loop
+Inv-loop f s₀ j₀ s j = (j ≤ 8) × Summed (at f) 129 j s
+
+abbrev μ-loop : tie.MeasureT-loop
+μ-loop f s₀ j₀ s j = 8 - j
+
+-- tap j
+fits : (c : tie.After-s Inv-loop μ-loop) → SFits w8 (at (c .before .before .before .args .f .now) (c .before .before .loop .j))
+fits c = fit w8 (c .s .given)
+
+loop-again : tie.Need-loop-again Inv-loop μ-loop
+loop-again c =
+    let h = c .before .before .loop in
+    rw (back8 (fits c)) (omega arith, summed-more (h .inv .1) (omega arith) (refl, omega (arith, c .s .given)))
+
+returns : tie.Need-returns Inv-loop μ-loop
+returns c =
+    let h = c .before .loop in
+    let e : h .j ≡ 8 = omega (arith, h .inv .0) in
+    let p = rw e at (h .inv .1) in
+    (summed-is p (omega arith), omega (arith, summed-mag p (omega arith)))
+
+pub taps-alone-spec : {M : Type 1} → statement M
+taps-alone-spec =
+    tie.close
+    (tie.spec Inv-loop μ-loop (λ c. (omega arith, summed-none _ _))  -- while j < 8
+    (λ c. omega arith)  -- f[j]
+    (λ c. search reading)  -- as i32
+    (λ c. rw (back8 (fits c)) (fit w32 (omega (
+      arith,
+      c .s .given,
+      mag-add (toZ w32 (c .before .before .loop .s)) (at (c .before .before .before .args .f .now) (c .before .before .loop .j)),
+      summed-mag (c .before .before .loop .inv .1) (omega arith),
+    ))))  -- s +
+    (λ c. omega arith) (λ c. omega arith) loop-again  -- j += 1
+    returns)
