@@ -24,6 +24,7 @@ use rows::mask::four_row;
 use rows::mask::pair_row;
 use rows::mask::weight_row;
 use rows::scaled::Columns;
+use rows::scaled::tabulate_columns;
 use rows::subpel::mid_prep_row;
 use rows::warp::warp_prep_row;
 use rows::words::bilinear::mid_bilin_row as mid_bilin_row16;
@@ -295,15 +296,16 @@ fn run_scaled16() {
     mids(b"scaled_row16", &[rows[510], rows[511]]);
 }
 
+// 64 columns of the longest step; the rows have the first two.
 fn run_scaled_bilin() {
-    let far = Columns {
-        start: 1023,
-        step: 4096,
-    };
+    let mut pixels = [0usize; 64];
+    let mut fractions = [0u8; 64];
+    tabulate_columns(&mut pixels, &mut fractions, 64, 1023, 4096);
+    row8(b"tabulate_columns", &[pixels[63] as u8, fractions[63]]);
     let mut mid = [0i16; 2];
-    scaled_bilin_row8(&mut mid, &[255u8; 6], 0, far, 0);
+    scaled_bilin_row8(&mut mid, &[255u8; 6], 0, &pixels, &fractions, 0);
     mids(b"scaled_bilin_row8", &mid);
-    scaled_bilin_row16(&mut mid, &[65535u16; 6], 0, far, 2);
+    scaled_bilin_row16(&mut mid, &[65535u16; 6], 0, &pixels, &fractions, 2);
     mids(b"scaled_bilin_row16", &mid);
 }
 

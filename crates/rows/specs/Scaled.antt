@@ -2,6 +2,8 @@
 use Prim.Native.Nat.{ℕ, zero, suc, _+_, _-_, _*_, _/_, _%_, _^_, _≤_, _<_, min}
 use lib.IntN.{ℤ, pos, _+ℤ_}
 use mathlib.Core.List.{List}
+use mathlib.Core.Path.{_≡_}
+use lib.ListN.{getD}
 use Rattle.rows.specs.Numbers.{clip, half, low16, minus16, _>>_}
 use Rattle.rows.specs.Subpel.{Axis, whole, by, filter, tapped}
 use Rattle.rows.specs.Bilinear.{bilin, R, bilinMid}
@@ -68,3 +70,13 @@ Fetched l o p = (3 * min (sixteenth p) 1 ≤ o + pixelOf p) × (o + pixelOf p + 
 -- a start and a step within their ranges
 abbrev pub Steps : (start step : ℕ) → Type 0
 Steps start step = (start ≤ 1023) × (step ≤ 4096)
+
+-- two tables that say of each of w columns which pixel it is in, counted from the row's first, and at which sixteenth
+pub record Tabled (pixels fractions : List ℕ) (w start step : ℕ) : Type 0 where
+  pub pixel : (i : ℕ) → i < w → getD pixels i 0 ≡ pixelOf (position start step i)
+  pub fraction : (i : ℕ) → i < w → getD fractions i 0 ≡ sixteenth (position start step i)
+
+-- what a row of w columns by two tables relies on: of each column the pixel and the next are within l places, and the fraction is one of 0 to 15
+pub record PairsFetched (l o : ℕ) (pixels fractions : List ℕ) (w : ℕ) : Type 0 where
+  pub within : (i : ℕ) → i < w → o + getD pixels i 0 + 1 < l
+  pub small : (i : ℕ) → i < w → getD fractions i 0 ≤ 15

@@ -5,11 +5,11 @@ use Prim.Native.Nat.{ℕ, _+_, _-_, _*_, _%_, _^_, _≤_, _<_}
 use native.Mathlib.Nat.{mul-le-mul-right}
 use native.Mathlib.Omega.{arith}
 use lib.IntN.{ℤ, pos, _+ℤ_, _*ℤ_}
-use lib.ListN.{length}
-use Rattle.rows.specs.Numbers.{at}
+use lib.ListN.{length, getD}
+use Rattle.rows.specs.Numbers.{at, px, low16}
 use Rattle.rows.specs.Places.{rowOf, span, splice}
-use Rattle.rows.specs.Bilinear.{bilin, bilinAt}
-use Rattle.rows.specs.Scaled.{position, pixelOf, sixteenth}
+use Rattle.rows.specs.Bilinear.{R, bilin, bilinAt}
+use Rattle.rows.specs.Scaled.{position, pixelOf, sixteenth, Tabled, PairsFetched}
 use Rattle.rows.proofs.Laws.Bilinear.{weighed}
 use Rattle.rows.proofs.Laws.Places.{by-lt, row-at, row-length, row-same, splice-before, splice-in, splice-after, splice-length, span-length}
 use Rattle.rows.proofs.Laws.Scaled.{position-lt}
@@ -54,6 +54,25 @@ two-more {w} {n} {line} {rows} l w64 len r is =
 -- the place where row k begins, of n rows
 pub pair-start : {sl w n : ℕ} {p : ScaledPlan} → Paired sl p w n → (k : ℕ) → k < n → p .start + k * p .stride < sl
 pair-start q k b = omega (arith, q .fetched k 0 b (q .w1))
+
+-- row k by the tables of the plan's columns: what it reads, and that it is the plan's
+module _ {sl w m : ℕ} {p : ScaledPlan} {pixels fractions : List ℕ} (q : Paired sl p w m) (t : Tabled pixels fractions w (p .mx) (p .dx)) where
+  pub pairs-fetched : (k n : ℕ) → k < m → n ≤ w → PairsFetched sl (p .start + k * p .stride) pixels fractions n
+  pairs-fetched k n b h =
+      record {
+        within = λ i l. omega (arith, t .pixel i (omega arith), q .fetched k i b (omega arith));
+        small = λ i l. omega (arith, t .fraction i (omega arith));
+      }
+
+  pub tabled-line : (src : List ℕ) (k n : ℕ) → n ≤ w
+      → rowOf n (λ i. low16 (R (4 - p .bits) (bilinAt (px src) (p .start + k * p .stride + getD pixels i 0) 1 (getD fractions i 0))))
+      ≡ rowOf n (pairLineOf src p k)
+  unfolding pairLineOf
+  tabled-line src k n h =
+      row-same (pos 0) n _ _
+      λ i b.
+      ap₂ (λ (c f : ℕ). low16 (R (4 - p .bits) (bilinAt (px src) (p .start + k * p .stride + c) 1 f))) (t .pixel i (omega arith))
+      (t .fraction i (omega arith))
 
 -- ---- the two that position v is between
 

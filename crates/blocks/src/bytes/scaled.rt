@@ -8,7 +8,7 @@ ghost use lib.ListN.{length, getD};
 ghost use Rattle.rows.specs.Numbers.{up, at, clip, low16, minus16};
 ghost use Rattle.rows.specs.Places.{rowOf, fill};
 ghost use Rattle.rows.specs.Bilinear.{R, bilin};
-ghost use Rattle.rows.specs.Scaled.{position, pixelOf, sixteenth, inFamily, putDown, prepDown};
+ghost use Rattle.rows.specs.Scaled.{position, pixelOf, sixteenth, inFamily, putDown, prepDown, Tabled};
 ghost use Rattle.rows.specs.bytes.Pixel.{BitsOk, BiasOk, MaxOk};
 ghost use Rattle.blocks.specs.bytes.Depth.{depthOk};
 ghost use Rattle.blocks.specs.Ready.{Block, Rows};
@@ -36,6 +36,7 @@ use rows::bytes::scaled::scaled_row;
 use rows::bytes::subpel::mid_by;
 use rows::numbers::half_power;
 use rows::scaled::Columns;
+use rows::scaled::tabulate_columns;
 use rows::subpel::Way;
 use rows::subpel::eight;
 
@@ -185,20 +186,33 @@ pub fn prep_8tap_scaled_rows(
     }
 }
 
-// Rows n to m - 1 are filtered between pixels, each into the place of the older of two.
-fn next_pairs(rows: &mut [i16], n: usize, m: usize, src: &[Pixel], p: ScaledPlan, w: usize)
-    requires { ⌜ (length (now rows) ≡ 128) × LastTwo w (pairLineOf (now src) p) n (now rows) × (n ≤ m) × Paired (length (now src)) p w m × BitsOk (p .bits) ⌝ }
+// Rows n to m - 1 are filtered between pixels, each into the place of the older of two; pixels and fractions are the tables of the plan's columns.
+fn next_pairs(
+    rows: &mut [i16],
+    n: usize,
+    m: usize,
+    src: &[Pixel],
+    p: ScaledPlan,
+    pixels: &[usize; 64],
+    fractions: &[u8; 64],
+    w: usize,
+)
+    requires { ⌜ (length (now rows) ≡ 128) × LastTwo w (pairLineOf (now src) p) n (now rows) × (n ≤ m) × Paired (length (now src)) p w m × BitsOk (p .bits)
+        × Tabled (now pixels) (now fractions) w (p .mx) (p .dx) ⌝ }
     ensures { λ _. ⌜ LastTwo w (pairLineOf (now (src .entry)) p) m (now (rows .exit)) ⌝ }
 {
-    let by = Columns {
-        start: p.mx,
-        step: p.dx,
-    };
     let r = 4 - bits_of(p.bits);
     let mut k = n;
     while k < m {
         let q = k % 2 * 64;
-        scaled_bilin_row(&mut rows[q..q + w], src, p.start + k * p.stride, by, r);
+        scaled_bilin_row(
+            &mut rows[q..q + w],
+            src,
+            p.start + k * p.stride,
+            pixels,
+            fractions,
+            r,
+        );
         k += 1;
     }
 }
@@ -220,13 +234,16 @@ pub fn put_bilin_scaled_rows(
         (pairLineOf (now (src .entry)) p (pixelOf (position (p .my) (p .dy) j) + 1) i) (sixteenth (position (p .my) (p .dy) j))))) ⌝ }
 {
     let r = 4 + bits_of(p.bits);
+    let mut pixels = [0usize; 64];
+    let mut fractions = [0u8; 64];
+    tabulate_columns(&mut pixels, &mut fractions, w, p.mx, p.dx);
     let mut rows = [0i16; 128];
     let mut n = 0;
     let mut y = 0;
     while y < h {
         let v = p.my + y * p.dy;
         let m = v / 1024 + 2;
-        next_pairs(&mut rows, n, m, src, p, w);
+        next_pairs(&mut rows, n, m, src, p, &pixels, &fractions, w);
         n = m;
         let d = y * dst_stride;
         mid_bilin_row(&mut dst[d..d + w], &rows, 0, 64, by_parity(v), r, max);
@@ -251,13 +268,16 @@ pub fn prep_bilin_scaled_rows(
         (pairLineOf (now (src .entry)) p (pixelOf (position (p .my) (p .dy) j) + 1) i) (sixteenth (position (p .my) (p .dy) j))))) (pos bias)) ⌝ }
 {
     let less = bias_of(bias) as i16;
+    let mut pixels = [0usize; 64];
+    let mut fractions = [0u8; 64];
+    tabulate_columns(&mut pixels, &mut fractions, w, p.mx, p.dx);
     let mut rows = [0i16; 128];
     let mut n = 0;
     let mut y = 0;
     while y < h {
         let v = p.my + y * p.dy;
         let m = v / 1024 + 2;
-        next_pairs(&mut rows, n, m, src, p, w);
+        next_pairs(&mut rows, n, m, src, p, &pixels, &fractions, w);
         n = m;
         let d = y * tmp_stride;
         mid_bilin_prep_row(&mut tmp[d..d + w], &rows, 0, 64, by_parity(v), 4, less);

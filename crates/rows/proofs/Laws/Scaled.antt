@@ -11,7 +11,7 @@ use Rattle.rows.specs.Places.{span, rowOf}
 use Rattle.rows.specs.Copy.{prep}
 use Rattle.rows.specs.Subpel.{filter, tapped}
 use Rattle.rows.specs.Bilinear.{bilin, bilinAt, R}
-use Rattle.rows.specs.Scaled.{position, pixelOf, sixteenth, inFamily, scaledMid, eightAt, Steps}
+use Rattle.rows.specs.Scaled.{position, pixelOf, sixteenth, inFamily, scaledMid, eightAt, Steps, PairsFetched}
 use Rattle.rows.proofs.Laws.Low.{low16-again}
 use Rattle.rows.proofs.Laws.Places.{span-at, row-same}
 use Rattle.rows.proofs.Laws.Taps.{tapped-same}
@@ -55,8 +55,8 @@ module _ (src : List ℕ) (o : ℕ) where
       let at = span-at 0 src o (length src) (omega arith) in
       ap₂ (λ (x y : ℕ). bilin (pos x) (pos y) f) (at k (omega arith)) (at (k + 1) (omega arith) ∙ ap (λ (n : ℕ). getD src n 0) (omega arith))
 
-  -- a row of that part, at the positions x
-  pub part-row : (n w : ℕ) (x : ℕ → ℕ) → ((i : ℕ) → i < w → o + pixelOf (x i) + 1 < length src)
-      → rowOf w (λ i. low16 (R n (bilinAt (px (span src o (length src))) (pixelOf (x i)) 1 (sixteenth (x i)))))
-      ≡ rowOf w (λ i. low16 (R n (bilinAt (px src) (o + pixelOf (x i)) 1 (sixteenth (x i)))))
-  part-row n w x fits = row-same (pos 0) w _ _ λ i h. ap (λ (z : ℤ). low16 (R n z)) (part-at _ _ (fits i h))
+  -- a row of that part, by tables of the columns
+  pub part-row : (n w : ℕ) (pixels fractions : List ℕ) → PairsFetched (length src) o pixels fractions w
+      → rowOf w (λ i. low16 (R n (bilinAt (px (span src o (length src))) (getD pixels i 0) 1 (getD fractions i 0))))
+      ≡ rowOf w (λ i. low16 (R n (bilinAt (px src) (o + getD pixels i 0) 1 (getD fractions i 0))))
+  part-row n w pixels fractions f = row-same (pos 0) w _ _ λ i h. ap (λ (z : ℤ). low16 (R n z)) (part-at _ _ (f .within i h))

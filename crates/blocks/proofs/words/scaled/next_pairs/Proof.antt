@@ -1,20 +1,21 @@
 use Prim.Native.Nat.{_+_, _-_, _*_, _%_, _≤_, _<_}
-use mathlib.Core.Path.{_≡_}
+use mathlib.Core.Path.{_≡_, _∙_}
 use lib.IntN.{pos}
 use lib.ListN.{length}
 use native.Mathlib.Omega.{arith}
 use borrow.Author.Needs.{needs}
+use Rattle.rows.specs.Places.{span}
 use Rattle.rows.proofs.Laws.Places.{span-length}
 use Rattle.blocks.specs.Scaled.{LastTwo, pairLineOf}
-use Rattle.blocks.proofs.Laws.ScaledPairs.{two-more, pair-start}
+use Rattle.blocks.proofs.Laws.ScaledPairs.{two-more, pair-start, pairs-fetched, tabled-line}
 use Rattle.blocks.proofs.words.scaled.next_pairs.Statement.{statement}
 use Rattle.blocks.proofs.words.scaled.next_pairs.Tie as tie
 
 abbrev Inv-loop : tie.InvT-loop
-Inv-loop rows₀ n m src p w by r k₀ rows k = (k ≤ m) × ((length rows ≡ 128) × LastTwo w (pairLineOf src p) k rows)
+Inv-loop rows₀ n m src p pixels fractions w r k₀ rows k = (k ≤ m) × ((length rows ≡ 128) × LastTwo w (pairLineOf src p) k rows)
 
 abbrev μ-loop : tie.MeasureT-loop
-μ-loop rows₀ n m src p w by r k₀ rows k = m - k
+μ-loop rows₀ n m src p pixels fractions w r k₀ rows k = m - k
 
 -- the function's entry, from a turn of the loop
 abbrev entry : tie.In-loop Inv-loop μ-loop → tie.Start Inv-loop μ-loop
@@ -24,18 +25,30 @@ entry c = c .before .before .before .before
 begins : (c : tie.In-loop Inv-loop μ-loop) → let a = entry c .args in a .p .start + c .before .loop .k * a .p .stride < length (a .src .now)
 begins c = pair-start (entry c .pre .3) (c .before .loop .k) (c .loop-test .taken)
 
+-- and how long it is
+long : (c : tie.In-loop Inv-loop μ-loop) → let q = c .before .loop .k % 2 * 64 in let w = entry c .args .w in
+    length (span (c .before .loop .rows) q (q + w)) ≡ w
+long c = let q = c .before .loop .k % 2 * 64 in span-length (pos 0) (c .before .loop .rows) q (q + entry c .args .w) (omega arith) ∙ omega arith
+
 scaled-bilin-row-requires : tie.Need-scaled-bilin-row-requires Inv-loop μ-loop
 scaled-bilin-row-requires c κs =
-    let t = c .before .before .before in let q = entry t .pre .3 in let k = t .before .loop .k in
-    let l = span-length (pos 0) (t .before .loop .rows) (k % 2 * 64) (k % 2 * 64 + entry t .args .w) (omega arith) in
-    let e = t .before .before .bits-of .ensures in
-    ((omega arith, omega (arith, begins t), q .across, omega (arith, e, q .even), omega (arith, e, q .even)), λ i b. q .fetched k i (t .loop-test .taken) (omega arith))
+    let t = c .before .before .before in let p = entry t .pre in
+    let e = t .before .before .bits-of .ensures in (
+      omega (arith, long t),
+      omega (arith, begins t),
+      pairs-fetched (p .3) (p .5) (t .before .loop .k) _ (t .loop-test .taken) (omega (arith, long t)),
+      omega (arith, e, p .3 .even),
+      omega (arith, e, p .3 .even),
+    )
 
 loop-again : tie.Need-loop-again Inv-loop μ-loop
-unfolding pairLineOf
 loop-again c =
-    let r = c .before in let t = r .before .before .before .before in let i = t .before .loop .inv in
-    (omega arith, two-more (i .1 .1) (entry t .pre .3 .w64) (i .1 .0) _ (rw (t .before .before .bits-of .ensures) at (r .scaled-bilin-row .ensures)))
+    let r = c .before in let t = r .before .before .before .before in let i = t .before .loop .inv in let p = entry t .pre in
+    let row = rw (t .before .before .bits-of .ensures) at (r .scaled-bilin-row .ensures) in (
+      omega arith,
+      two-more (i .1 .1) (p .3 .w64) (i .1 .0) _
+          (row ∙ tabled-line (p .3) (p .5) (entry t .args .src .now) (t .before .loop .k) _ (omega (arith, long t))),
+    )
 
 returns : tie.Need-returns Inv-loop μ-loop
 returns c =

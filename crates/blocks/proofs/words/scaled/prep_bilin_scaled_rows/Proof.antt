@@ -15,51 +15,65 @@ use Rattle.blocks.proofs.words.scaled.prep_bilin_scaled_rows.Statement.
 use Rattle.blocks.proofs.words.scaled.prep_bilin_scaled_rows.Tie as tie
 
 abbrev Inv-loop : tie.InvT-loop
-Inv-loop tmp₀ ts src p bias w h less rows₀ n₀ y₀ tmp rows n y = PairLoop (λ v. minus16 (low16 (R 4 v)) (pos bias)) src p ts w h tmp₀ n y rows tmp
+Inv-loop tmp₀ ts src p bias w h less pixels fractions rows₀ n₀ y₀ tmp rows n y = PairLoop (λ v. minus16 (low16 (R 4 v)) (pos bias)) src p ts w h tmp₀ n y rows tmp
 
 abbrev μ-loop : tie.MeasureT-loop
-μ-loop tmp₀ ts src p bias w h less rows₀ n₀ y₀ tmp rows n y = h - y
+μ-loop tmp₀ ts src p bias w h less pixels fractions rows₀ n₀ y₀ tmp rows n y = h - y
 
--- the function's entry, from a turn of the loop; and the turn, from where rows have come in
+-- the function's entry, from where the tables are made; and from a turn of the loop
+abbrev begin : tie.After-fractions Inv-loop μ-loop → tie.Start Inv-loop μ-loop
+begin c = c .before .before .before .before
+
 abbrev entry : tie.In-loop Inv-loop μ-loop → tie.Start Inv-loop μ-loop
-entry c = c .before .before .before .before
+entry c = begin (c .before .before .before)
 
+-- the turn, from where rows have come in
 abbrev in-turn : tie.After-rows2 Inv-loop μ-loop → tie.In-loop Inv-loop μ-loop
-in-turn c = c .before .before .before .before .before
+in-turn c = c .before .before .before .before .before .before .before
 
 row : (c : tie.In-loop Inv-loop μ-loop) → let a = entry c .args in
     PairTurn (length (a .src .now)) (a .p) (a .tmp-stride) (a .w) (c .before .loop .y) (c .before .loop .tmp)
 row c = let p = entry c .pre in pair-turn (pos 0) (c .before .loop .inv) (p .0) (p .1) (c .loop-test .taken) (p .2)
 
 -- the bias, as the rows take it
-less : (c : tie.After-bias-of Inv-loop μ-loop) → toZ w16 (c .bias-of .result) ≡ pos (c .before .before .args .bias)
-less c = let b = c .bias-of in backn w16 (b .result) (omega (arith, b .ensures, c .before .before .pre .4)) ∙ ap pos (b .ensures)
+less : (c : tie.In-loop Inv-loop μ-loop) → toZ w16 (c .before .before .before .before .before .bias-of .result) ≡ pos (entry c .args .bias)
+less c =
+    let b = c .before .before .before .before .before .bias-of in
+    backn w16 (b .result) (omega (arith, b .ensures, entry c .pre .4)) ∙ ap pos (b .ensures)
+
+tabulate-columns-requires : tie.Need-tabulate-columns-requires Inv-loop μ-loop
+tabulate-columns-requires c κs = let p = begin c .pre in (refl, refl, p .0 .w64, p .2 .across)
 
 next-pairs-requires : tie.Need-next-pairs-requires Inv-loop μ-loop
 next-pairs-requires c κs =
-    let t = c .before .before .before in let i = t .before .loop .inv in
-    (i .kept, i .two, omega (arith, i .below), row t .ready, entry t .pre .3)
+    let t = c .before .before .before .before .before in let i = t .before .loop .inv in
+    (i .kept, i .two, omega (arith, i .below), row t .ready, entry t .pre .3, t .before .before .tabulate-columns .ensures)
 
 mid-bilin-prep-row-requires : tie.Need-mid-bilin-prep-row-requires Inv-loop μ-loop
 mid-bilin-prep-row-requires c κs =
     (omega (arith, row (in-turn (c .before .before .before))), parity-small _ (c .by-parity .ensures), omega arith)
 
+-- y is below h
+add-y : tie.Need-add-y Inv-loop μ-loop
+add-y c = let t = in-turn (c .before .before .before .before .before) in omega (arith, t .loop-test .taken, entry t .pre .0)
+
 loop-again : tie.Need-loop-again Inv-loop μ-loop
 loop-again c =
     let m = c .before in let b = m .before in let r = b .before .before .before in let t = in-turn r in let p = entry t .pre in
     pair-more (pos 0) (t .before .loop .inv) (p .0) (p .1) (t .loop-test .taken) (omega arith) (r .before .next-pairs .ensures)
-    (rw (b .by-parity .ensures, less (t .before .before)) at (m .mid-bilin-prep-row .ensures))
+    (rw (b .by-parity .ensures, less t) at (m .mid-bilin-prep-row .ensures))
 
 pub prep-bilin-scaled-rows-spec : {M : Type 1} → statement M
 prep-bilin-scaled-rows-spec =
     tie.close
     (tie.spec Inv-loop μ-loop
     (λ c κs. search needs) (λ c. search needs)  -- bias-of, as i16
-    (λ c. pair-none (pos 0) (c .before .before .pre .0) (c .before .before .pre .1) refl)  -- loop-holds
+    tabulate-columns-requires
+    (λ c. let p = begin (c .before) .pre in pair-none (pos 0) (p .0) (p .1) refl)  -- loop-holds
     (λ c. omega (arith, row (c .before))) (λ c. omega (arith, row (c .before .before))) (λ c. omega (arith, row (c .before .before)))  -- v and m
     (λ c. search needs) next-pairs-requires  -- &mut rows
     (λ c. omega (arith, row (in-turn c))) (λ c. omega (arith, row (in-turn c))) (λ c. omega (arith, row (in-turn c)))  -- y * tmp_stride, d + w, 2 * d
     (λ c. omega (arith, row (in-turn c))) (λ c. omega (arith, row (in-turn c))) (λ c. omega (arith, row (in-turn c)))  -- tmp[d..d + w]
     (λ c. search needs) (λ c κs. search needs) mid-bilin-prep-row-requires  -- &rows, by-parity
-    (λ c. search needs) (λ c. search needs) loop-again  -- y += 1, and the loop
+    add-y (λ c. search needs) loop-again  -- y += 1, and the loop
     (λ c. search needs) (λ c. filled-all (c .before .loop .inv .filled) (c .loop-test .left)))
