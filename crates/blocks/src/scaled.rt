@@ -92,6 +92,17 @@ fn reads_scaled(taps: bool, l: Lent, w: usize, h: usize, m: ScaledMotion) -> boo
     let rows = 1 + (above(m.my) as usize + (h - 1) * above(m.dy) as usize) / 1024;
     let start = above(m.mx) as usize;
     let step = above(m.dx) as usize;
+    // Columns never fall: of bilinear's, the last reads farthest.
+    if !taps {
+        return column_read(
+            false,
+            l.sl,
+            l.src_off,
+            l.src_stride,
+            rows,
+            start + (w - 1) * step,
+        );
+    }
     let mut ok = true;
     let mut x = 0;
     while x < w {

@@ -1,7 +1,7 @@
 -- Scaled blocks, refusal number 5: a source of sl places is accepted exactly where it holds each place that the Rust fetches. Place o is that of the pixel that
 -- the block starts in, and pixels and rows are counted from there. Assumes nothing.
-use mathlib.Core.Path.{_≡_, refl}
-use mathlib.Core.Bool.{true, false}
+use mathlib.Core.Path.{_≡_, refl, sym, _∙_}
+use mathlib.Core.Bool.{Bool, true, false}
 use mathlib.Core.Logic.{_⊎_, inl, inr, ⊎-elim}
 use Prim.Native.Nat.{ℕ, _+_, _-_, _*_, _≤_, _<_}
 use native.Mathlib.Nat.{add-mul, mul-le-mul-right}
@@ -10,8 +10,9 @@ use lib.IntN.{ℤ}
 use Rattle.rows.specs.Numbers.{up}
 use Rattle.rows.specs.Scaled.{position, pixelOf, sixteenth}
 use Rattle.rows.proofs.Laws.Places.{by-lt}
-use Rattle.blocks.specs.Scaled.{readsScaled}
-use Rattle.blocks.proofs.Laws.ScaledReady.{each-at, each-all, taps-read, read-taps, row-taps, pair-read, read-pair}
+use Rattle.blocks.specs.Scaled.{each, columnRead, readsScaled}
+use Rattle.blocks.proofs.Laws.ScaledPairs.{position-le}
+use Rattle.blocks.proofs.Laws.ScaledReady.{each-at, each-all, each-none, taps-read, read-taps, row-taps, pair-read, read-pair}
 
 -- the row that the last row of h is in
 abbrev pub lastRow : (my dy : ℤ) (h : ℕ) → ℕ
@@ -78,3 +79,15 @@ unfolding readsScaled
 pairs-accepted sl o s w h mx my dx dy i =
     let n = lastRow my dy h in
     each-all w _ (λ x l. read-pair sl o s n (columnAt mx dx x) (omega (arith, i x (n + 1) 1 l (omega arith) (omega arith))))
+
+-- columns never fall: they are all inside exactly where the last is
+pub last-column : (sl o s n w start step : ℕ) → 1 ≤ w
+    → columnRead false sl o s (1 + n) (position start step (w - 1)) ≡ each w (λ x. columnRead false sl o s (1 + n) (position start step x))
+last-column sl o s n w start step h = by-test (columnRead false sl o s (1 + n) (position start step (w - 1))) refl where
+  by-test : (t : Bool) → columnRead false sl o s (1 + n) (position start step (w - 1)) ≡ t
+      → columnRead false sl o s (1 + n) (position start step (w - 1)) ≡ each w (λ x. columnRead false sl o s (1 + n) (position start step x))
+  by-test true e =
+      let last = pair-read sl o s n (position start step (w - 1)) e in
+      e
+      ∙ sym (each-all w _ λ x l. read-pair sl o s n (position start step x) (omega (arith, last, position-le start step {x = x} {y = w - 1} (omega arith))))
+  by-test false e = e ∙ sym (each-none w _ (w - 1) (omega arith) e)

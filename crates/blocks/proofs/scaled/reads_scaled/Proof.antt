@@ -1,4 +1,5 @@
 use mathlib.Core.Path.{_≡_, refl, sym}
+use mathlib.Core.Bool.{Bool, true, false, not}
 use Prim.Native.Nat.{ℕ, _-_, _*_, _≤_}
 use native.Mathlib.Nat.{mul-le-mul}
 use native.Mathlib.Numerals.{add-one}
@@ -9,6 +10,7 @@ use Rattle.rows.specs.Numbers.{up}
 use Rattle.rows.specs.Scaled.{position}
 use Rattle.blocks.specs.Scaled.{each, columnRead, readsScaled}
 use Rattle.blocks.proofs.Laws.Told.{told-back}
+use Rattle.blocks.proofs.Laws.ScaledPlaces.{last-column}
 use Rattle.blocks.proofs.Laws.ScaledReady.{each-none, column-past}
 use Rattle.blocks.proofs.scaled.reads_scaled.Statement.{statement}
 use Rattle.blocks.proofs.scaled.reads_scaled.Tie as tie
@@ -43,8 +45,12 @@ far k step p q = mul-le-mul p q
 last-row : (c : tie.After-above2 Inv-loop μ-loop) → (begin (c .before .before .before .before) .args .h - 1) * c .above2 .result ≤ 63 * 4096
 last-row c = far _ _ (omega arith) (omega (arith, down c))
 
-column : (c : tie.In-loop Inv-loop μ-loop) → c .before .loop .x * c .before .before .above4 .result ≤ 63 * 4096
-column c = far _ _ (omega arith) (omega (arith, across (c .before .before)))
+column : (c : tie.In-loop Inv-loop μ-loop) → c .before .loop .x * c .before .before .before .above4 .result ≤ 63 * 4096
+column c = far _ _ (omega arith) (omega (arith, across (c .before .before .before)))
+
+last-column-near : (c : tie.Then2 Inv-loop μ-loop)
+    → (begin (c .before .before .before .before .before .before .before .before .before) .args .w - 1) * c .before .above4 .result ≤ 63 * 4096
+last-column-near c = far _ _ (omega arith) (omega (arith, across (c .before)))
 
 returns : tie.Need-returns Inv-loop μ-loop
 unfolding readsScaled
@@ -54,20 +60,38 @@ returns c =
 
 column-read-requires : tie.Need-column-read-requires Inv-loop μ-loop
 column-read-requires c κs =
-    let b = c .before .before in let d = b .before .before .before .before in
+    let b = c .before in let d = b .before .before .before .before in
+    omega (arith, across b, last-column-near c, down d, last-row d)
+
+not-true : (t : Bool) → not t ≡ true → t ≡ false
+not-true true e = cc e
+not-true false e = refl
+
+returns-2 : tie.Need-returns-2 Inv-loop μ-loop
+unfolding readsScaled
+returns-2 c =
+    let b = c .before .before in
+    let d = b .before .before .before .before in
+    let a = begin (d .before .before .before .before) .args in
+    rw (c .column-read .ensures, not-true (a .taps) (c .before .if2 .taken), across b .0, across b .1, down d .0, down d .1)
+    (last-column (a .l .sl) (a .l .«src_off») (a .l .«src_stride») _ (a .w) _ _ (omega arith))
+
+column-read-requires-2 : tie.Need-column-read-requires-2 Inv-loop μ-loop
+column-read-requires-2 c κs =
+    let b = c .before .before .before in let d = b .before .before .before .before in
     omega (arith, across b, column c, down d, last-row d)
 
 loop-again : tie.Need-loop-again Inv-loop μ-loop
 unfolding each
 loop-again c =
     let l = c .before .before .loop in
-    (omega arith, rw (c .column-read .ensures, add-one (l .x), l .inv .1) refl)
+    (omega arith, rw (c .column-read2 .ensures, add-one (l .x), l .inv .1) refl)
 
-returns-2 : tie.Need-returns-2 Inv-loop μ-loop
+returns-3 : tie.Need-returns-3 Inv-loop μ-loop
 unfolding readsScaled
-returns-2 c =
+returns-3 c =
     let l = c .before .loop in
-    let b = c .before .before in
+    let b = c .before .before .before in
     let d = b .before .before .before .before in
     let e : l .x ≡ begin (d .before .before .before .before) .args .w = omega arith in
     rw (l .inv .1, e, across b .0, across b .1, down d .0, down d .1) refl
@@ -81,6 +105,8 @@ reads-scaled-spec =
     (λ c κs. search needs) (λ c. search needs) (λ c. search needs) (λ c κs. search needs) (λ c. search needs)  -- above, cast-rows, sub-rows, above, cast-rows
     (λ c. omega (arith, last-row c)) (λ c. omega (arith, down c, last-row c)) (λ c. omega (arith, down c, last-row c))  -- mul-rows, add-rows, add-rows-2
     (λ c κs. search needs) (λ c. search needs) (λ c κs. search needs) (λ c. search needs)  -- above, cast-start, above, cast-step
+    (λ c. omega arith) (λ c. omega (arith, last-column-near c)) (λ c. omega (arith, across (c .before), last-column-near c))  -- start + (w - 1) * step
+    column-read-requires returns-2
     (λ c. (omega arith, refl))  -- loop-holds
-    (λ c. omega (arith, column c)) (λ c. omega (arith, across (c .before .before), column c))  -- mul-column-read, add-column-read
-    column-read-requires (λ c. search needs) (λ c. search needs) loop-again returns-2)  -- column-read, add-x, loop-less
+    (λ c. omega (arith, column c)) (λ c. omega (arith, across (c .before .before .before), column c))  -- start + x * step
+    column-read-requires-2 (λ c. search needs) (λ c. search needs) loop-again returns-3)  -- column-read, add-x, loop-less
