@@ -53,6 +53,7 @@ pub mod WindowReady
 pub mod Window
 pub mod WindowRows
 pub mod WindowAnswers
+pub mod OddPictures
 pub mod OrderReady
 pub mod Orders
 pub mod OrderAnswers

@@ -24,12 +24,12 @@ pub struct Area {
     pub top: i64,
 }
 
-// A side of the named plane: chroma has half of luma's where the flag is set.
+// A side of the named plane: chroma has half of luma's, rounded up, where the flag is set.
 fn plane_side(plane_no: u32, flag: bool, luma: usize) -> usize
     ensures { λ r. ⌜ r ≡ planeSide «plane_no» flag luma ⌝ }
 {
     if (plane_no == 1) & flag {
-        luma / 2
+        luma / 2 + luma % 2
     } else {
         luma
     }
@@ -47,12 +47,11 @@ pub fn plane_h(f: Frame, plane_no: u32) -> usize
     plane_side(plane_no, f.ss_ver, f.luma_h)
 }
 
-// Luma's sides are in their range, and the named plane has no side of 0.
+// Luma's sides are in their range. The named plane then has no side of 0: half of 1, rounded up, is 1.
 pub fn frame_sizes_ok(f: Frame, plane_no: u32) -> bool
     ensures { λ r. ⌜ r ≡ frameSizesOk f «plane_no» ⌝ }
 {
-    (size_ok(16384, f.luma_w) & size_ok(16384, f.luma_h))
-        & ((1 <= plane_w(f, plane_no)) & (1 <= plane_h(f, plane_no)))
+    size_ok(16384, f.luma_w) & size_ok(16384, f.luma_h)
 }
 
 // ss_ver comes with ss_hor, and the plane is luma (0) or chroma (1).

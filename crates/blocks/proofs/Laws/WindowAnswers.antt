@@ -30,34 +30,34 @@ pub row-unique : (f : Frame) (planeNo pl ps : ℕ) (row : ℤ) {r b o s l r′ b
     → (r ≡ r′) × (b ≡ b′) × (o ≡ o′) × (s ≡ s′) × (l ≡ l′)
 row-unique f planeNo pl ps row u v = part-unique (rowAt f planeNo pl ps row) u v
 
--- ---- calls that are accepted: of a frame of 17 x 9 with chroma halved, whose chroma plane is 8 x 4, at a stride of 10 in 38 places
+-- ---- calls that are accepted: of a frame of 17 x 9 with chroma halved, whose chroma plane is 9 x 5, at a stride of 10 in 49 places
 abbrev frame : Frame
 frame = record { «luma_w» = 17; «luma_h» = 9; «ss_hor» = true; «ss_ver» = true }
 
--- a bilinear block of 3 x 2 at column 4 of row 1, with its margins, ends with the plane's columns and is the plane's own
-window-own : windowOf frame 1 38 10 2 3 2 (pos 4) (pos 1) 0 12 ≡ record { number = 0; buffer = 1; place = 14; stride = 10; len = 24 }
+-- a bilinear block of 3 x 2 at column 5 of row 2, with its margins, ends with the plane's columns and rows and is the plane's own
+window-own : windowOf frame 1 49 10 2 3 2 (pos 5) (pos 2) 0 12 ≡ record { number = 0; buffer = 1; place = 25; stride = 10; len = 24 }
 unfolding windowOf windowAt orSame need sizeOk strideOk placeOk holds flagsOk planeSide frameSizesOk frameNamesOk before after isPlanes inside
 window-own = refl
 
 -- in mode 1 it is in scratch, and so it is in mode 0 a column further right
-window-fetched : windowOf frame 1 38 10 2 3 2 (pos 4) (pos 1) 1 12 ≡ record { number = 0; buffer = 2; place = 0; stride = 4; len = 12 }
+window-fetched : windowOf frame 1 49 10 2 3 2 (pos 5) (pos 2) 1 12 ≡ record { number = 0; buffer = 2; place = 0; stride = 4; len = 12 }
 unfolding windowOf windowAt orSame need sizeOk strideOk placeOk holds flagsOk planeSide frameSizesOk frameNamesOk before after isPlanes inside
 window-fetched = refl
 
-window-beside : windowOf frame 1 38 10 2 3 2 (pos 5) (pos 1) 0 12 ≡ record { number = 0; buffer = 2; place = 0; stride = 4; len = 12 }
+window-beside : windowOf frame 1 49 10 2 3 2 (pos 6) (pos 2) 0 12 ≡ record { number = 0; buffer = 2; place = 0; stride = 4; len = 12 }
 unfolding windowOf windowAt orSame need sizeOk strideOk placeOk holds flagsOk planeSide frameSizesOk frameNamesOk before after isPlanes inside
 window-beside = refl
 
 -- with one place of scratch less it is refused
-window-short : windowOf frame 1 38 10 2 3 2 (pos 4) (pos 1) 0 11 ≡ record { number = 6; buffer = 0; place = 0; stride = 0; len = 0 }
+window-short : windowOf frame 1 49 10 2 3 2 (pos 5) (pos 2) 0 11 ≡ record { number = 6; buffer = 0; place = 0; stride = 0; len = 0 }
 unfolding windowOf windowAt orSame need sizeOk strideOk placeOk holds flagsOk planeSide frameSizesOk frameNamesOk before after isPlanes inside
 window-short = refl
 
 -- the last row, and the one after it
-row-last : rowAt frame 1 38 10 (pos 3) ≡ record { number = 0; buffer = 1; place = 30; stride = 10; len = 8 }
+row-last : rowAt frame 1 49 10 (pos 4) ≡ record { number = 0; buffer = 1; place = 40; stride = 10; len = 9 }
 unfolding rowAt orSame need strideOk sizeOk holds flagsOk planeSide frameSizesOk frameNamesOk
 row-last = refl
 
-row-after : rowAt frame 1 38 10 (pos 4) ≡ record { number = 3; buffer = 0; place = 0; stride = 0; len = 0 }
+row-after : rowAt frame 1 49 10 (pos 5) ≡ record { number = 3; buffer = 0; place = 0; stride = 0; len = 0 }
 unfolding rowAt orSame need strideOk sizeOk holds flagsOk planeSide frameSizesOk frameNamesOk
 row-after = refl

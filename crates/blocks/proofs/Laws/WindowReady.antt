@@ -42,10 +42,10 @@ pub start-fits : (kind : ℕ) (x : ℤ) → natAbs x ≤ 2 ^ 30 → SFits w64 (w
 start-fits kind x h = fit-abs w64 (windowStart kind x) (omega (arith, start-near kind x h))
 
 -- a plane's side is at most luma's
-side-le : (planeNo : ℕ) (flag : Bool) (luma : ℕ) → planeSide planeNo flag luma ≤ luma
+pub side-le : (planeNo : ℕ) (flag : Bool) (luma : ℕ) → planeSide planeNo flag luma ≤ luma
 unfolding planeSide
 side-le planeNo flag luma = go (eqb planeNo 1 && flag) where
-  go : (b : Bool) → pick b (luma / 2) luma ≤ luma
+  go : (b : Bool) → pick b ((luma + 1) / 2) luma ≤ luma
   go true = omega arith
   go false = omega arith
 
