@@ -293,8 +293,8 @@ uint32_t hv_set_affine_mv2d(int32_t bw4, int32_t bh4, int32_t mv_x, int32_t mv_y
 
 /*
  * Frames. A frame has luma sides of 1 to 16384 and two flags; a chroma plane's side is luma's divided by two, rounded
- * down, where its flag is set; a side of 0 (luma 1 with the flag) is HV_SIZE where that plane is named. ss_ver without
- * ss_hor is HV_NUMBER, for luma too. plane is the plane that plane_no names, whole; any other name is HV_NUMBER.
+ * up, where its flag is set: luma 641 has chroma 321, and luma 1 has 1. ss_ver without ss_hor is HV_NUMBER, for luma
+ * too. plane is the plane that plane_no names, whole; any other name is HV_NUMBER.
  */
 enum hv_plane_no { HV_LUMA = 0, HV_CHROMA = 1 };
 

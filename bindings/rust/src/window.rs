@@ -13,9 +13,9 @@ pub struct Frame {
     pub luma_w: usize,
     /// Luma's height.
     pub luma_h: usize,
-    /// Chroma has half of luma's width, rounded down.
+    /// Chroma has half of luma's width, rounded up.
     pub ss_hor: bool,
-    /// Chroma has half of luma's height, rounded down.
+    /// Chroma has half of luma's height, rounded up.
     pub ss_ver: bool,
 }
 

@@ -12,9 +12,9 @@ const ACROSS: Order = Order { x: -1, y: 0, w: 4, h: 3, kind: Kind::Copy };
 /// What it is.
 const FETCHED: [u8; 12] = [1, 1, 2, 3, 4, 4, 5, 6, 4, 4, 5, 6];
 
-/// The same plane as chroma of a frame of twice the sides, and a column and a row more that chroma doesn't have.
+/// The same plane as chroma of an odd frame, whose last luma column and row have a chroma column and row to themselves.
 fn chroma<P>(w: usize, pixels: &[P]) -> Plane<'_, P> {
-    let frame = Frame { luma_w: 2 * w + 1, luma_h: 2 * (pixels.len() / w) + 1, ss_hor: true, ss_ver: true };
+    let frame = Frame { luma_w: 2 * w - 1, luma_h: 2 * (pixels.len() / w) - 1, ss_hor: true, ss_ver: true };
     Plane { frame, name: PlaneName::Chroma, ..luma(w, pixels) }
 }
 

@@ -146,8 +146,8 @@ fn windows<P: Tested>(_: P::Depth) {
     assert_eq!(window(Plane { pixels: &pixels[1..], ..plane }, ACROSS, 12), Refusal::Read);
     assert_eq!(plane.row(2), Err(Refusal::Number));
     assert_eq!(plane.row(-1), Err(Refusal::Number));
-    let thin = Frame { luma_w: 1, luma_h: 2, ss_hor: true, ss_ver: false };
-    assert_eq!(Plane { frame: thin, name: PlaneName::Chroma, ..plane }.row(0), Err(Refusal::Size));
+    let empty = Frame { luma_w: 0, luma_h: 2, ss_hor: true, ss_ver: false };
+    assert_eq!(Plane { frame: empty, name: PlaneName::Chroma, ..plane }.row(0), Err(Refusal::Size));
 }
 
 /// The refusals of an order run as put and as prep, from a plane of 3 x 2: neither scratch nor what is written changes.

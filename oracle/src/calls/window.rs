@@ -29,10 +29,22 @@ pub enum Lie {
 }
 
 impl<P> Reference<P> {
-    /// Width and height of the named plane: chroma's are luma's divided by two, rounded down, where the flag is set.
+    /// Width and height of the named plane: chroma's are luma's divided by two, rounded up, where the flag is set.
     pub fn sides(&self) -> (usize, usize) {
-        let side = |luma: usize, flag: bool| if self.plane_no == 1 && flag { luma / 2 } else { luma };
-        (side(self.luma_w, self.ss_hor), side(self.luma_h, self.ss_ver))
+        let side = |luma: usize, halved: bool| if halved { luma.div_ceil(2) } else { luma };
+        let [across, down] = self.halved();
+        (side(self.luma_w, across), side(self.luma_h, down))
+    }
+
+    /// Has the named plane half of luma's width; of its height?
+    fn halved(&self) -> [bool; 2] {
+        [self.ss_hor, self.ss_ver].map(|flag| self.plane_no == 1 && flag)
+    }
+
+    /// Is half of an odd luma side a side of the named plane? Only then does it matter which way a half is rounded.
+    pub fn odd(&self) -> bool {
+        let [across, down] = self.halved();
+        (across && self.luma_w % 2 == 1) || (down && self.luma_h % 2 == 1)
     }
 
     /// Where an area lies to the named plane.
@@ -117,12 +129,11 @@ pub struct Wrong {
     pub place: [bool; 2],
 }
 
-/// A luma side for a side of the named plane, which may be half of it; or one outside, 1 for a plane of side 0 too.
+/// A luma side for a side of the named plane, which may be half of it, of an odd one as of an even one; or one outside.
 fn luma(rng: &mut Rng, side: usize, halved: bool, wrong: bool) -> usize {
     match (wrong, halved) {
-        (true, true) if rng.chance(50) => 1,
         (true, _) => limits::side_up_to(rng, LUMA, true),
-        (false, true) => (2 * side + rng.place(0, 1)).min(LUMA),
+        (false, true) => (2 * side - rng.place(0, 1)).min(LUMA),
         (false, false) => side,
     }
 }

@@ -8,10 +8,9 @@ use crate::answer::Px;
 use crate::calls::order::{Motion, Order, OrderPrep, OrderPut};
 use crate::calls::window::{Block, Reference, Row, Window};
 
-/// Is a luma side outside its range, or a side of the named plane 0?
+/// Is a luma side outside its range? No plane has a side of 0 otherwise: half of 1, rounded up, is 1.
 fn bad_frame<P>(from: &Reference<P>) -> bool {
-    let (iw, ih) = from.sides();
-    bad_side(from.luma_w, 16_384) || bad_side(from.luma_h, 16_384) || iw == 0 || ih == 0
+    bad_side(from.luma_w, 16_384) || bad_side(from.luma_h, 16_384)
 }
 
 /// Is the plane neither luma nor chroma, or ss_ver set without ss_hor?

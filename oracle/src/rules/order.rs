@@ -34,7 +34,7 @@ impl<P: Px> Rules for OrderPut<P> {
     }
 
     fn rare(&self) -> Vec<&'static str> {
-        vec![told(&self.order.from, &self.order.block)]
+        told(&self.order.from, &self.order.block)
     }
 }
 
@@ -45,6 +45,6 @@ impl<P: Px> Rules for OrderPrep<P> {
     }
 
     fn rare(&self) -> Vec<&'static str> {
-        vec![told(&self.order.from, &self.order.block)]
+        told(&self.order.from, &self.order.block)
     }
 }

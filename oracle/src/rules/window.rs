@@ -5,12 +5,22 @@ use crate::answer::{Answer, Px, Room};
 use crate::calls::window::{Area, Block, Lie, Reference, Row, Window};
 
 /// Where a block's window lies, in words.
-pub fn told<P>(from: &Reference<P>, block: &Block) -> &'static str {
+fn lies<P>(from: &Reference<P>, block: &Block) -> &'static str {
     match from.lie(&block.window()) {
         Lie::Inside => "window inside the plane",
         Lie::Across => "window across a border",
         Lie::Outside => "window wholly outside",
     }
+}
+
+/// Whether the way a half is rounded matters, in words.
+fn rounded<P>(from: &Reference<P>) -> Option<&'static str> {
+    from.odd().then_some("chroma of an odd luma side")
+}
+
+/// What is to be told of a block's window.
+pub fn told<P>(from: &Reference<P>, block: &Block) -> Vec<&'static str> {
+    [lies(from, block)].into_iter().chain(rounded(from)).collect()
 }
 
 /// The endless plane's pixels in an area, without gaps: at column clamp(x+i, 0, iw-1), row clamp(y+j, 0, ih-1).
@@ -56,7 +66,7 @@ impl<P: Px> Rules for Window<P> {
     }
 
     fn rare(&self) -> Vec<&'static str> {
-        vec![told(&self.from, &self.block)]
+        told(&self.from, &self.block)
     }
 }
 
@@ -65,5 +75,9 @@ impl<P: Px> Rules for Row<P> {
     fn rule(&self) -> Answer {
         let stride = self.from.plane_stride as i64;
         Answer::done(vec![1, self.row * stride, stride, self.from.sides().0 as i64], vec![])
+    }
+
+    fn rare(&self) -> Vec<&'static str> {
+        rounded(&self.from).into_iter().collect()
     }
 }
