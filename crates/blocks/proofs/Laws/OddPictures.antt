@@ -52,10 +52,10 @@ rounded-down law = omega (arith, law 641 640 (omega arith))
 -- no plane has a side of 0 where luma has none
 pub side-some : (planeNo : ℕ) (flag : Bool) (luma : ℕ) → 1 ≤ luma → 1 ≤ planeSide planeNo flag luma
 unfolding planeSide
-side-some planeNo flag luma one = go (eqb planeNo 1 && flag) where
-  go : (b : Bool) → 1 ≤ pick b ((luma + 1) / 2) luma
-  go true = omega arith
-  go false = omega arith
+side-some planeNo flag luma one = go (eqb planeNo 1 && flag) (omega arith) where
+  go : (b : Bool) {half : ℕ} → 1 ≤ half → 1 ≤ pick b half luma
+  go true h = h
+  go false h = one
 
 -- so number 1 is for luma's sides alone, whichever plane is named
 pub chroma-never-empty : (f : Frame) (planeNo : ℕ) → frameSizesOk f planeNo ≡ (sizeOk 16384 (f .«luma_w») && sizeOk 16384 (f .«luma_h»))

@@ -2,7 +2,7 @@
 use mathlib.Core.Path.{_≡_, refl, sym, ap, _∙_}
 use mathlib.Core.Bool.{Bool, true, false, _&&_}
 use mathlib.Core.List.{List, [], _∷_}
-use Prim.Native.Nat.{ℕ, zero, suc, _+_, _/_, _^_, _≤_}
+use Prim.Native.Nat.{ℕ, zero, suc, _+_, _^_, _≤_}
 use native.Mathlib.Omega.{arith}
 use borrow.Author.Tests.{leb-true}
 use lib.Dec.{leb, eqb}
@@ -44,10 +44,10 @@ start-fits kind x h = fit-abs w64 (windowStart kind x) (omega (arith, start-near
 -- a plane's side is at most luma's
 pub side-le : (planeNo : ℕ) (flag : Bool) (luma : ℕ) → planeSide planeNo flag luma ≤ luma
 unfolding planeSide
-side-le planeNo flag luma = go (eqb planeNo 1 && flag) where
-  go : (b : Bool) → pick b ((luma + 1) / 2) luma ≤ luma
-  go true = omega arith
-  go false = omega arith
+side-le planeNo flag luma = go (eqb planeNo 1 && flag) (omega arith) where
+  go : (b : Bool) {half : ℕ} → half ≤ luma → pick b half luma ≤ luma
+  go true h = h
+  go false h = omega arith
 
 -- ---- the first part of the tests
 abbrev pub sizeTests : (f : Frame) (planeNo planeStride w h : ℕ) → List Test
