@@ -10,6 +10,7 @@ use mathlib.Core.Bool.{true}
 use Rattle.blocks.specs.Subpel.{on, filterOf, Held, subpelOk}
 use Rattle.blocks.specs.Window.{windowSide}
 use Rattle.blocks.specs.Order.{kindNumber, kindSizeOk, motionOk, filtersOk}
+use Rattle.blocks.specs.declared.frame.Area.{Area}
 use Rattle.blocks.specs.declared.window.Part.{Part}
 use Rattle.blocks.specs.declared.order.Kind.{Kind}
 use Rattle.blocks.specs.declared.refuse.DepthNumbers.{DepthNumbers}
@@ -32,18 +33,24 @@ pub record Rows (l s w h : ℕ) : Type 0 where
 abbrev pub numbersOf : ℕ → DepthNumbers
 numbersOf depth = record { bits = bitsOf depth; bias = biasOf depth; max = maxOf depth }
 
--- a block of the endless plane: bw columns and bh rows into a buffer of dl places, from a plane of iw columns and ih rows in pl places
-pub record Fetch (bw bh iw ih dl ds pl ps : ℕ) : Type 0 where
-  pub bw1 : 1 ≤ bw
-  pub bw128 : bw ≤ 128
-  pub bh1 : 1 ≤ bh
-  pub bh128 : bh ≤ 128
-  pub iw1 : 1 ≤ iw
-  pub iw14 : iw ≤ 16384
-  pub ih1 : 1 ≤ ih
-  pub ih14 : ih ≤ 16384
-  pub dst : Rows dl ds bw bh
-  pub plane : Rows pl ps iw ih
+-- an area whose sides and place are in their ranges: a window begins up to 3 before a position within ±2^30
+pub record Ranged (a : Area) : Type 0 where
+  pub ww1 : 1 ≤ a .ww
+  pub ww128 : a .ww ≤ 128
+  pub wh1 : 1 ≤ a .wh
+  pub wh128 : a .wh ≤ 128
+  pub iw1 : 1 ≤ a .iw
+  pub iw14 : a .iw ≤ 16384
+  pub ih1 : 1 ≤ a .ih
+  pub ih14 : a .ih ≤ 16384
+  pub left : natAbs (a .left) ≤ 2 ^ 30 + 3
+  pub top : natAbs (a .top) ≤ 2 ^ 30 + 3
+
+-- such an area into a buffer of dl places, from a plane of pl places
+pub record Fetch (a : Area) (dl ds pl ps : ℕ) : Type 0 where
+  pub area : Ranged a
+  pub dst : Rows dl ds (a .ww) (a .wh)
+  pub plane : Rows pl ps (a .iw) (a .ih)
 
 -- a pass of bilinear rows at the fraction f with R(n): h rows of w at the stride ds into dl places, from rows at the stride ss of sl places, the second
 -- number of each place a step on

@@ -2,7 +2,7 @@
 ghost use mathlib.Core.Path.{_≡_};
 ghost use Prim.Native.Nat.{_^_, _≤_};
 ghost use lib.IntN.{natAbs};
-ghost use Rattle.blocks.specs.Window.{planeSide, planeW, planeH, frameSizesOk, frameNamesOk, before, after, windowSide, windowStart};
+ghost use Rattle.blocks.specs.Window.{planeSide, planeW, planeH, frameSizesOk, frameNamesOk, before, after, windowSide, windowStart, areaOf};
 use crate::mask::flags_ok;
 use crate::refuse::size_ok;
 
@@ -98,15 +98,7 @@ fn window_start(kind: u32, x: i64) -> i64
 // The window of a block.
 pub fn area_of(f: Frame, plane_no: u32, kind: u32, w: usize, h: usize, x: i64, y: i64) -> Area
     requires { ⌜ (w ≤ 64) × (h ≤ 64) × (natAbs x ≤ 2 ^ 30) × (natAbs y ≤ 2 ^ 30) ⌝ }
-    ensures { λ r. ⌜ r
-        ≡ record {
-          ww = windowSide kind w;
-          wh = windowSide kind h;
-          iw = planeW f «plane_no»;
-          ih = planeH f «plane_no»;
-          left = windowStart kind x;
-          top = windowStart kind y;
-        } ⌝ }
+    ensures { λ r. ⌜ r ≡ areaOf f «plane_no» kind w h x y ⌝ }
 {
     let ww = window_side(kind, w);
     let wh = window_side(kind, h);

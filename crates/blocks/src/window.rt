@@ -6,8 +6,10 @@ ghost use lib.IntN.{natAbs};
 ghost use Rattle.rows.specs.Numbers.{up};
 ghost use Rattle.blocks.specs.Refuse.{need, lowest, sizeOk, blockSide, strideOk, partLen, holds, holdsAll};
 ghost use Rattle.blocks.specs.Edge.{placeOk};
-ghost use Rattle.blocks.specs.Window.{planeW, planeH, frameSizesOk, frameNamesOk, windowSide, windowTests, inside, isPlanes, windowAt, noPart, windowOf};
+ghost use Rattle.blocks.specs.Ready.{Ranged};
+ghost use Rattle.blocks.specs.Window.{planeW, planeH, frameSizesOk, frameNamesOk, windowSide, windowTests, inside, isPlanes, areaAt, noPart, windowOf};
 use crate::edge::places;
+use crate::frame::Area;
 use crate::frame::Frame;
 use crate::frame::area_of;
 use crate::frame::frame_names_ok;
@@ -75,7 +77,7 @@ pub fn window_held(
     held(pl, plane_stride, iw, ih, 5, scratch)
 }
 
-fn check_window(
+pub fn check_window(
     f: Frame,
     plane_no: u32,
     pl: usize,
@@ -106,12 +108,12 @@ fn inside(x: i64, n: usize, side: usize) -> bool
     (0 <= x) & (x + n as i64 <= side as i64)
 }
 
-// A window of ww columns and wh rows from x and y on is the plane's own.
-fn is_planes(mode: u32, ww: usize, wh: usize, iw: usize, ih: usize, x: i64, y: i64) -> bool
-    requires { ⌜ (ww ≤ 128) × (wh ≤ 128) × (iw ≤ 16384) × (ih ≤ 16384) × (natAbs x ≤ 2 ^ 30 + 3) × (natAbs y ≤ 2 ^ 30 + 3) ⌝ }
-    ensures { λ r. ⌜ r ≡ isPlanes mode ww wh iw ih x y ⌝ }
+// An area is the plane's own.
+fn is_planes(a: Area, mode: u32) -> bool
+    requires { ⌜ Ranged a ⌝ }
+    ensures { λ r. ⌜ r ≡ isPlanes mode (a .ww) (a .wh) (a .iw) (a .ih) (a .left) (a .top) ⌝ }
 {
-    (mode == 0) & (inside(x, ww, iw) & inside(y, wh, ih))
+    (mode == 0) & (inside(a.left, a.ww, a.iw) & inside(a.top, a.wh, a.ih))
 }
 
 // The number, or 0 where it is below 0.
@@ -129,14 +131,14 @@ fn part_len(s: usize, w: usize, h: usize) -> usize
     (h - 1) * s + w
 }
 
-// Where such a window lies, in the plane or in scratch.
-fn window_at(planes: bool, plane_stride: usize, ww: usize, wh: usize, x: i64, y: i64) -> Part
-    requires { ⌜ («plane_stride» ≤ 32768) × (ww ≤ 128) × (1 ≤ wh) × (wh ≤ 128) × (natAbs x ≤ 2 ^ 30 + 3) × (natAbs y ≤ 2 ^ 30 + 3) ⌝ }
-    ensures { λ r. ⌜ r ≡ windowAt planes «plane_stride» ww wh x y ⌝ }
+// Where an area that passed its tests lies, in the plane or in scratch.
+pub fn locate(a: Area, mode: u32, plane_stride: usize) -> Part
+    requires { ⌜ Ranged a × («plane_stride» ≤ 32768) ⌝ }
+    ensures { λ r. ⌜ r ≡ areaAt a mode «plane_stride» ⌝ }
 {
-    if planes {
-        let place = above64(y) * plane_stride + above64(x);
-        let len = part_len(plane_stride, ww, wh);
+    if is_planes(a, mode) {
+        let place = above64(a.top) * plane_stride + above64(a.left);
+        let len = part_len(plane_stride, a.ww, a.wh);
         return Part {
             number: 0,
             buffer: 1,
@@ -145,12 +147,12 @@ fn window_at(planes: bool, plane_stride: usize, ww: usize, wh: usize, x: i64, y:
             len,
         };
     }
-    let len = part_len(ww, ww, wh);
+    let len = part_len(a.ww, a.ww, a.wh);
     Part {
         number: 0,
         buffer: 2,
         place: 0,
-        stride: ww,
+        stride: a.ww,
         len,
     }
 }
@@ -189,6 +191,5 @@ pub fn find_window(
         return no_part(number);
     }
     let a = area_of(f, plane_no, kind, w, h, x, y);
-    let planes = is_planes(mode, a.ww, a.wh, a.iw, a.ih, a.left, a.top);
-    window_at(planes, plane_stride, a.ww, a.wh, a.left, a.top)
+    locate(a, mode, plane_stride)
 }

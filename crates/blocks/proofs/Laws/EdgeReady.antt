@@ -17,6 +17,7 @@ use Rattle.rows.specs.Edge.{endless, edge}
 use Rattle.rows.proofs.Laws.Signed.{back, backn, fit-abs, abs-add, sub-parts, eq-of, clip-up}
 use Rattle.blocks.specs.Refuse.{need, lowest, orSame, sizeOk, strideOk, holds}
 use Rattle.blocks.specs.Ready.{Fetch}
+use Rattle.blocks.specs.declared.frame.Area.{Area}
 use Rattle.blocks.specs.Edge.{placeOk, edgeTests, EdgeAnswer}
 use Rattle.blocks.proofs.Laws.Refuse.{all-met, size-met}
 use Rattle.blocks.proofs.Laws.Answer.{unique-of}
@@ -39,7 +40,7 @@ place-met x e = leb-true (natAbs x) (2 ^ 30) e
 
 -- ---- what the rows rely on, also of a window that starts up to 3 before a position
 pub edge-ready : (bw bh iw ih : ℕ) (x y : ℤ) (dl ds pl ps : ℕ) → lowest (edgeTests bw bh iw ih x y dl ds pl ps) ≡ 0
-    → Fetch bw bh iw ih dl ds pl ps × (natAbs x ≤ 2 ^ 30 + 3) × (natAbs y ≤ 2 ^ 30 + 3)
+    → Fetch (record { ww = bw; wh = bh; iw = iw; ih = ih; left = x; top = y }) dl ds pl ps
 edge-ready bw bh iw ih x y dl ds pl ps e =
     let m = all-met (edgeTests bw bh iw ih x y dl ds pl ps) e in
     let a = size-met 128 bw (m .0) in
@@ -48,22 +49,23 @@ edge-ready bw bh iw ih x y dl ds pl ps e =
     let c = size-met 16384 iw (p .0) in
     let d = size-met 16384 ih (p .1 .0) in
     let t = p .1 .1 in
-    let n = t .1 .1 in (
-      record {
-        bw1 = a .0;
-        bw128 = a .1;
-        bh1 = b .0;
-        bh128 = b .1;
+    let n = t .1 .1 in
+    record {
+      area = record {
+        ww1 = a .0;
+        ww128 = a .1;
+        wh1 = b .0;
+        wh128 = b .1;
         iw1 = c .0;
         iw14 = c .1;
         ih1 = d .0;
         ih14 = d .1;
-        dst = rows-met dl ds bw bh (t .0) (n .1 .1 .1 .0);
-        plane = rows-met pl ps iw ih (t .1 .0) (n .1 .1 .0);
-      },
-      omega (arith, place-met x (n .0)),
-      omega (arith, place-met y (n .1 .0)),
-    )
+        left = omega (arith, place-met x (n .0));
+        top = omega (arith, place-met y (n .1 .0));
+      };
+      dst = rows-met dl ds bw bh (t .0) (n .1 .1 .1 .0);
+      plane = rows-met pl ps iw ih (t .1 .0) (n .1 .1 .0);
+    }
 
 -- ---- a turn at row j
 -- y + j, as the machine has it
@@ -86,7 +88,7 @@ pub clip-below : (ih : ℕ) (z : ℤ) → 1 ≤ ih → clip (ih - 1) z < ih
 clip-below ih z h = omega (arith, clip-up (ih - 1) z)
 
 -- row j is within the block's buffer, row k within the plane
-pub turn : {bw bh iw ih dl ds pl ps j k : ℕ} → Fetch bw bh iw ih dl ds pl ps → j < bh → k < ih → (j * ds + bw ≤ dl) × (k * ps + iw ≤ pl)
+pub turn : {a : Area} {dl ds pl ps j k : ℕ} → Fetch a dl ds pl ps → j < a .wh → k < a .ih → (j * ds + a .ww ≤ dl) × (k * ps + a .iw ≤ pl)
 turn {j} {k} f a b = (row-in j (f .dst) a, row-in k (f .plane) b)
 
 -- the plane's row k, from column x on, is the picture's row j

@@ -16,3 +16,7 @@ passed w z = toZ w (ofZ w z)
 
 pub told-back : (w : Width) {z : ℤ} {A B : Type 0} → Told w z A B → passed w z ≡ z
 told-back w g = back (fit w (g .0 .1))
+
+-- one number, by what is told of it
+pub told-one : (w : Width) (z : ℤ) → mag z < 2 ^ hbits w → passed w z ≡ z
+told-one w z m = back (fit w m)

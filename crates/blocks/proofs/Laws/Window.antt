@@ -17,8 +17,9 @@ use Rattle.rows.proofs.Laws.Places.{span-length, span-at, row-fits}
 use Rattle.rows.proofs.Laws.Fill.{and-true, length-fill, fill-in}
 use Rattle.blocks.specs.Refuse.{lowest, orSame, partLen}
 use Rattle.blocks.specs.Ready.{Rows, Fetch, PartIn}
-use Rattle.blocks.specs.Window.{planeW, planeH, before, windowSide, windowStart, windowTests, inside, isPlanes, ownPlane, windowAt, noPart, windowOf, fetched, scratchOf, partOf, aroundPart}
-use Rattle.blocks.proofs.Laws.WindowReady.{WindowFetch, window-ready, window-number}
+use Rattle.blocks.specs.Window.{planeW, planeH, before, windowSide, windowStart, areaOf, windowTests, inside, isPlanes, ownPlane, windowAt, noPart, windowOf, fetched, scratchOf, partOf, aroundPart}
+use Rattle.blocks.proofs.Laws.WindowReady.{window-ready, window-number}
+use Rattle.blocks.specs.declared.frame.Area.{Area}
 use Rattle.blocks.specs.declared.frame.Frame.{Frame}
 use Rattle.blocks.specs.declared.window.Part.{Part}
 
@@ -48,10 +49,11 @@ clip-inside : (x : ℤ) (n side i : ℕ) → Inside x n side → i < n → clip 
 clip-inside x n side i p h = omega (arith, p, clip-up (side - 1) (x +ℤ pos i), add-parts x (pos i), one-part (x +ℤ pos i))
 
 -- and the plane holds the window
-pub planes-fit : {ww wh iw ih sl pl ps : ℕ} (x y : ℤ) → Fetch ww wh iw ih sl ww pl ps → Inside x ww iw → Inside y wh ih → up y * ps + up x + partLen ps ww wh ≤ pl
-planes-fit {ww} {wh} {iw} {ih} {sl} {pl} {ps} x y ok p q =
-    let low : (up y + (wh - 1)) * ps ≤ (ih - 1) * ps = mul-le-mul-right {m = up y + (wh - 1)} {n = ih - 1} ps (omega (arith, ok, q)) in
-    omega (arith, low, add-mul (up y) (wh - 1) ps, ok .plane, p)
+pub planes-fit : {a : Area} {sl pl ps : ℕ} → Fetch a sl (a .ww) pl ps → Inside (a .left) (a .ww) (a .iw) → Inside (a .top) (a .wh) (a .ih)
+    → up (a .top) * ps + up (a .left) + partLen ps (a .ww) (a .wh) ≤ pl
+planes-fit {a} {sl} {pl} {ps} ok p q =
+    let low : (up (a .top) + (a .wh - 1)) * ps ≤ (a .ih - 1) * ps = mul-le-mul-right {m = up (a .top) + (a .wh - 1)} {n = a .ih - 1} ps (omega (arith, ok .area, q)) in
+    omega (arith, low, add-mul (up (a .top)) (a .wh - 1) ps, ok .plane, p)
 
 -- ---- a buffer of h rows of w at the stride s whose pixels are g's
 pub record Shows (src : List ℕ) (s w h : ℕ) (g : ℕ → ℕ → ℕ) : Type 0 where
@@ -69,28 +71,31 @@ span-shows l o s w h g wide most fits same =
           span-at 0 l o (o + partLen s w h) fits (j * s + i) (omega (arith, row-fits (partLen s w h) s w h j (omega arith) b)) ∙ same i j a b;
     }
 
-module _ {ww wh iw ih : ℕ} (x y : ℤ) (plane scratch : List ℕ) {ps : ℕ} (ok : Fetch ww wh iw ih (length scratch) ww (length plane) ps) where
+module _ (a : Area) (plane scratch : List ℕ) {ps : ℕ} (ok : Fetch a (length scratch) (a .ww) (length plane) ps) where
+  abbrev seen : ℕ → ℕ → ℕ
+  seen = edge plane ps (a .iw) (a .ih) (a .left) (a .top)
+
   -- the plane's own part
-  plane-shows : Inside x ww iw → Inside y wh ih
-      → Shows (span plane (up y * ps + up x) (up y * ps + up x + partLen ps ww wh)) ps ww wh (edge plane ps iw ih x y)
+  plane-shows : Inside (a .left) (a .ww) (a .iw) → Inside (a .top) (a .wh) (a .ih)
+      → Shows (span plane (up (a .top) * ps + up (a .left)) (up (a .top) * ps + up (a .left) + partLen ps (a .ww) (a .wh))) ps (a .ww) (a .wh) seen
   unfolding edge endless
   plane-shows p q =
-      span-shows plane (up y * ps + up x) ps ww wh (edge plane ps iw ih x y) (omega (arith, ok .plane, p)) (ok .plane .most) (planes-fit x y ok p q) λ i j a b.
+      span-shows plane (up (a .top) * ps + up (a .left)) ps (a .ww) (a .wh) seen (omega (arith, ok .plane, p)) (ok .plane .most) (planes-fit ok p q) λ i j wi hj.
       ap (λ (k : ℕ). getD plane k 0)
-      (rw (clip-inside x ww iw i p a, clip-inside y wh ih j q b) (omega (arith, add-mul (up y) j ps)))
+      (rw (clip-inside (a .left) (a .ww) (a .iw) i p wi, clip-inside (a .top) (a .wh) (a .ih) j q hj) (omega (arith, add-mul (up (a .top)) j ps)))
 
   -- scratch, filled
-  scratch-shows : Shows (span (fill scratch ww ww wh (edge plane ps iw ih x y)) 0 (0 + partLen ww ww wh)) ww ww wh (edge plane ps iw ih x y)
+  scratch-shows : Shows (span (fill scratch (a .ww) (a .ww) (a .wh) seen) 0 (0 + partLen (a .ww) (a .ww) (a .wh))) (a .ww) (a .ww) (a .wh) seen
   scratch-shows =
-      let g = edge plane ps iw ih x y in
-      let n = length-fill scratch ww ww wh g in
-      span-shows (fill scratch ww ww wh g) 0 ww ww wh g (omega arith) (ok .dst .most) (omega (arith, n, ok .dst)) λ i j a b.
-      ap (λ (k : ℕ). getD (fill scratch ww ww wh g) k 0) (zero-add (j * ww + i))
-      ∙ fill-in 0 ww scratch ww wh g i j (omega arith) a b (omega (arith, row-fits (length scratch) ww ww wh j (ok .dst .fits) b))
+      let n = length-fill scratch (a .ww) (a .ww) (a .wh) seen in
+      span-shows (fill scratch (a .ww) (a .ww) (a .wh) seen) 0 (a .ww) (a .ww) (a .wh) seen (omega arith) (ok .dst .most) (omega (arith, n, ok .dst)) λ i j wi hj.
+      ap (λ (k : ℕ). getD (fill scratch (a .ww) (a .ww) (a .wh) seen) k 0) (zero-add (j * a .ww + i))
+      ∙ fill-in 0 (a .ww) scratch (a .ww) (a .wh) seen i j (omega arith) wi hj (omega (arith, row-fits (length scratch) (a .ww) (a .ww) (a .wh) j (ok .dst .fits) hj))
 
   -- either, by whether the plane has the window
-  by-plane : (b : Bool) → (b ≡ true → Inside x ww iw × Inside y wh ih)
-      → Shows (partOf (windowAt b ps ww wh x y) plane (fetched b plane ps ww wh iw ih x y scratch)) (windowAt b ps ww wh x y .stride) ww wh (edge plane ps iw ih x y)
+  by-plane : (b : Bool) → (b ≡ true → Inside (a .left) (a .ww) (a .iw) × Inside (a .top) (a .wh) (a .ih))
+      → Shows (partOf (windowAt b ps (a .ww) (a .wh) (a .left) (a .top)) plane (fetched b plane ps (a .ww) (a .wh) (a .iw) (a .ih) (a .left) (a .top) scratch))
+      (windowAt b ps (a .ww) (a .wh) (a .left) (a .top) .stride) (a .ww) (a .wh) seen
   unfolding partOf windowAt fetched
   by-plane true p = plane-shows (p refl .0) (p refl .1)
   by-plane false p = scratch-shows
@@ -99,15 +104,14 @@ module _ {ww wh iw ih : ℕ} (x y : ℤ) (plane scratch : List ℕ) {ps : ℕ} (
 pub window-in : (f : Frame) (planeNo pl ps kind w h : ℕ) (x y : ℤ) (mode sl : ℕ) → PartIn (windowOf f planeNo pl ps kind w h x y mode sl) pl sl
 unfolding windowOf windowAt orSame
 window-in f planeNo pl ps kind w h x y mode sl =
-    go (lowest (windowTests f planeNo pl ps kind w h x y mode sl)) (λ e. window-ready f planeNo pl ps kind w h x y mode sl e .0)
+    go (areaOf f planeNo kind w h x y) (lowest (windowTests f planeNo pl ps kind w h x y mode sl)) (window-ready f planeNo pl ps kind w h x y mode sl)
     (ownPlane f planeNo kind w h x y mode) (planes-met mode _ _ _ _ (windowStart kind x) (windowStart kind y)) where
-      go : (n : ℕ) → (n ≡ 0 → WindowFetch f planeNo pl ps kind w h sl)
-          → (b : Bool) → (b ≡ true → Inside (windowStart kind x) (windowSide kind w) (planeW f planeNo) × Inside (windowStart kind y) (windowSide kind h) (planeH f planeNo))
-          → PartIn (orSame n (windowAt b ps (windowSide kind w) (windowSide kind h) (windowStart kind x) (windowStart kind y)) (noPart n)) pl sl
-      go zero ok true p =
-          record { plane = λ e. planes-fit (windowStart kind x) (windowStart kind y) (ok refl) (p refl .0) (p refl .1); scratch = λ e. absurd (omega arith) }
-      go zero ok false p = record { plane = λ e. absurd (omega arith); scratch = λ e. omega (arith, ok refl .dst) }
-      go (suc n) ok b p = record { plane = λ e. absurd (omega arith); scratch = λ e. absurd (omega arith) }
+      go : (a : Area) (n : ℕ) → (n ≡ 0 → Fetch a sl (a .ww) pl ps)
+          → (b : Bool) → (b ≡ true → Inside (a .left) (a .ww) (a .iw) × Inside (a .top) (a .wh) (a .ih))
+          → PartIn (orSame n (windowAt b ps (a .ww) (a .wh) (a .left) (a .top)) (noPart n)) pl sl
+      go a zero ok true p = record { plane = λ e. planes-fit (ok refl) (p refl .0) (p refl .1); scratch = λ e. absurd (omega arith) }
+      go a zero ok false p = record { plane = λ e. absurd (omega arith); scratch = λ e. omega (arith, ok refl .dst) }
+      go a (suc n) ok b p = record { plane = λ e. absurd (omega arith); scratch = λ e. absurd (omega arith) }
 
 -- and filling scratch keeps its length
 pub length-scratchOf : (n : ℕ) (f : Frame) (planeNo : ℕ) (plane : List ℕ) (ps kind w h : ℕ) (x y : ℤ) (mode : ℕ) (scratch : List ℕ)
@@ -149,7 +153,7 @@ module _ (f : Frame) (planeNo : ℕ) (plane : List ℕ) (ps kind w h : ℕ) (x y
   unfolding windowOf scratchOf orSame
   part-shows =
       let r = window-ready f planeNo (length plane) ps kind w h x y mode (length scratch) e in
-      rw e (by-plane (windowStart kind x) (windowStart kind y) plane scratch (r .0) (ownPlane f planeNo kind w h x y mode)
+      rw e (by-plane (areaOf f planeNo kind w h x y) plane scratch r (ownPlane f planeNo kind w h x y mode)
       (planes-met mode _ _ _ _ (windowStart kind x) (windowStart kind y)))
 
   -- it is long enough, and its stride carries the window's row

@@ -2,7 +2,7 @@
 use mathlib.Core.Path.{_≡_, refl, sym, ap, _∙_}
 use mathlib.Core.Bool.{Bool, true, false, _&&_}
 use mathlib.Core.List.{List, [], _∷_}
-use Prim.Native.Nat.{ℕ, zero, suc, _+_, _^_, _≤_}
+use Prim.Native.Nat.{ℕ, zero, suc, _+_, _*_, _^_, _≤_}
 use native.Mathlib.Omega.{arith}
 use borrow.Author.Tests.{leb-true}
 use lib.Dec.{leb, eqb}
@@ -10,14 +10,15 @@ use lib.IntN.{ℤ, pos, natAbs}
 use lib.ListN.{length}
 use mir.Syntax.{w64}
 use mir.Val.{SFits, toZ, ofZ}
+use Rattle.rows.specs.Numbers.{up}
 use Rattle.rows.specs.Places.{pick, fill}
 use Rattle.rows.specs.Edge.{edge}
 use Rattle.rows.proofs.Laws.Signed.{abs-sub, fit-abs, backs}
 use Rattle.rows.proofs.Laws.Fill.{and-true}
-use Rattle.blocks.specs.Refuse.{Test, size, stride, number, read, written, _asks_, lowest, orSame, sizeOk, blockSide, strideOk, holds, holdsAll}
+use Rattle.blocks.specs.Refuse.{Test, size, stride, number, read, written, _asks_, lowest, orSame, sizeOk, blockSide, strideOk, partLen, holds, holdsAll}
 use Rattle.blocks.specs.Edge.{placeOk}
 use Rattle.blocks.specs.Ready.{Fetch}
-use Rattle.blocks.specs.Window.{planeW, planeH, planeSide, frameSizesOk, frameNamesOk, eightTaps, before, after, windowSide, windowStart, windowTests, isPlanes, ownPlane, windowAt, noPart, windowOf, fetched, scratchOf, PartAnswer}
+use Rattle.blocks.specs.Window.{planeW, planeH, planeSide, frameSizesOk, frameNamesOk, eightTaps, before, after, windowSide, windowStart, windowTests, areaOf, isPlanes, ownPlane, windowAt, areaAt, noPart, windowOf, fetched, areaFetched, scratchOf, PartAnswer}
 use Rattle.blocks.proofs.Laws.Refuse.{all-met, later, sooner, size-met, holds-met, done, refused}
 use Rattle.blocks.proofs.Laws.Ready.{rows-met}
 use Rattle.blocks.proofs.Laws.EdgeReady.{place-met}
@@ -100,36 +101,38 @@ frame-met f planeNo e =
       omega (arith, b, side-le planeNo (f .«ss_ver») (f .«luma_h»)),
     )
 
--- the window is a block of the endless plane that fits in scratch
-abbrev pub WindowFetch : (f : Frame) (planeNo pl ps kind w h sl : ℕ) → Type 0
-WindowFetch f planeNo pl ps kind w h sl =
-    Fetch (windowSide kind w) (windowSide kind h) (planeW f planeNo) (planeH f planeNo) sl (windowSide kind w) pl ps
+-- the window is an area of the endless plane that fits in scratch
+module _ (f : Frame) (planeNo pl ps kind w h : ℕ) (x y : ℤ) (mode sl : ℕ) (e : lowest (windowTests f planeNo pl ps kind w h x y mode sl) ≡ 0) where
+  pub window-small : (w ≤ 64) × (h ≤ 64) × (natAbs x ≤ 2 ^ 30) × (natAbs y ≤ 2 ^ 30)
+  window-small =
+      let t = all-met (windowTests f planeNo pl ps kind w h x y mode sl) e in
+      let n = t .1 .1 .1 .1 .1 .1 in
+      (size-met 64 w (t .1 .0) .1, size-met 64 h (t .1 .1 .0) .1, place-met x (n .0), place-met y (n .1 .0))
 
-pub window-ready : (f : Frame) (planeNo pl ps kind w h : ℕ) (x y : ℤ) (mode sl : ℕ) → lowest (windowTests f planeNo pl ps kind w h x y mode sl) ≡ 0
-    → WindowFetch f planeNo pl ps kind w h sl × (natAbs x ≤ 2 ^ 30) × (natAbs y ≤ 2 ^ 30)
-window-ready f planeNo pl ps kind w h x y mode sl e =
-    let t = all-met (windowTests f planeNo pl ps kind w h x y mode sl) e in
-    let p = frame-met f planeNo (t .0) in
-    let a = size-met 64 w (t .1 .0) in
-    let b = size-met 64 h (t .1 .1 .0) in
-    let s = t .1 .1 .1 in
-    let n = s .1 .1 .1 in
-    let r = n .1 .1 .1 in (
+  pub window-ready : Fetch (areaOf f planeNo kind w h x y) sl (windowSide kind w) pl ps
+  window-ready =
+      let t = all-met (windowTests f planeNo pl ps kind w h x y mode sl) e in
+      let p = frame-met f planeNo (t .0) in
+      let a = size-met 64 w (t .1 .0) in
+      let b = size-met 64 h (t .1 .1 .0) in
+      let s = t .1 .1 .1 in
+      let r = s .1 .1 .1 .1 .1 .1 in
       record {
-        bw1 = omega (arith, a);
-        bw128 = omega (arith, a, margins kind);
-        bh1 = omega (arith, b);
-        bh128 = omega (arith, b, margins kind);
-        iw1 = p .0;
-        iw14 = p .1;
-        ih1 = p .2;
-        ih14 = p .3;
+        area = record {
+          ww1 = omega (arith, a);
+          ww128 = omega (arith, a, margins kind);
+          wh1 = omega (arith, b);
+          wh128 = omega (arith, b, margins kind);
+          iw1 = p .0;
+          iw14 = p .1;
+          ih1 = p .2;
+          ih14 = p .3;
+          left = start-near kind x (window-small .2);
+          top = start-near kind y (window-small .3);
+        };
         dst = record { wide = omega arith; most = omega (arith, a, margins kind); fits = holds-met sl (windowSide kind w) (windowSide kind w) (windowSide kind h) (r .1 .0) };
         plane = rows-met pl ps (planeW f planeNo) (planeH f planeNo) (s .0) (r .0);
-      },
-      place-met x (n .0),
-      place-met y (n .1 .0),
-    )
+      }
 
 -- ---- the answer
 -- a refused call names no part
@@ -154,92 +157,63 @@ module _ (f : Frame) (planeNo pl ps kind w h : ℕ) (x y : ℤ) (mode sl : ℕ) 
     go zero false = refl
     go (suc n) b = refl
 
-  -- one in scratch is accepted, and the plane hasn't the window
-  in-scratch : windowOf f planeNo pl ps kind w h x y mode sl .buffer ≡ 2
-      → (lowest (windowTests f planeNo pl ps kind w h x y mode sl) ≡ 0) × (ownPlane f planeNo kind w h x y mode ≡ false)
-  unfolding windowOf windowAt orSame
-  in-scratch = go (lowest (windowTests f planeNo pl ps kind w h x y mode sl)) (ownPlane f planeNo kind w h x y mode) where
-    go : (n : ℕ) (b : Bool) → answerBy n b .buffer ≡ 2 → (n ≡ 0) × (b ≡ false)
-    go zero true e = absurd (omega arith)
-    go zero false e = (refl, refl)
-    go (suc n) b e = absurd (omega arith)
-
-  -- any other leaves scratch as it was
-  not-scratch : (plane scratch : List ℕ) → (windowOf f planeNo pl ps kind w h x y mode sl .buffer ≡ 2 → ⊥)
-      → scratch ≡ scratchOf (windowOf f planeNo pl ps kind w h x y mode sl .number) f planeNo plane ps kind w h x y mode scratch
-  unfolding windowOf windowAt scratchOf fetched orSame
-  not-scratch plane scratch = go (lowest (windowTests f planeNo pl ps kind w h x y mode sl)) (ownPlane f planeNo kind w h x y mode) where
-    go : (n : ℕ) (b : Bool) → (answerBy n b .buffer ≡ 2 → ⊥)
-        → scratch ≡ orSame (answerBy n b .number) (fetched b plane ps (windowSide kind w) (windowSide kind h) (planeW f planeNo) (planeH f planeNo)
-        (windowStart kind x) (windowStart kind y) scratch) scratch
-    go zero true h = refl
-    go zero false h = absurd (h refl)
-    go (suc n) b h = refl
-
--- ---- an accepted window as the code has it
+-- ---- an accepted call as the code has it: the area a, the part p and scratch d at the end
 pub record Accepted (f : Frame) (planeNo pl ps kind w h : ℕ) (x y : ℤ) (mode sl : ℕ) : Type 0 where
   pub is : lowest (windowTests f planeNo pl ps kind w h x y mode sl) ≡ 0
 
-abbrev pub areaOf : (f : Frame) (planeNo kind w h : ℕ) (x y : ℤ) → Area
-areaOf f planeNo kind w h x y =
-    record {
-      ww = windowSide kind w;
-      wh = windowSide kind h;
-      iw = planeW f planeNo;
-      ih = planeH f planeNo;
-      left = windowStart kind x;
-      top = windowStart kind y;
-    }
-
 module _ {f : Frame} {planeNo pl ps kind w h : ℕ} {x y : ℤ} {mode sl : ℕ} (ok : Accepted f planeNo pl ps kind w h x y mode sl) where
-  ready : WindowFetch f planeNo pl ps kind w h sl × (natAbs x ≤ 2 ^ 30) × (natAbs y ≤ 2 ^ 30)
-  ready = window-ready f planeNo pl ps kind w h x y mode sl (ok .is)
-
-  pub window-small : (w ≤ 64) × (h ≤ 64) × (natAbs x ≤ 2 ^ 30) × (natAbs y ≤ 2 ^ 30)
-  window-small =
-      let t = all-met (windowTests f planeNo pl ps kind w h x y mode sl) (ok .is) in
-      (size-met 64 w (t .1 .0) .1, size-met 64 h (t .1 .1 .0) .1, ready .1, ready .2)
+  pub accepted-small : (w ≤ 64) × (h ≤ 64) × (natAbs x ≤ 2 ^ 30) × (natAbs y ≤ 2 ^ 30)
+  accepted-small = window-small f planeNo pl ps kind w h x y mode sl (ok .is)
 
   module _ {a : Area} (is : a ≡ areaOf f planeNo kind w h x y) where
-    left-is : toZ w64 (ofZ w64 (a .left)) ≡ windowStart kind x
-    left-is = backs w64 (ap (λ (b : Area). b .left) is) (start-fits kind x (ready .1))
+    pub accepted-ready : Fetch a sl (a .ww) pl ps
+    accepted-ready = rw is (window-ready f planeNo pl ps kind w h x y mode sl (ok .is))
 
-    top-is : toZ w64 (ofZ w64 (a .top)) ≡ windowStart kind y
-    top-is = backs w64 (ap (λ (b : Area). b .top) is) (start-fits kind y (ready .2))
-
-    pub area-ready : Fetch (a .ww) (a .wh) (a .iw) (a .ih) sl (a .ww) pl ps
-        × (natAbs (toZ w64 (ofZ w64 (a .left))) ≤ 2 ^ 30 + 3) × (natAbs (toZ w64 (ofZ w64 (a .top))) ≤ 2 ^ 30 + 3)
-    area-ready = rw (left-is, top-is, is) (ready .0, start-near kind x (ready .1), start-near kind y (ready .2))
-
-    pub area-window : {planes : Bool} {r : Part}
-        → planes ≡ isPlanes mode (a .ww) (a .wh) (a .iw) (a .ih) (toZ w64 (ofZ w64 (a .left))) (toZ w64 (ofZ w64 (a .top)))
-        → r ≡ windowAt planes ps (a .ww) (a .wh) (toZ w64 (ofZ w64 (a .left))) (toZ w64 (ofZ w64 (a .top))) → r ≡ windowOf f planeNo pl ps kind w h x y mode sl
+    pub accepted-part : {p : Part} → p ≡ areaAt a mode ps → p ≡ windowOf f planeNo pl ps kind w h x y mode sl
     unfolding windowOf
-    area-window p q = q ∙ rw (p, left-is, top-is, is) (sym (done _ _ _ (ok .is)))
+    accepted-part q = q ∙ rw is (sym (done _ _ _ (ok .is)))
 
--- ---- scratch after a call that answers p
-pub record Answers (f : Frame) (planeNo : ℕ) (plane : List ℕ) (ps kind w h : ℕ) (x y : ℤ) (mode : ℕ) (scratch : List ℕ) (p : Part) : Type 0 where
-  pub is : p ≡ windowOf f planeNo (length plane) ps kind w h x y mode (length scratch)
-
-module _ {f : Frame} {planeNo : ℕ} {plane : List ℕ} {ps kind w h : ℕ} {x y : ℤ} {mode : ℕ} {scratch : List ℕ} {p : Part}
-    (answer : Answers f planeNo plane ps kind w h x y mode scratch p) where
-  -- not in scratch, which stays as it was
-  pub scratch-kept : (p .buffer ≡ 2 → ⊥) → scratch ≡ scratchOf (p .number) f planeNo plane ps kind w h x y mode scratch
-  scratch-kept other =
-      rw (answer .is) (not-scratch f planeNo (length plane) ps kind w h x y mode (length scratch) plane scratch (rw (answer .is) at other))
-
-  -- in scratch, which is filled
-  module _ (two : p .buffer ≡ 2) where
-    filled : (lowest (windowTests f planeNo (length plane) ps kind w h x y mode (length scratch)) ≡ 0) × (ownPlane f planeNo kind w h x y mode ≡ false)
-    filled = in-scratch f planeNo (length plane) ps kind w h x y mode (length scratch) (sym (ap (λ (q : Part). q .buffer) (answer .is)) ∙ two)
-
-    pub filled-ok : Accepted f planeNo (length plane) ps kind w h x y mode (length scratch)
-    filled-ok = record { is = filled .0 }
-
-    pub scratch-filled : {a : Area} {d : List ℕ} → a ≡ areaOf f planeNo kind w h x y
-        → d ≡ fill scratch (a .ww) (a .ww) (a .wh) (edge plane ps (a .iw) (a .ih) (toZ w64 (ofZ w64 (a .left))) (toZ w64 (ofZ w64 (a .top))))
+    pub accepted-scratch : (plane scratch : List ℕ) {p : Part} {d : List ℕ} → p ≡ areaAt a mode ps → d ≡ areaFetched a plane ps mode scratch
         → d ≡ scratchOf (p .number) f planeNo plane ps kind w h x y mode scratch
-    unfolding scratchOf fetched orSame
-    scratch-filled is full =
-        let n : p .number ≡ 0 = ap (λ (q : Part). q .number) (answer .is) ∙ window-number f planeNo (length plane) ps kind w h x y mode (length scratch) ∙ filled .0 in
-        full ∙ rw (left-is filled-ok is, top-is filled-ok is, is, n, filled .1) refl
+    unfolding scratchOf
+    accepted-scratch plane scratch {p} q full =
+        let n : p .number ≡ 0 = ap (λ (v : Part). v .number) (accepted-part q) ∙ window-number f planeNo pl ps kind w h x y mode sl ∙ ok .is in
+        full ∙ rw is (sym (done _ _ _ n))
+
+-- a refused call leaves scratch as it was
+pub scratch-kept : (n : ℕ) (f : Frame) (planeNo : ℕ) (plane : List ℕ) (ps kind w h : ℕ) (x y : ℤ) (mode : ℕ) (scratch : List ℕ) → (n ≡ 0 → ⊥)
+    → scratch ≡ scratchOf n f planeNo plane ps kind w h x y mode scratch
+unfolding scratchOf
+scratch-kept n f planeNo plane ps kind w h x y mode scratch other = sym (refused n _ scratch other)
+
+-- ---- where an area lies, by whether the plane has it
+in-scratch : (planes : Bool) (ps ww wh : ℕ) (x y : ℤ) → windowAt planes ps ww wh x y .buffer ≡ 2 → planes ≡ false
+unfolding windowAt
+in-scratch true ps ww wh x y e = absurd (omega arith)
+in-scratch false ps ww wh x y e = refl
+
+in-plane : (planes : Bool) (ps ww wh : ℕ) (x y : ℤ) → (windowAt planes ps ww wh x y .buffer ≡ 2 → ⊥) → planes ≡ true
+unfolding windowAt
+in-plane true ps ww wh x y e = refl
+in-plane false ps ww wh x y e = absurd (e refl)
+
+pub own-at : (planes : Bool) (ps ww wh : ℕ) (x y : ℤ) {row column size : ℕ} → planes ≡ true → row ≡ up y → column ≡ up x → size ≡ partLen ps ww wh
+    → _≡_ {A = Part} (record { number = 0; buffer = 1; place = row * ps + column; stride = ps; len = size }) (windowAt planes ps ww wh x y)
+unfolding windowAt
+own-at planes ps ww wh x y e r c l = rw (e, r, c, l) refl
+
+module _ (a : Area) (mode ps : ℕ) {p : Part} (is : p ≡ areaAt a mode ps) (plane scratch : List ℕ) where
+  -- scratch is filled
+  pub area-filled : {d : List ℕ} → p .buffer ≡ 2 → d ≡ fill scratch (a .ww) (a .ww) (a .wh) (edge plane ps (a .iw) (a .ih) (a .left) (a .top))
+      → d ≡ areaFetched a plane ps mode scratch
+  unfolding fetched
+  area-filled two full =
+      let b = in-scratch (isPlanes mode (a .ww) (a .wh) (a .iw) (a .ih) (a .left) (a .top)) ps (a .ww) (a .wh) (a .left) (a .top) (rw is at two) in
+      full ∙ rw b refl
+
+  -- or stays as it was
+  pub area-kept : (p .buffer ≡ 2 → ⊥) → scratch ≡ areaFetched a plane ps mode scratch
+  unfolding fetched
+  area-kept other =
+      let b = in-plane (isPlanes mode (a .ww) (a .wh) (a .iw) (a .ih) (a .left) (a .top)) ps (a .ww) (a .wh) (a .left) (a .top) (rw is at other) in
+      rw b refl

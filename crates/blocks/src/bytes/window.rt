@@ -2,16 +2,39 @@
 // Windows: where a block's pixels with its margins lie, in the plane or in scratch.
 ghost use mathlib.Core.Path.{_≡_};
 ghost use lib.ListN.{length};
-ghost use Rattle.blocks.specs.Ready.{PartIn};
-ghost use Rattle.blocks.specs.Window.{windowOf, scratchOf, partOf, WindowAnswer};
+ghost use Rattle.blocks.specs.Ready.{Fetch, PartIn};
+ghost use Rattle.blocks.specs.Window.{areaAt, areaFetched, windowOf, scratchOf, partOf, WindowAnswer};
 use super::edge::edge_rows;
+use crate::frame::Area;
 use crate::frame::Frame;
 use crate::frame::area_of;
 use crate::window::Part;
+use crate::window::check_window;
 use crate::window::find_window;
+use crate::window::locate;
+use crate::window::no_part;
 use rows::bytes::pixel::Pixel;
 
-// A window's call: where the window lies, and scratch filled where the plane hasn't got it.
+// An area that passed its tests: where it lies, and scratch filled where the plane hasn't got it.
+pub fn fetch(
+    a: Area,
+    plane: &[Pixel],
+    plane_stride: usize,
+    mode: u32,
+    scratch: &mut [Pixel],
+) -> Part
+    requires { ⌜ Fetch a (length (now scratch)) (a .ww) (length (now plane)) «plane_stride» ⌝ }
+    ensures { λ r. ⌜ (r ≡ areaAt a mode «plane_stride»)
+        × (now (scratch .exit) ≡ areaFetched a (now (plane .entry)) «plane_stride» mode (now (scratch .entry))) ⌝ }
+{
+    let part = locate(a, mode, plane_stride);
+    if part.buffer == 2 {
+        edge_rows(a, scratch, a.ww, plane, plane_stride);
+    }
+    part
+}
+
+// A window's call: its tests, and the window where none refuses.
 pub fn window(
     f: Frame,
     plane_no: u32,
@@ -28,7 +51,7 @@ pub fn window(
     ensures { λ r. ⌜ (r ≡ windowOf f «plane_no» (length (now (plane .entry))) «plane_stride» kind w h x y mode (length (now (scratch .entry))))
         × (now (scratch .exit) ≡ scratchOf (r .number) f «plane_no» (now (plane .entry)) «plane_stride» kind w h x y mode (now (scratch .entry))) ⌝ }
 {
-    let part = find_window(
+    let number = check_window(
         f,
         plane_no,
         plane.len(),
@@ -41,22 +64,11 @@ pub fn window(
         mode,
         scratch.len(),
     );
-    if part.buffer == 2 {
-        let a = area_of(f, plane_no, kind, w, h, x, y);
-        edge_rows(
-            a.ww,
-            a.wh,
-            a.iw,
-            a.ih,
-            a.left,
-            a.top,
-            scratch,
-            a.ww,
-            plane,
-            plane_stride,
-        );
+    if number != 0 {
+        return no_part(number);
     }
-    part
+    let a = area_of(f, plane_no, kind, w, h, x, y);
+    fetch(a, plane, plane_stride, mode, scratch)
 }
 
 // The part that an answer names, empty where it was refused.

@@ -1,7 +1,5 @@
 // emu_edge: a block of the endless plane.
 ghost use mathlib.Core.Path.{_≡_};
-ghost use Prim.Native.Nat.{_+_, _^_, _≤_};
-ghost use lib.IntN.{natAbs};
 ghost use lib.ListN.{length};
 ghost use Rattle.rows.specs.Places.{fill};
 ghost use Rattle.rows.specs.Edge.{edge};
@@ -9,30 +7,27 @@ ghost use Rattle.blocks.specs.Ready.{Fetch};
 ghost use Rattle.blocks.specs.Edge.{EdgeAnswer};
 use crate::edge::check_edge;
 use crate::edge::nearest_row;
+use crate::frame::Area;
 use rows::words::edge::edge_row;
 use rows::words::pixel::Pixel;
 
-// A block of the endless plane, row by row.
+// An area of the endless plane, row by row.
 pub fn edge_rows(
-    bw: usize,
-    bh: usize,
-    iw: usize,
-    ih: usize,
-    x: i64,
-    y: i64,
+    a: Area,
     dst: &mut [Pixel],
     dst_stride: usize,
     plane: &[Pixel],
     plane_stride: usize,
 )
-    requires { ⌜ Fetch bw bh iw ih (length (now dst)) «dst_stride» (length (now plane)) «plane_stride» × (natAbs x ≤ 2 ^ 30 + 3) × (natAbs y ≤ 2 ^ 30 + 3) ⌝ }
-    ensures { λ _. ⌜ now (dst .exit) ≡ fill (now (dst .entry)) «dst_stride» bw bh (edge (now (plane .entry)) «plane_stride» iw ih x y) ⌝ }
+    requires { ⌜ Fetch a (length (now dst)) «dst_stride» (length (now plane)) «plane_stride» ⌝ }
+    ensures { λ _. ⌜ now (dst .exit)
+        ≡ fill (now (dst .entry)) «dst_stride» (a .ww) (a .wh) (edge (now (plane .entry)) «plane_stride» (a .iw) (a .ih) (a .left) (a .top)) ⌝ }
 {
     let mut j = 0;
-    while j < bh {
+    while j < a.wh {
         let d = j * dst_stride;
-        let k = nearest_row(y, j, ih);
-        edge_row(&mut dst[d..d + bw], plane, k * plane_stride, iw, x);
+        let k = nearest_row(a.top, j, a.ih);
+        edge_row(&mut dst[d..d + a.ww], plane, k * plane_stride, a.iw, a.left);
         j += 1;
     }
 }
@@ -65,7 +60,15 @@ pub extern "C" fn hv_emu_edge_16bpc(
         plane_stride,
     );
     if number == 0 {
-        edge_rows(bw, bh, iw, ih, x, y, dst, dst_stride, plane, plane_stride);
+        let a = Area {
+            ww: bw,
+            wh: bh,
+            iw,
+            ih,
+            left: x,
+            top: y,
+        };
+        edge_rows(a, dst, dst_stride, plane, plane_stride);
     }
     number
 }

@@ -4,59 +4,59 @@ use Prim.Native.Nat.{_+_, _-_, _*_, _≤_}
 use native.Mathlib.Omega.{arith}
 use lib.ListN.{length}
 use mir.Syntax.{w64}
-use mir.Val.{toZ}
 use Rattle.rows.specs.Edge.{edge}
-use Rattle.rows.proofs.Laws.Signed.{back}
 use Rattle.blocks.proofs.Laws.Rows.{Filled, filled-none, filled-more, filled-all, filled-span, row-in}
 use Rattle.blocks.proofs.Laws.EdgeReady.{turn, row-is}
+use Rattle.blocks.proofs.Laws.Told.{told-one}
 use Rattle.blocks.proofs.bytes.edge.edge_rows.Statement.{statement}
 use Rattle.blocks.proofs.bytes.edge.edge_rows.Tie as tie
 
 abbrev Inv-loop : tie.InvT-loop
-Inv-loop bw bh iw ih x y dst₀ ds plane ps j₀ dst j = Filled ds bw (edge plane ps iw ih (toZ w64 x) (toZ w64 y)) dst₀ bh j dst
+Inv-loop a dst₀ ds plane ps j₀ dst j = Filled ds (a .ww) (edge plane ps (a .iw) (a .ih) (a .left) (a .top)) dst₀ (a .wh) j dst
 
 abbrev μ-loop : tie.MeasureT-loop
-μ-loop bw bh iw ih x y dst₀ ds plane ps j₀ dst j = bh - j
+μ-loop a dst₀ ds plane ps j₀ dst j = a .wh - j
 
 -- the function's entry, from a turn of the loop
-abbrev entry : tie.In-loop Inv-loop μ-loop → tie.Start Inv-loop μ-loop
-entry c = c .before .before .before .before
+abbrev entry : tie.Then1 Inv-loop μ-loop → tie.Start Inv-loop μ-loop
+entry c = c .before .before .before .before .before
 
 -- in a turn, row j is within dst and the row that is nearest within the plane
-row : (c : tie.After-nearest-row Inv-loop μ-loop) → let a = entry (c .before) .args in
-    (c .before .before .loop .j * a .dst-stride + a .bw ≤ length (a .dst .now)) × (c .nearest-row .result * a .plane-stride + a .iw ≤ length (a .plane .now))
-row c = turn (entry (c .before) .pre .0) (c .before .loop-test .taken) (c .nearest-row .ensures .1)
+row : (c : tie.After-nearest-row Inv-loop μ-loop) → let t = c .before .before in let s = entry t .args in
+    (t .before .before .loop .j * s .dst-stride + s .a .ww ≤ length (s .dst .now)) × (c .nearest-row .result * s .plane-stride + s .a .iw ≤ length (s .plane .now))
+row c = let t = c .before .before in turn (entry t .pre) (t .if1 .taken) (c .nearest-row .ensures .1)
 
 nearest-row-requires : tie.Need-nearest-row-requires Inv-loop μ-loop
 nearest-row-requires c κs =
-    let p = entry c .pre in (rw (back (entry c .fits .y)) (p .2), omega (arith, p .0), p .0 .ih1, p .0 .ih14)
+    let p = entry (c .before) .pre .area in
+    (rw (told-one w64 (entry (c .before) .args .a .top) (c .struct-told .given .1 .1 .1 .1 .1 .0 .1)) (p .top), omega (arith, p, c .before .if1 .taken), p .ih1, p .ih14)
 
 edge-row-requires : tie.Need-edge-row-requires Inv-loop μ-loop
 edge-row-requires c κs =
-    let l = c .before in let s = entry (l .before) in
-    let n = filled-span 0 (l .before .before .loop .inv) (s .pre .0 .dst) (l .before .loop-test .taken) in
-    (omega (arith, s .pre .0), omega (arith, s .pre .0), row l .1, omega (arith, n, s .pre .0), rw (back (s .fits .x)) (omega (arith, s .pre .1)))
+    let l = c .before .before .before in let t = l .before .before in let p = entry t .pre in
+    let n = filled-span 0 (t .before .before .loop .inv) (p .dst) (t .if1 .taken) in
+    (omega (arith, p .area), omega (arith, p .area), row l .1, omega (arith, n, p .area), rw (told-one w64 (entry t .args .a .left) (c .struct-told2 .given .1 .1 .1 .1 .0 .1)) (omega (arith, p .area .left)))
 
 loop-again : tie.Need-loop-again Inv-loop μ-loop
 loop-again c =
-    let l = c .before .before .before .before in let t = l .before in let p = entry t .pre .0 in
-    filled-more 0 _ (t .before .loop .inv) (p .bw1) (p .dst) (t .loop-test .taken)
-    (row-is _ _ _ _ _ _ _ _ (l .nearest-row .ensures .0) (c .before .before .edge-row .ensures))
+    let g = c .before .before in let l = g .before .before .before .before in let t = l .before .before in let p = entry t .pre in
+    let a = entry t .args .a in
+    let x = told-one w64 (a .left) (g .before .struct-told2 .given .1 .1 .1 .1 .0 .1) in let y = told-one w64 (a .top) (l .before .struct-told .given .1 .1 .1 .1 .1 .0 .1) in
+    filled-more 0 _ (t .before .before .loop .inv) (p .area .ww1) (p .dst) (t .if1 .taken)
+    (row-is _ _ _ _ _ _ _ _ (rw y at (l .nearest-row .ensures .0)) (rw x at (g .edge-row .ensures)))
 
 returns : tie.Need-returns Inv-loop μ-loop
-returns c =
-    let s = c .before .before .before .before in
-    rw (back (s .fits .x), back (s .fits .y)) at (filled-all (c .before .loop .inv) (c .loop-test .left))
+returns c = filled-all (c .before .before .loop .inv) (c .if1 .left)
 
 pub edge-rows-spec : {M : Type 1} → statement M
 edge-rows-spec =
     tie.close
     (tie.spec Inv-loop μ-loop
-    (λ c. filled-none 0 _ _ _ _ _ (omega (arith, c .before .before .pre .0 .dst)))  -- loop-holds
-    (λ c. omega (arith, row-in (c .before .loop .j) (entry c .pre .0 .dst) (c .loop-test .taken)))  -- j * dst_stride
+    (λ c. filled-none 0 _ _ _ _ _ (omega (arith, c .before .before .pre .dst)))  -- loop-holds
+    (λ c. omega (arith, row-in (c .before .before .loop .j) (entry c .pre .dst) (c .if1 .taken)))  -- j * dst_stride
     nearest-row-requires
-    (λ c. omega (arith, row c, c .before .before .loop .inv .len))  -- d + bw
-    (λ c. omega (arith, row c, c .before .before .loop .inv .len)) (λ c. omega (arith, row c, c .before .before .loop .inv .len))  -- dst[d..d + bw]
-    (λ c. omega (arith, row c, c .before .before .loop .inv .len))
-    (λ c. omega (arith, row (c .before))) edge-row-requires  -- edge-row
-    (λ c. search needs) (λ c. search needs) loop-again (λ c. c .before .loop .inv .len) returns)  -- j += 1, and the loop
+    (λ c. omega (arith, row (c .before), c .before .before .before .before .before .loop .inv .len))  -- d + ww
+    (λ c. omega (arith, row (c .before), c .before .before .before .before .before .loop .inv .len)) (λ c. omega (arith, row (c .before), c .before .before .before .before .before .loop .inv .len))  -- dst[d..d + ww]
+    (λ c. omega (arith, row (c .before), c .before .before .before .before .before .loop .inv .len))
+    (λ c. omega (arith, row (c .before .before))) edge-row-requires  -- edge-row
+    (λ c. search needs) (λ c. search needs) loop-again (λ c. c .before .before .loop .inv .len) returns)  -- j += 1, and the loop

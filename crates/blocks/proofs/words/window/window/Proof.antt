@@ -1,42 +1,49 @@
 use borrow.Author.Needs.{needs}
-use mathlib.Core.Path.{_≡_}
+use mathlib.Core.Path.{_≡_, sym, _∙_}
+use lib.ListN.{length}
 use Rattle.rows.proofs.Laws.Signed.{back}
-use Rattle.blocks.proofs.Laws.WindowReady.{areaOf, window-small, area-ready, Answers, filled-ok, scratch-kept, scratch-filled}
+use Rattle.blocks.specs.Refuse.{lowest}
+use Rattle.blocks.specs.Window.{windowTests, windowOf, areaOf}
+use Rattle.blocks.proofs.Laws.WindowReady.{no-part-of, scratch-kept, Accepted, accepted-small, accepted-ready, accepted-part, accepted-scratch}
 use Rattle.blocks.proofs.words.window.window.Statement.{statement}
 use Rattle.blocks.proofs.words.window.window.Tie as tie
 
 -- the function's entry
-abbrev entry : tie.After-find-window → tie.Start
+abbrev entry : tie.After-check-window → tie.Start
 entry c = c .before .before .before
 
-answer : (c : tie.After-find-window) → let a = entry c .args in
-    Answers (a .f) (a .plane-no) (a .plane .now) (a .plane-stride) (a .kind) (a .w) (a .h) (a .x) (a .y) (a .mode) (a .scratch .now) (c .find-window .result)
-answer c = let f = entry c .fits in record { is = rw (back (f .x), back (f .y)) at (c .find-window .ensures) }
-
-area-of-requires : tie.Need-area-of-requires
-area-of-requires c κs =
-    let g = c .before .before in let f = entry g .fits in
-    rw (back (f .x), back (f .y)) (window-small (filled-ok (answer g) (c .if1 .taken)))
-
-area-is : (c : tie.After-area-of) → let a = entry (c .before .before .before) .args in
-    c .area-of .result ≡ areaOf (a .f) (a .plane-no) (a .kind) (a .w) (a .h) (a .x) (a .y)
-area-is c = let f = entry (c .before .before .before) .fits in rw (back (f .x), back (f .y)) at (c .area-of .ensures)
-
-edge-rows-requires : tie.Need-edge-rows-requires
-edge-rows-requires c κs =
-    let r = c .before .before .before in let t = r .before in
-    area-ready (filled-ok (answer (t .before .before)) (t .if1 .taken)) (area-is r)
+-- what the check answered is the number of the contract
+is : (c : tie.After-check-window) → let a = entry c .args in
+    c .check-window .result
+    ≡ lowest (windowTests (a .f) (a .plane-no) (length (a .plane .now)) (a .plane-stride) (a .kind) (a .w) (a .h) (a .x) (a .y) (a .mode) (length (a .scratch .now)))
+is c = let f = entry c .fits in rw (back (f .x), back (f .y)) at (c .check-window .ensures)
 
 returns : tie.Need-returns
+unfolding windowOf
 returns c =
-    let g = c .before .before in let r = g .before .before .before .before in let t = r .before in let e = answer (t .before .before) in
-    (e .is, scratch-filled e (t .if1 .taken) (area-is r) (g .edge-rows .ensures))
+    let t = c .before in let e = no-part-of _ (is (t .before)) (t .if1 .taken) (c .no-part .ensures) in
+    (e, rw (c .no-part .ensures) (scratch-kept _ _ _ _ _ _ _ _ _ _ _ _ (t .if1 .taken)))
+
+accepted : (c : tie.Else1) → let a = entry (c .before) .args in
+    Accepted (a .f) (a .plane-no) (length (a .plane .now)) (a .plane-stride) (a .kind) (a .w) (a .h) (a .x) (a .y) (a .mode) (length (a .scratch .now))
+accepted c = record { is = sym (is (c .before)) ∙ c .if1 .left }
+
+area-of-requires : tie.Need-area-of-requires
+area-of-requires c κs = let f = entry (c .before) .fits in rw (back (f .x), back (f .y)) (accepted-small (accepted c))
+
+area-is : (c : tie.After-area-of) → let a = entry (c .before .before) .args in
+    c .area-of .result ≡ areaOf (a .f) (a .plane-no) (a .kind) (a .w) (a .h) (a .x) (a .y)
+area-is c = let f = entry (c .before .before) .fits in rw (back (f .x), back (f .y)) at (c .area-of .ensures)
 
 returns-2 : tie.Need-returns-2
-returns-2 c = let e = answer (c .before .before) in (e .is, scratch-kept e (c .if1 .left))
+returns-2 c =
+    let g = c .before .before in let r = g .before .before in let e = g .fetch .ensures in
+    (accepted-part (accepted (r .before)) (area-is r) (e .0), accepted-scratch (accepted (r .before)) (area-is r) _ _ (e .0) (e .1))
 
 pub window-spec : {M : Type 1} → statement M
 window-spec =
     tie.close
     (tie.spec
-    (λ c κs. search needs) area-of-requires edge-rows-requires (λ c. search needs) returns returns-2)  -- find-window, same-length
+    (λ c κs. search needs) (λ c κs. search needs) returns area-of-requires  -- check-window, no-part
+    (λ c κs. let r = c .before in accepted-ready (accepted (r .before)) (area-is r))  -- fetch-requires
+    (λ c. search needs) returns-2)  -- same-length
