@@ -11,13 +11,14 @@ use Rattle.rows.specs.Places.{fill}
 use Rattle.rows.proofs.Laws.Fill.{fill-same}
 use Rattle.blocks.specs.Refuse.{lowest, orSame}
 use Rattle.blocks.specs.Ready.{Rows, Windowed, PartIn}
-use Rattle.blocks.specs.Window.{windowTests, windowOf, scratchOf, partOf, aroundPart}
-use Rattle.blocks.specs.Order.{kindNumber, kindOf, putRule, prepRule, putPicture, prepPicture, planeOf, orderTests, orderNumber, orderScratch, orderDst, orderTmp, OrderPutAnswer, OrderPrepAnswer}
-use Rattle.blocks.proofs.Laws.Refuse.{refused}
-use Rattle.blocks.proofs.Laws.WindowReady.{window-number}
+use Rattle.blocks.specs.Window.{areaOf, windowTests, areaAt, noPart, windowOf, areaFetched, scratchOf, partOf, aroundPart}
+use Rattle.blocks.specs.Order.{kindNumber, kindOf, putRule, prepRule, putPicture, prepPicture, planeOf, orderTests, orderNumber, orderScratch, orderPart, orderDst, orderTmp, OrderPutAnswer, OrderPrepAnswer}
+use Rattle.blocks.proofs.Laws.Refuse.{done, refused}
+use Rattle.blocks.proofs.Laws.WindowReady.{no-part-of, answer-number, window-number, window-is, Accepted, accepted-scratch, scratch-kept}
 use Rattle.blocks.proofs.Laws.Window.{picked-in, Picked, picked}
 use Rattle.blocks.proofs.Laws.Local.{putRule-local, prepRule-local}
 use Rattle.blocks.proofs.Laws.OrderReady.{order-deep, order-window, order-dst, order-windowed}
+use Rattle.blocks.specs.declared.frame.Area.{Area}
 use Rattle.blocks.specs.declared.frame.Frame.{Frame}
 use Rattle.blocks.specs.declared.window.Part.{Part}
 use Rattle.blocks.specs.declared.order.Order.{Order}
@@ -52,14 +53,42 @@ pub record Ordered (deep named : Bool) (f : Frame) (planeNo : ℕ) (plane : List
   pub answer : p ≡ windowOf f planeNo (length plane) ps (kindNumber (o .kind)) (o .w) (o .h) (o .x) (o .y) 0 (length scratch)
   pub full : filled ≡ scratchOf (p .number) f planeNo plane ps (kindNumber (o .kind)) (o .w) (o .h) (o .x) (o .y) 0 scratch
 
--- from the call's number, and what its window's call ensured
+-- the number of what is read is the tests'
+pub part-number : (n : ℕ) (f : Frame) (planeNo ps : ℕ) (o : Order) {p : Part} → p ≡ orderPart n f planeNo ps o → p .number ≡ n
+unfolding orderPart
+part-number n f planeNo ps o e = ap (λ (v : Part). v .number) e ∙ answer-number n _ _ _ _ _ _
+
+-- a refused order reads no part, and leaves scratch as it was
+pub order-refused : (f : Frame) (planeNo : ℕ) (plane : List ℕ) (ps : ℕ) (o : Order) (scratch : List ℕ) {n m : ℕ} {p : Part} → n ≡ m → (n ≡ 0 → ⊥)
+    → p ≡ noPart n → (p ≡ orderPart m f planeNo ps o) × (scratch ≡ orderScratch (p .number) f planeNo plane ps o scratch)
+unfolding orderPart orderScratch
+order-refused f planeNo plane ps o scratch {n} is other e =
+    (no-part-of _ is other e, rw e (scratch-kept n f planeNo plane ps (kindNumber (o .kind)) (o .w) (o .h) (o .x) (o .y) 0 scratch other))
+
+-- an accepted one reads its window where that lies: its window's tests are met, which is why they aren't made again
+module _ (deep named : Bool) (f : Frame) (planeNo : ℕ) (plane : List ℕ) (ps : ℕ) (o : Order) (tl el wl : ℕ) (scratch : List ℕ) (dl ds : ℕ)
+    (z : lowest (orderTests deep named f planeNo (length plane) ps o tl el wl (length scratch) dl ds) ≡ 0) where
+  pub order-accepted : Accepted f planeNo (length plane) ps (kindNumber (o .kind)) (o .w) (o .h) (o .x) (o .y) 0 (length scratch)
+  order-accepted = record { is = order-window deep named f planeNo (length plane) ps o tl el wl (length scratch) dl ds z }
+
+  pub order-fetched : {a : Area} {p : Part} {d : List ℕ} → a ≡ areaOf f planeNo (kindNumber (o .kind)) (o .w) (o .h) (o .x) (o .y)
+      → (p ≡ areaAt a 0 ps) × (d ≡ areaFetched a plane ps 0 scratch)
+      → (p ≡ orderPart (lowest (orderTests deep named f planeNo (length plane) ps o tl el wl (length scratch) dl ds)) f planeNo ps o)
+      × (d ≡ orderScratch (p .number) f planeNo plane ps o scratch)
+  unfolding orderPart orderScratch
+  order-fetched is e = (e .0 ∙ rw is (sym (done _ _ _ z)), accepted-scratch order-accepted is plane scratch (e .0) (e .1))
+
+-- from what the order's window ensures, where its number is 0
 pub ordered : (deep named : Bool) (f : Frame) (planeNo : ℕ) (plane : List ℕ) (ps : ℕ) (o : Order) (tl el wl : ℕ)
-    (scratch : List ℕ) (dl ds : ℕ) (p : Part) (filled : List ℕ) {n : ℕ}
-    → n ≡ lowest (orderTests deep named f planeNo (length plane) ps o tl el wl (length scratch) dl ds) → n ≡ 0
-    → (p ≡ windowOf f planeNo (length plane) ps (kindNumber (o .kind)) (o .w) (o .h) (o .x) (o .y) 0 (length scratch))
-    × (filled ≡ scratchOf (p .number) f planeNo plane ps (kindNumber (o .kind)) (o .w) (o .h) (o .x) (o .y) 0 scratch)
+    (scratch : List ℕ) (dl ds : ℕ) (p : Part) (filled : List ℕ)
+    → (p ≡ orderPart (lowest (orderTests deep named f planeNo (length plane) ps o tl el wl (length scratch) dl ds)) f planeNo ps o)
+    × (filled ≡ orderScratch (p .number) f planeNo plane ps o scratch) → p .number ≡ 0
     → Ordered deep named f planeNo plane ps o tl el wl scratch dl ds p filled
-ordered deep named f planeNo plane ps o tl el wl scratch dl ds p filled is z e = record { number = sym is ∙ z; answer = e .0; full = e .1 }
+unfolding orderPart orderScratch
+ordered deep named f planeNo plane ps o tl el wl scratch dl ds p filled e z =
+    let n : lowest (orderTests deep named f planeNo (length plane) ps o tl el wl (length scratch) dl ds) ≡ 0 = sym (part-number _ f planeNo ps o (e .0)) ∙ z in
+    let w = order-window deep named f planeNo (length plane) ps o tl el wl (length scratch) dl ds n in
+    record { number = n; answer = e .0 ∙ done _ _ _ n ∙ window-is f planeNo (length plane) ps (kindNumber (o .kind)) (o .w) (o .h) (o .x) (o .y) 0 (length scratch) w; full = e .1 }
 
 module _ {deep named : Bool} {f : Frame} {planeNo : ℕ} {plane : List ℕ} {ps : ℕ} {o : Order} {tl el wl : ℕ} {scratch : List ℕ} {dl ds : ℕ} {p : Part} {filled : List ℕ}
     (q : Ordered deep named f planeNo plane ps o tl el wl scratch dl ds p filled) where
@@ -99,9 +128,10 @@ module _ {deep named : Bool} {f : Frame} {planeNo : ℕ} {plane : List ℕ} {ps 
 -- ---- what the call answers, where it is refused and where it is accepted
 module _ (deep named : Bool) (depth : ℕ) (f : Frame) (planeNo : ℕ) (plane : List ℕ) (ps : ℕ) (o : Order) (subpel ext warp : List ℤ) (scratch : List ℕ) where
   module _ (dst : List ℕ) (ds : ℕ) {r : ℕ} (is : r ≡ orderNumber deep named f planeNo plane ps o subpel ext warp (length scratch) (length dst) ds) where
-    pub put-refused : (r ≡ 0 → ⊥) → OrderPutAnswer deep named depth f planeNo plane ps o subpel ext warp scratch dst ds r scratch dst
-    unfolding orderScratch scratchOf orderDst
-    put-refused h = (is, sym (refused r _ scratch h), sym (refused r _ dst h))
+    pub put-refused : {scratch′ : List ℕ} → scratch′ ≡ orderScratch r f planeNo plane ps o scratch → (r ≡ 0 → ⊥)
+        → OrderPutAnswer deep named depth f planeNo plane ps o subpel ext warp scratch dst ds r scratch′ dst
+    unfolding orderDst
+    put-refused kept h = (is, kept, sym (refused r _ dst h))
 
     pub put-done : {p : Part} {filled src dst′ : List ℕ}
         → Ordered deep named f planeNo plane ps o (length subpel) (length ext) (length warp) scratch (length dst) ds p filled
@@ -111,9 +141,10 @@ module _ (deep named : Bool) (depth : ℕ) (f : Frame) (planeNo : ℕ) (plane : 
     put-done q from new = let z = is ∙ q .number in (is, rw z (kept q), rw z (new ∙ put-shown depth subpel ext warp o (source q from) ds (some q from) dst))
 
   module _ (tmp : List ℤ) (ts : ℕ) {r : ℕ} (is : r ≡ orderNumber deep named f planeNo plane ps o subpel ext warp (length scratch) (length tmp) ts) where
-    pub prep-refused : (r ≡ 0 → ⊥) → OrderPrepAnswer deep named depth f planeNo plane ps o subpel ext warp scratch tmp ts r scratch tmp
-    unfolding orderScratch scratchOf orderTmp
-    prep-refused h = (is, sym (refused r _ scratch h), sym (refused r _ tmp h))
+    pub prep-refused : {scratch′ : List ℕ} → scratch′ ≡ orderScratch r f planeNo plane ps o scratch → (r ≡ 0 → ⊥)
+        → OrderPrepAnswer deep named depth f planeNo plane ps o subpel ext warp scratch tmp ts r scratch′ tmp
+    unfolding orderTmp
+    prep-refused kept h = (is, kept, sym (refused r _ tmp h))
 
     pub prep-done : {p : Part} {filled src : List ℕ} {tmp′ : List ℤ}
         → Ordered deep named f planeNo plane ps o (length subpel) (length ext) (length warp) scratch (length tmp) ts p filled

@@ -143,19 +143,24 @@ no-part-of new e other is = is ∙ rw e (sym (refused _ _ _ (rw e at other)))
 pub part-answer : {p q : Part} → p ≡ q → PartAnswer q (p .number) (p .buffer) (p .place) (p .stride) (p .len)
 part-answer e = rw e (refl, refl, refl, refl, refl)
 
-module _ (f : Frame) (planeNo pl ps kind w h : ℕ) (x y : ℤ) (mode sl : ℕ) where
-  -- by the number and by whether the plane has the window
-  abbrev answerBy : (n : ℕ) (planes : Bool) → Part
-  answerBy n planes = orSame n (windowAt planes ps (windowSide kind w) (windowSide kind h) (windowStart kind x) (windowStart kind y)) (noPart n)
+-- the number of an answer, whether the plane has the window or not
+pub answer-number : (n : ℕ) (planes : Bool) (ps ww wh : ℕ) (x y : ℤ) → orSame n (windowAt planes ps ww wh x y) (noPart n) .number ≡ n
+unfolding windowAt orSame
+answer-number zero true ps ww wh x y = refl
+answer-number zero false ps ww wh x y = refl
+answer-number (suc n) planes ps ww wh x y = refl
 
-  -- its number is the tests'
+module _ (f : Frame) (planeNo pl ps kind w h : ℕ) (x y : ℤ) (mode sl : ℕ) where
+  -- it is the tests'
   pub window-number : windowOf f planeNo pl ps kind w h x y mode sl .number ≡ lowest (windowTests f planeNo pl ps kind w h x y mode sl)
-  unfolding windowOf windowAt orSame
-  window-number = go (lowest (windowTests f planeNo pl ps kind w h x y mode sl)) (ownPlane f planeNo kind w h x y mode) where
-    go : (n : ℕ) (b : Bool) → answerBy n b .number ≡ n
-    go zero true = refl
-    go zero false = refl
-    go (suc n) b = refl
+  unfolding windowOf
+  window-number = answer-number (lowest (windowTests f planeNo pl ps kind w h x y mode sl)) (ownPlane f planeNo kind w h x y mode) _ _ _ _ _
+
+  -- where they are met, the answer is where the area lies
+  pub window-is : lowest (windowTests f planeNo pl ps kind w h x y mode sl) ≡ 0
+      → areaAt (areaOf f planeNo kind w h x y) mode ps ≡ windowOf f planeNo pl ps kind w h x y mode sl
+  unfolding windowOf
+  window-is e = sym (done _ _ _ e)
 
 -- ---- an accepted call as the code has it: the area a, the part p and scratch d at the end
 pub record Accepted (f : Frame) (planeNo pl ps kind w h : ℕ) (x y : ℤ) (mode sl : ℕ) : Type 0 where
@@ -170,8 +175,7 @@ module _ {f : Frame} {planeNo pl ps kind w h : ℕ} {x y : ℤ} {mode sl : ℕ} 
     accepted-ready = rw is (window-ready f planeNo pl ps kind w h x y mode sl (ok .is))
 
     pub accepted-part : {p : Part} → p ≡ areaAt a mode ps → p ≡ windowOf f planeNo pl ps kind w h x y mode sl
-    unfolding windowOf
-    accepted-part q = q ∙ rw is (sym (done _ _ _ (ok .is)))
+    accepted-part q = q ∙ rw is (window-is f planeNo pl ps kind w h x y mode sl (ok .is))
 
     pub accepted-scratch : (plane scratch : List ℕ) {p : Part} {d : List ℕ} → p ≡ areaAt a mode ps → d ≡ areaFetched a plane ps mode scratch
         → d ≡ scratchOf (p .number) f planeNo plane ps kind w h x y mode scratch

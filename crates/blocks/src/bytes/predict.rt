@@ -5,142 +5,67 @@ ghost use lib.Dec.{leb};
 ghost use lib.ListN.{length};
 ghost use Rattle.rows.specs.Numbers.{up};
 ghost use Rattle.blocks.specs.bytes.Depth.{depthOk};
-ghost use Rattle.blocks.specs.Window.{windowOf, scratchOf};
-ghost use Rattle.blocks.specs.Order.{kindNumber, kindOf, OrderPutAnswer, OrderPrepAnswer};
+ghost use Rattle.blocks.specs.Refuse.{lowest};
+ghost use Rattle.blocks.specs.Order.{kindOf, orderTests, orderPart, orderScratch, OrderPutAnswer, OrderPrepAnswer};
 use super::depth::depth_numbers;
 use super::depth::depth_ok;
 use super::kinds::prep_kind;
 use super::kinds::put_kind;
+use super::window::fetch;
 use super::window::pick;
-use super::window::window;
 use crate::frame::Frame;
+use crate::frame::area_of;
 use crate::order::Order;
 use crate::order::check_order;
 use crate::order::kind_number;
 use crate::order::kind_of;
 use crate::window::Part;
+use crate::window::no_part;
 use rows::bytes::pixel::Pixel;
 
-// An order's window, in the default mode.
+// An order's tests, and its window in the default mode where none refuses: the part that the kind's rows read. tl, el and wl are the lengths of the tables,
+// dl of what is written.
 fn order_window(
-    f: Frame,
-    plane_no: u32,
-    plane: &[Pixel],
-    plane_stride: usize,
-    o: Order,
-    scratch: &mut [Pixel],
-) -> Part
-    ensures { λ r. ⌜ (r ≡ windowOf f «plane_no» (length (now (plane .entry))) «plane_stride» (kindNumber (o .kind)) (o .w) (o .h) (o .x) (o .y) 0
-        (length (now (scratch .entry))))
-        × (now (scratch .exit) ≡ scratchOf (r .number) f «plane_no» (now (plane .entry)) «plane_stride» (kindNumber (o .kind)) (o .w) (o .h) (o .x) (o .y) 0
-        (now (scratch .entry))) ⌝ }
-{
-    let k = o.kind;
-    let n = kind_number(k);
-    window(
-        f,
-        plane_no,
-        plane,
-        plane_stride,
-        n,
-        o.w,
-        o.h,
-        o.x,
-        o.y,
-        0,
-        scratch,
-    )
-}
-
-// An order run as put, and as prep.
-pub fn order_put(
-    depth: i32,
+    deep: bool,
     named: bool,
     f: Frame,
     plane_no: u32,
     plane: &[Pixel],
     plane_stride: usize,
     o: Order,
-    subpel: &[i8],
-    ext: &[i8],
-    warp: &[i8],
+    tl: usize,
+    el: usize,
+    wl: usize,
     scratch: &mut [Pixel],
-    dst: &mut [Pixel],
+    dl: usize,
     dst_stride: usize,
-) -> u32
-    ensures { λ r. ⌜ OrderPutAnswer (depthOk depth) named (up depth) f «plane_no» (now (plane .entry)) «plane_stride» o (now (subpel .entry))
-        (now (ext .entry)) (now (warp .entry))
-        (now (scratch .entry)) (now (dst .entry)) «dst_stride» r (now (scratch .exit)) (now (dst .exit)) ⌝ }
+) -> Part
+    ensures { λ r. ⌜ (r ≡ orderPart (lowest (orderTests deep named f «plane_no» (length (now (plane .entry))) «plane_stride» o tl el wl
+        (length (now (scratch .entry))) dl «dst_stride»)) f «plane_no» «plane_stride» o)
+        × (now (scratch .exit) ≡ orderScratch (r .number) f «plane_no» (now (plane .entry)) «plane_stride» o (now (scratch .entry))) ⌝ }
 {
     let number = check_order(
-        depth_ok(depth),
+        deep,
         named,
         f,
         plane_no,
         plane.len(),
         plane_stride,
         o,
-        subpel.len(),
-        ext.len(),
-        warp.len(),
+        tl,
+        el,
+        wl,
         scratch.len(),
-        dst.len(),
+        dl,
         dst_stride,
     );
-    if number == 0 {
-        let d = depth_numbers(depth);
-        let part = order_window(f, plane_no, plane, plane_stride, o, scratch);
-        let s = part.stride;
-        let src = pick(part, plane, scratch);
-        let k = o.kind;
-        put_kind(d, k, src, s, o.w, o.h, subpel, ext, warp, dst, dst_stride);
+    if number != 0 {
+        return no_part(number);
     }
-    number
-}
-
-pub fn order_prep(
-    depth: i32,
-    named: bool,
-    f: Frame,
-    plane_no: u32,
-    plane: &[Pixel],
-    plane_stride: usize,
-    o: Order,
-    subpel: &[i8],
-    ext: &[i8],
-    warp: &[i8],
-    scratch: &mut [Pixel],
-    tmp: &mut [i16],
-    tmp_stride: usize,
-) -> u32
-    ensures { λ r. ⌜ OrderPrepAnswer (depthOk depth) named (up depth) f «plane_no» (now (plane .entry)) «plane_stride» o (now (subpel .entry))
-        (now (ext .entry)) (now (warp .entry))
-        (now (scratch .entry)) (now (tmp .entry)) «tmp_stride» r (now (scratch .exit)) (now (tmp .exit)) ⌝ }
-{
-    let number = check_order(
-        depth_ok(depth),
-        named,
-        f,
-        plane_no,
-        plane.len(),
-        plane_stride,
-        o,
-        subpel.len(),
-        ext.len(),
-        warp.len(),
-        scratch.len(),
-        tmp.len(),
-        tmp_stride,
-    );
-    if number == 0 {
-        let d = depth_numbers(depth);
-        let part = order_window(f, plane_no, plane, plane_stride, o, scratch);
-        let s = part.stride;
-        let src = pick(part, plane, scratch);
-        let k = o.kind;
-        prep_kind(d, k, src, s, o.w, o.h, subpel, ext, warp, tmp, tmp_stride);
-    }
-    number
+    let k = o.kind;
+    let n = kind_number(k);
+    let a = area_of(f, plane_no, n, o.w, o.h, o.x, o.y);
+    fetch(a, plane, plane_stride, 0, scratch)
 }
 
 pub fn order_put_at(
@@ -191,21 +116,28 @@ pub fn order_put_at(
         h,
         kind: k,
     };
-    order_put(
-        depth,
+    let part = order_window(
+        depth_ok(depth),
         kind <= 3,
         f,
         plane_no,
         plane,
         plane_stride,
         o,
-        subpel,
-        ext,
-        warp,
+        subpel.len(),
+        ext.len(),
+        warp.len(),
         scratch,
-        dst,
+        dst.len(),
         dst_stride,
-    )
+    );
+    if part.number == 0 {
+        let n = depth_numbers(depth);
+        let s = part.stride;
+        let src = pick(part, plane, scratch);
+        put_kind(n, k, src, s, w, h, subpel, ext, warp, dst, dst_stride);
+    }
+    part.number
 }
 
 pub fn order_prep_at(
@@ -256,19 +188,26 @@ pub fn order_prep_at(
         h,
         kind: k,
     };
-    order_prep(
-        depth,
+    let part = order_window(
+        depth_ok(depth),
         kind <= 3,
         f,
         plane_no,
         plane,
         plane_stride,
         o,
-        subpel,
-        ext,
-        warp,
+        subpel.len(),
+        ext.len(),
+        warp.len(),
         scratch,
-        tmp,
+        tmp.len(),
         tmp_stride,
-    )
+    );
+    if part.number == 0 {
+        let n = depth_numbers(depth);
+        let s = part.stride;
+        let src = pick(part, plane, scratch);
+        prep_kind(n, k, src, s, w, h, subpel, ext, warp, tmp, tmp_stride);
+    }
+    part.number
 }

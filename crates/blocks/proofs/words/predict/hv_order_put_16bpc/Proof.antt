@@ -1,21 +1,66 @@
 use borrow.Author.Needs.{needs}
-use mathlib.Core.Path.{ap}
+use mathlib.Core.Path.{_≡_, sym, ap, _∙_}
+use mathlib.Core.Bool.{true}
+use mir.Syntax.{w32}
 use Rattle.rows.specs.Numbers.{up}
 use Rattle.rows.proofs.Laws.Signed.{back}
 use Rattle.blocks.specs.words.Depth.{depthOk}
-use Rattle.blocks.proofs.Laws.Orders.{order-passed, put-passed}
+use Rattle.blocks.specs.Order.{kindOf}
+use Rattle.blocks.proofs.Laws.words.Deep.{deep-bits, deep-bias, deep-max}
+use Rattle.blocks.proofs.Laws.Told.{passed}
+use Rattle.blocks.proofs.Laws.Orders.{part-number, ordered, ordered-deep, order-part, order-rows, put-done, put-refused, order-passed, put-passed}
 use Rattle.blocks.proofs.words.predict.hv_order_put_16bpc.Statement.{statement}
 use Rattle.blocks.proofs.words.predict.hv_order_put_16bpc.Tie as tie
 
+-- the function's entry, and the window's call, from where its number is 0
+abbrev entry : tie.After-order-window → tie.Start
+entry c = c .before .before .before .before .before .before .before
+
+abbrev window : tie.Then1 → tie.After-order-window
+window c = c .before .before .before .before
+
+kind-is : (c : tie.After-order-window) → let a = entry c .args in
+    c .before .before .before .kind-of .result ≡ kindOf (a .kind) (a .mx) (a .my) (a .filter-type) (a .a) (a .b) (a .c) (a .d)
+kind-is c =
+    let f = entry c .fits in
+    rw (back (f .mx), back (f .my), back (f .filter-type), back (f .a), back (f .b), back (f .c), back (f .d)) at (c .before .before .before .kind-of .ensures)
+
+deep : (c : tie.Then1) → depthOk (passed w32 (entry (window c) .args .depth)) ≡ true
+deep c =
+    let w = window c in
+    sym (w .before .before .depth-ok .ensures) ∙ ordered-deep (ordered _ _ _ _ _ _ _ _ _ _ _ _ _ _ _ (w .order-window .ensures) (c .if1 .taken))
+
+pick-requires : tie.Need-pick-requires
+pick-requires c κs =
+    let t = c .before .before in order-part (ordered _ _ _ _ _ _ _ _ _ _ _ _ _ _ _ (window t .order-window .ensures) (t .if1 .taken))
+
+put-kind-requires : tie.Need-put-kind-requires
+put-kind-requires c κs =
+    let s = c .before in let d = s .before .before in let t = d .before in let p = deep t in
+    let r = order-rows (ordered _ _ _ _ _ _ _ _ _ _ _ _ _ _ _ (window t .order-window .ensures) (t .if1 .taken)) (s .pick .ensures) in
+    rw (d .depth-numbers .ensures) (r .0, r .1, deep-bits _ p, deep-bias _ p, deep-max _ p)
+
 returns : tie.Need-returns
 returns c =
-    let p = c .before .before .before .before in let k = p .before .before .before in
-    let f = k .before .before .before .before .fits in
-    let e = rw (back (f .mx), back (f .my), back (f .filter-type), back (f .a), back (f .b), back (f .c), back (f .d)) at (k .kind-of .ensures) in
-    put-passed _ _ _ _ _ _ _ _ _ _ _ _ (ap depthOk (back (f .depth))) (ap up (back (f .depth))) (order-passed _ _ (back (f .x)) (back (f .y)) e) _ _ (p .order-put .ensures)
+    let k = c .before .before in let s = k .before .before in let d = s .before .before in let t = d .before in
+    let w = window t in let f = entry w .fits in
+    let q = ordered _ _ _ _ _ _ _ _ _ _ _ _ _ _ _ (w .order-window .ensures) (t .if1 .taken) in
+    let e = rw (d .depth-numbers .ensures) at (k .put-kind .ensures) in
+    put-passed _ _ _ _ _ _ _ _ _ _ _ _ (w .before .before .depth-ok .ensures ∙ ap depthOk (back (f .depth))) (ap up (back (f .depth)))
+    (order-passed _ _ (back (f .x)) (back (f .y)) (kind-is w)) _ _
+    (put-done _ _ _ _ _ _ _ _ _ _ _ _ _ _ (part-number _ _ _ _ _ (w .order-window .ensures .0)) q (s .pick .ensures) e)
+
+returns-2 : tie.Need-returns-2
+returns-2 c =
+    let w = c .before .before .before .before in let f = entry w .fits in
+    put-passed _ _ _ _ _ _ _ _ _ _ _ _ (w .before .before .depth-ok .ensures ∙ ap depthOk (back (f .depth))) (ap up (back (f .depth)))
+    (order-passed _ _ (back (f .x)) (back (f .y)) (kind-is w)) _ _
+    (put-refused _ _ _ _ _ _ _ _ _ _ _ _ _ _ (part-number _ _ _ _ _ (w .order-window .ensures .0)) (w .order-window .ensures .1) (c .if1 .left))
 
 pub hv-order-put-16bpc-spec : {M : Type 1} → statement M
 hv-order-put-16bpc-spec =
     tie.close
     (tie.spec
-    (λ c κs. search needs) (λ c κs. search needs) (λ c. search needs) (λ c. search needs) returns)  -- kind-of, order-put, same-length
+    (λ c κs. search needs) (λ c κs. search needs) (λ c κs. search needs)  -- kind-of, depth-ok, order-window
+    (λ c κs. deep c) pick-requires put-kind-requires  -- depth-numbers-requires
+    (λ c. search needs) (λ c. search needs) returns (λ c. search needs) returns-2)  -- same-length
