@@ -5,6 +5,7 @@ ghost use lib.IntN.{pos, natAbs, _+ℤ_};
 ghost use Rattle.rows.specs.Numbers.{clip};
 ghost use Rattle.blocks.specs.Refuse.{need, sizeOk, lowest};
 ghost use Rattle.blocks.specs.Edge.{placeOk, edgeTests};
+use crate::frame::Area;
 use crate::refuse::held;
 use crate::refuse::needed;
 use crate::refuse::size_ok;
@@ -31,34 +32,23 @@ pub fn places(x: i64, y: i64, rest: u32) -> u32
     needed(place_ok(x), 3, needed(place_ok(y), 3, rest))
 }
 
-pub fn check_edge(
-    bw: usize,
-    bh: usize,
-    iw: usize,
-    ih: usize,
-    x: i64,
-    y: i64,
-    dl: usize,
-    dst_stride: usize,
-    pl: usize,
-    plane_stride: usize,
-) -> u32
-    ensures { λ r. ⌜ r ≡ lowest (edgeTests bw bh iw ih x y dl «dst_stride» pl «plane_stride») ⌝ }
+pub fn check_edge(a: Area, dl: usize, dst_stride: usize, pl: usize, plane_stride: usize) -> u32
+    ensures { λ r. ⌜ r ≡ lowest (edgeTests (a .ww) (a .wh) (a .iw) (a .ih) (a .left) (a .top) dl «dst_stride» pl «plane_stride») ⌝ }
 {
     let buffers = held(
         pl,
         plane_stride,
-        iw,
-        ih,
+        a.iw,
+        a.ih,
         5,
-        held(dl, dst_stride, bw, bh, 6, 0),
+        held(dl, dst_stride, a.ww, a.wh, 6, 0),
     );
     let strides = stride(
-        bw,
+        a.ww,
         dst_stride,
-        stride(iw, plane_stride, places(x, y, buffers)),
+        stride(a.iw, plane_stride, places(a.left, a.top, buffers)),
     );
-    sides(128, bw, bh, sides(16384, iw, ih, strides))
+    sides(128, a.ww, a.wh, sides(16384, a.iw, a.ih, strides))
 }
 
 // The plane's row nearest to row y + j.

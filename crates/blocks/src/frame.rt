@@ -14,6 +14,13 @@ pub struct Frame {
     pub ss_ver: bool,
 }
 
+// A plane of a frame, luma (0) or chroma (1), and the stride at which it is lent.
+pub struct Reference {
+    pub frame: Frame,
+    pub plane_no: u32,
+    pub stride: usize,
+}
+
 // A window of ww columns and wh rows, from column `left` and row `top` of a plane of iw columns and ih rows on.
 pub struct Area {
     pub ww: usize,
@@ -96,14 +103,15 @@ fn window_start(kind: u32, x: i64) -> i64
 }
 
 // The window of a block.
-pub fn area_of(f: Frame, plane_no: u32, kind: u32, w: usize, h: usize, x: i64, y: i64) -> Area
+pub fn area_of(lent: Reference, kind: u32, w: usize, h: usize, x: i64, y: i64) -> Area
     requires { ⌜ (w ≤ 64) × (h ≤ 64) × (natAbs x ≤ 2 ^ 30) × (natAbs y ≤ 2 ^ 30) ⌝ }
-    ensures { λ r. ⌜ r ≡ areaOf f «plane_no» kind w h x y ⌝ }
+    ensures { λ r. ⌜ r ≡ areaOf (lent .frame) (lent .«plane_no») kind w h x y ⌝ }
 {
+    let f = lent.frame;
     let ww = window_side(kind, w);
     let wh = window_side(kind, h);
-    let iw = plane_w(f, plane_no);
-    let ih = plane_h(f, plane_no);
+    let iw = plane_w(f, lent.plane_no);
+    let ih = plane_h(f, lent.plane_no);
     let left = window_start(kind, x);
     let top = window_start(kind, y);
     Area {

@@ -12,7 +12,7 @@ use crate::filters::SubpelMotion;
 use crate::filters::filter_in;
 use crate::filters::fraction_ok;
 use crate::filters::type_ok;
-use crate::frame::Frame;
+use crate::frame::Reference;
 use crate::frame::frame_names_ok;
 use crate::frame::frame_sizes_ok;
 use crate::frame::plane_w;
@@ -46,6 +46,13 @@ pub struct Order {
     pub w: usize,
     pub h: usize,
     pub kind: Kind,
+}
+
+// The lengths of the three tables of filters.
+pub struct TableLengths {
+    pub subpel: usize,
+    pub ext: usize,
+    pub warp: usize,
 }
 
 // The kind that a call's numbers name.
@@ -133,75 +140,76 @@ fn filters_ok(k: Kind, el: usize, wl: usize) -> bool
 }
 
 // The tests of an order: sizes and strides first, then its numbers, since the filters and the window's sides are asked only of what these allow.
-fn order_shape(
-    f: Frame,
-    plane_no: u32,
-    plane_stride: usize,
-    k: Kind,
-    w: usize,
-    h: usize,
-    dst_stride: usize,
-) -> u32
-    ensures { λ r. ⌜ r ≡ need (frameSizesOk f «plane_no») 1 (need (sizeOk blockSide w) 1 (need (sizeOk blockSide h) 1 (need (kindSizeOk k w h) 1
-        (need (strideOk (planeW f «plane_no») «plane_stride») 2 (need (strideOk w «dst_stride») 2 0))))) ⌝ }
+fn order_shape(lent: Reference, k: Kind, w: usize, h: usize, dst_stride: usize) -> u32
+    ensures { λ r. ⌜ r
+        ≡ need (frameSizesOk (lent .frame) (lent .«plane_no»)) 1 (need (sizeOk blockSide w) 1 (need (sizeOk blockSide h) 1 (need (kindSizeOk k w h) 1
+        (need (strideOk (planeW (lent .frame) (lent .«plane_no»)) (lent .stride)) 2 (need (strideOk w «dst_stride») 2 0))))) ⌝ }
 {
-    let strides = stride(plane_w(f, plane_no), plane_stride, stride(w, dst_stride, 0));
+    let f = lent.frame;
+    let strides = stride(
+        plane_w(f, lent.plane_no),
+        lent.stride,
+        stride(w, dst_stride, 0),
+    );
     let block = sizes(w, h, needed(kind_size_ok(k, w, h), 1, strides));
-    needed(frame_sizes_ok(f, plane_no), 1, block)
+    needed(frame_sizes_ok(f, lent.plane_no), 1, block)
 }
 
-fn order_numbers(deep: bool, named: bool, f: Frame, plane_no: u32, k: Kind, x: i64, y: i64) -> u32
-    ensures { λ r. ⌜ r ≡ need deep 3 (need (frameNamesOk f «plane_no») 3 (need named 3
+fn order_numbers(deep: bool, named: bool, lent: Reference, k: Kind, x: i64, y: i64) -> u32
+    ensures { λ r. ⌜ r ≡ need deep 3 (need (frameNamesOk (lent .frame) (lent .«plane_no»)) 3 (need named 3
         (need (placeOk x) 3 (need (placeOk y) 3 (need (motionOk k) 3 0))))) ⌝ }
 {
+    let f = lent.frame;
     let motion = places(x, y, needed(motion_ok(k), 3, 0));
     needed(
         deep,
         3,
-        needed(frame_names_ok(f, plane_no), 3, needed(named, 3, motion)),
+        needed(
+            frame_names_ok(f, lent.plane_no),
+            3,
+            needed(named, 3, motion),
+        ),
     )
 }
 
-fn order_tables(k: Kind, tl: usize, el: usize, wl: usize, rest: u32) -> u32
+fn order_tables(k: Kind, t: TableLengths, rest: u32) -> u32
     requires { ⌜ motionOk k ≡ true ⌝ }
-    ensures { λ r. ⌜ r ≡ need (subpelOk tl) 4 (need (wholeFilters el) 4 (need (wholeFilters wl) 4 (need (filtersOk k el wl) 4 rest))) ⌝ }
+    ensures { λ r. ⌜ r ≡ need (subpelOk (t .subpel)) 4 (need (wholeFilters (t .ext)) 4 (need (wholeFilters (t .warp)) 4 (need (filtersOk k (t .ext)
+        (t .warp)) 4 rest))) ⌝ }
 {
-    let there = needed(filters_ok(k, el, wl), 4, rest);
+    let there = needed(filters_ok(k, t.ext, t.warp), 4, rest);
     needed(
-        tl == 600,
+        t.subpel == 600,
         4,
-        needed(el % 8 == 0, 4, needed(wl % 8 == 0, 4, there)),
+        needed(t.ext % 8 == 0, 4, needed(t.warp % 8 == 0, 4, there)),
     )
 }
 
 pub fn check_order(
     deep: bool,
     named: bool,
-    f: Frame,
-    plane_no: u32,
+    lent: Reference,
     pl: usize,
-    plane_stride: usize,
     o: Order,
-    tl: usize,
-    el: usize,
-    wl: usize,
+    t: TableLengths,
     sl: usize,
     dl: usize,
     dst_stride: usize,
 ) -> u32
-    ensures { λ r. ⌜ r ≡ lowest (orderTests deep named f «plane_no» pl «plane_stride» o tl el wl sl dl «dst_stride») ⌝ }
+    ensures { λ r. ⌜ r ≡ lowest (orderTests deep named (lent .frame) (lent .«plane_no») pl (lent .stride) o (t .subpel) (t .ext)
+        (t .warp) sl dl «dst_stride») ⌝ }
 {
     let k = o.kind;
-    let shape = order_shape(f, plane_no, plane_stride, k, o.w, o.h, dst_stride);
+    let shape = order_shape(lent, k, o.w, o.h, dst_stride);
     if shape != 0 {
         return shape;
     }
-    let numbers = order_numbers(deep, named, f, plane_no, k, o.x, o.y);
+    let numbers = order_numbers(deep, named, lent, k, o.x, o.y);
     if numbers != 0 {
         return numbers;
     }
     let written = held(dl, dst_stride, o.w, o.h, 6, 0);
     let n = kind_number(k);
-    let buffers = window_held(f, plane_no, pl, plane_stride, n, o.w, o.h, sl, written);
-    order_tables(k, tl, el, wl, buffers)
+    let buffers = window_held(lent, pl, n, o.w, o.h, sl, written);
+    order_tables(k, t, buffers)
 }

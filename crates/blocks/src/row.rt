@@ -5,7 +5,7 @@ ghost use lib.Signed.{leZ, ltZ};
 ghost use mathlib.Core.Bool.{_&&_};
 ghost use Rattle.blocks.specs.Refuse.{lowest};
 ghost use Rattle.blocks.specs.Window.{rowTests, rowAt};
-use crate::frame::Frame;
+use crate::frame::Reference;
 use crate::frame::frame_names_ok;
 use crate::frame::frame_sizes_ok;
 use crate::frame::plane_h;
@@ -25,39 +25,42 @@ fn row_ok(row: i64, h: usize) -> bool
 }
 
 // The tests of a row's call.
-fn check_row(f: Frame, plane_no: u32, pl: usize, plane_stride: usize, row: i64) -> u32
-    ensures { λ r. ⌜ r ≡ lowest (rowTests f «plane_no» pl «plane_stride» row) ⌝ }
+fn check_row(lent: Reference, pl: usize, row: i64) -> u32
+    ensures { λ r. ⌜ r ≡ lowest (rowTests (lent .frame) (lent .«plane_no») pl (lent .stride) row) ⌝ }
 {
-    let iw = plane_w(f, plane_no);
-    let ih = plane_h(f, plane_no);
-    let plane = held(pl, plane_stride, iw, ih, 5, 0);
+    let f = lent.frame;
+    let iw = plane_w(f, lent.plane_no);
+    let ih = plane_h(f, lent.plane_no);
+    let plane = held(pl, lent.stride, iw, ih, 5, 0);
     let numbers = needed(
-        frame_names_ok(f, plane_no),
+        frame_names_ok(f, lent.plane_no),
         3,
         needed(row_ok(row, ih), 3, plane),
     );
     needed(
-        frame_sizes_ok(f, plane_no),
+        frame_sizes_ok(f, lent.plane_no),
         1,
-        stride(iw, plane_stride, numbers),
+        stride(iw, lent.stride, numbers),
     )
 }
 
 // Where a row of a plane lies.
-pub fn row_at(f: Frame, plane_no: u32, pl: usize, plane_stride: usize, row: i64) -> Part
-    ensures { λ r. ⌜ r ≡ rowAt f «plane_no» pl «plane_stride» row ⌝ }
+pub fn row_at(lent: Reference, pl: usize, row: i64) -> Part
+    ensures { λ r. ⌜ r ≡ rowAt (lent .frame) (lent .«plane_no») pl (lent .stride) row ⌝ }
 {
-    let number = check_row(f, plane_no, pl, plane_stride, row);
+    let number = check_row(lent, pl, row);
     if number != 0 {
         return no_part(number);
     }
-    let place = above64(row) * plane_stride;
-    let len = plane_w(f, plane_no);
+    let f = lent.frame;
+    let s = lent.stride;
+    let place = above64(row) * s;
+    let len = plane_w(f, lent.plane_no);
     Part {
         number: 0,
         buffer: 1,
         place,
-        stride: plane_stride,
+        stride: s,
         len,
     }
 }

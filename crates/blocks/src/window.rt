@@ -10,7 +10,7 @@ ghost use Rattle.blocks.specs.Ready.{Ranged};
 ghost use Rattle.blocks.specs.Window.{planeW, planeH, frameSizesOk, frameNamesOk, windowSide, windowTests, inside, isPlanes, areaAt, noPart, windowOf};
 use crate::edge::places;
 use crate::frame::Area;
-use crate::frame::Frame;
+use crate::frame::Reference;
 use crate::frame::area_of;
 use crate::frame::frame_names_ok;
 use crate::frame::frame_sizes_ok;
@@ -32,33 +32,34 @@ pub struct Part {
 }
 
 // The links of a window's tests: the sizes and the stride, on which the later ones rely; the other numbers; the buffers.
-fn window_sizes(f: Frame, plane_no: u32, plane_stride: usize, w: usize, h: usize) -> u32
+fn window_sizes(lent: Reference, w: usize, h: usize) -> u32
     ensures { λ r. ⌜ r
-        ≡ need (frameSizesOk f «plane_no») 1 (need (sizeOk blockSide w) 1
-        (need (sizeOk blockSide h) 1 (need (strideOk (planeW f «plane_no») «plane_stride») 2 0))) ⌝ }
+        ≡ need (frameSizesOk (lent .frame) (lent .«plane_no»)) 1 (need (sizeOk blockSide w) 1
+        (need (sizeOk blockSide h) 1 (need (strideOk (planeW (lent .frame) (lent .«plane_no»)) (lent .stride)) 2 0))) ⌝ }
 {
+    let f = lent.frame;
     needed(
-        frame_sizes_ok(f, plane_no),
+        frame_sizes_ok(f, lent.plane_no),
         1,
-        sizes(w, h, stride(plane_w(f, plane_no), plane_stride, 0)),
+        sizes(w, h, stride(plane_w(f, lent.plane_no), lent.stride, 0)),
     )
 }
 
-fn window_numbers(f: Frame, plane_no: u32, kind: u32, x: i64, y: i64, mode: u32, rest: u32) -> u32
-    ensures { λ r. ⌜ r ≡ need (frameNamesOk f «plane_no») 3 (need (leb kind 3) 3 (need (placeOk x) 3 (need (placeOk y) 3 (need (leb mode 1) 3 rest)))) ⌝ }
+fn window_numbers(lent: Reference, kind: u32, x: i64, y: i64, mode: u32, rest: u32) -> u32
+    ensures { λ r. ⌜ r
+        ≡ need (frameNamesOk (lent .frame) (lent .«plane_no»)) 3 (need (leb kind 3) 3 (need (placeOk x) 3 (need (placeOk y) 3 (need (leb mode 1) 3 rest)))) ⌝ }
 {
+    let f = lent.frame;
     needed(
-        frame_names_ok(f, plane_no),
+        frame_names_ok(f, lent.plane_no),
         3,
         needed(kind <= 3, 3, places(x, y, needed(mode <= 1, 3, rest))),
     )
 }
 
 pub fn window_held(
-    f: Frame,
-    plane_no: u32,
+    lent: Reference,
     pl: usize,
-    plane_stride: usize,
     kind: u32,
     w: usize,
     h: usize,
@@ -67,21 +68,21 @@ pub fn window_held(
 ) -> u32
     requires { ⌜ (w ≤ 64) × (h ≤ 64) ⌝ }
     ensures { λ r. ⌜ r
-        ≡ need (holds pl «plane_stride» (planeW f «plane_no») (planeH f «plane_no»)) 5 (need (holdsAll sl (windowSide kind w) (windowSide kind h)) 6 rest) ⌝ }
+        ≡ need (holds pl (lent .stride) (planeW (lent .frame) (lent .«plane_no»)) (planeH (lent .frame) (lent .«plane_no»))) 5
+        (need (holdsAll sl (windowSide kind w) (windowSide kind h)) 6 rest) ⌝ }
 {
+    let f = lent.frame;
     let ww = window_side(kind, w);
     let wh = window_side(kind, h);
     let scratch = held(sl, ww, ww, wh, 6, rest);
-    let iw = plane_w(f, plane_no);
-    let ih = plane_h(f, plane_no);
-    held(pl, plane_stride, iw, ih, 5, scratch)
+    let iw = plane_w(f, lent.plane_no);
+    let ih = plane_h(f, lent.plane_no);
+    held(pl, lent.stride, iw, ih, 5, scratch)
 }
 
 pub fn check_window(
-    f: Frame,
-    plane_no: u32,
+    lent: Reference,
     pl: usize,
-    plane_stride: usize,
     kind: u32,
     w: usize,
     h: usize,
@@ -90,14 +91,14 @@ pub fn check_window(
     mode: u32,
     sl: usize,
 ) -> u32
-    ensures { λ r. ⌜ r ≡ lowest (windowTests f «plane_no» pl «plane_stride» kind w h x y mode sl) ⌝ }
+    ensures { λ r. ⌜ r ≡ lowest (windowTests (lent .frame) (lent .«plane_no») pl (lent .stride) kind w h x y mode sl) ⌝ }
 {
-    let number = window_sizes(f, plane_no, plane_stride, w, h);
+    let number = window_sizes(lent, w, h);
     if number != 0 {
         return number;
     }
-    let buffers = window_held(f, plane_no, pl, plane_stride, kind, w, h, sl, 0);
-    window_numbers(f, plane_no, kind, x, y, mode, buffers)
+    let buffers = window_held(lent, pl, kind, w, h, sl, 0);
+    window_numbers(lent, kind, x, y, mode, buffers)
 }
 
 // n columns from x on lie inside a side.
@@ -172,10 +173,8 @@ pub fn no_part(number: u32) -> Part
 
 // A window's call, but for the pixels.
 pub fn find_window(
-    f: Frame,
-    plane_no: u32,
+    lent: Reference,
     pl: usize,
-    plane_stride: usize,
     kind: u32,
     w: usize,
     h: usize,
@@ -184,12 +183,12 @@ pub fn find_window(
     mode: u32,
     sl: usize,
 ) -> Part
-    ensures { λ r. ⌜ r ≡ windowOf f «plane_no» pl «plane_stride» kind w h x y mode sl ⌝ }
+    ensures { λ r. ⌜ r ≡ windowOf (lent .frame) (lent .«plane_no») pl (lent .stride) kind w h x y mode sl ⌝ }
 {
-    let number = check_window(f, plane_no, pl, plane_stride, kind, w, h, x, y, mode, sl);
+    let number = check_window(lent, pl, kind, w, h, x, y, mode, sl);
     if number != 0 {
         return no_part(number);
     }
-    let a = area_of(f, plane_no, kind, w, h, x, y);
-    locate(a, mode, plane_stride)
+    let a = area_of(lent, kind, w, h, x, y);
+    locate(a, mode, lent.stride)
 }

@@ -88,7 +88,8 @@ unfolding orderPart orderScratch
 ordered deep named f planeNo plane ps o tl el wl scratch dl ds p filled e z =
     let n : lowest (orderTests deep named f planeNo (length plane) ps o tl el wl (length scratch) dl ds) ≡ 0 = sym (part-number _ f planeNo ps o (e .0)) ∙ z in
     let w = order-window deep named f planeNo (length plane) ps o tl el wl (length scratch) dl ds n in
-    record { number = n; answer = e .0 ∙ done _ _ _ n ∙ window-is f planeNo (length plane) ps (kindNumber (o .kind)) (o .w) (o .h) (o .x) (o .y) 0 (length scratch) w; full = e .1 }
+    let is = window-is f planeNo (length plane) ps (kindNumber (o .kind)) (o .w) (o .h) (o .x) (o .y) 0 (length scratch) w in
+    record { number = n; answer = e .0 ∙ done _ _ _ n ∙ is; full = e .1 }
 
 module _ {deep named : Bool} {f : Frame} {planeNo : ℕ} {plane : List ℕ} {ps : ℕ} {o : Order} {tl el wl : ℕ} {scratch : List ℕ} {dl ds : ℕ} {p : Part} {filled : List ℕ}
     (q : Ordered deep named f planeNo plane ps o tl el wl scratch dl ds p filled) where

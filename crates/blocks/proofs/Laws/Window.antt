@@ -52,7 +52,8 @@ clip-inside x n side i p h = omega (arith, p, clip-up (side - 1) (x +ℤ pos i),
 pub planes-fit : {a : Area} {sl pl ps : ℕ} → Fetch a sl (a .ww) pl ps → Inside (a .left) (a .ww) (a .iw) → Inside (a .top) (a .wh) (a .ih)
     → up (a .top) * ps + up (a .left) + partLen ps (a .ww) (a .wh) ≤ pl
 planes-fit {a} {sl} {pl} {ps} ok p q =
-    let low : (up (a .top) + (a .wh - 1)) * ps ≤ (a .ih - 1) * ps = mul-le-mul-right {m = up (a .top) + (a .wh - 1)} {n = a .ih - 1} ps (omega (arith, ok .area, q)) in
+    let below : up (a .top) + (a .wh - 1) ≤ a .ih - 1 = omega (arith, ok .area, q) in
+    let low : (up (a .top) + (a .wh - 1)) * ps ≤ (a .ih - 1) * ps = mul-le-mul-right {m = up (a .top) + (a .wh - 1)} {n = a .ih - 1} ps below in
     omega (arith, low, add-mul (up (a .top)) (a .wh - 1) ps, ok .plane, p)
 
 -- ---- a buffer of h rows of w at the stride s whose pixels are g's
@@ -80,7 +81,8 @@ module _ (a : Area) (plane scratch : List ℕ) {ps : ℕ} (ok : Fetch a (length 
       → Shows (span plane (up (a .top) * ps + up (a .left)) (up (a .top) * ps + up (a .left) + partLen ps (a .ww) (a .wh))) ps (a .ww) (a .wh) seen
   unfolding edge endless
   plane-shows p q =
-      span-shows plane (up (a .top) * ps + up (a .left)) ps (a .ww) (a .wh) seen (omega (arith, ok .plane, p)) (ok .plane .most) (planes-fit ok p q) λ i j wi hj.
+      span-shows plane (up (a .top) * ps + up (a .left)) ps (a .ww) (a .wh) seen (omega (arith, ok .plane, p)) (ok .plane .most)
+      (planes-fit ok p q) λ i j wi hj.
       ap (λ (k : ℕ). getD plane k 0)
       (rw (clip-inside (a .left) (a .ww) (a .iw) i p wi, clip-inside (a .top) (a .wh) (a .ih) j q hj) (omega (arith, add-mul (up (a .top)) j ps)))
 
@@ -88,9 +90,11 @@ module _ (a : Area) (plane scratch : List ℕ) {ps : ℕ} (ok : Fetch a (length 
   scratch-shows : Shows (span (fill scratch (a .ww) (a .ww) (a .wh) seen) 0 (0 + partLen (a .ww) (a .ww) (a .wh))) (a .ww) (a .ww) (a .wh) seen
   scratch-shows =
       let n = length-fill scratch (a .ww) (a .ww) (a .wh) seen in
-      span-shows (fill scratch (a .ww) (a .ww) (a .wh) seen) 0 (a .ww) (a .ww) (a .wh) seen (omega arith) (ok .dst .most) (omega (arith, n, ok .dst)) λ i j wi hj.
+      span-shows (fill scratch (a .ww) (a .ww) (a .wh) seen) 0 (a .ww) (a .ww) (a .wh) seen (omega arith) (ok .dst .most)
+      (omega (arith, n, ok .dst)) λ i j wi hj.
+      let r = row-fits (length scratch) (a .ww) (a .ww) (a .wh) j (ok .dst .fits) hj in
       ap (λ (k : ℕ). getD (fill scratch (a .ww) (a .ww) (a .wh) seen) k 0) (zero-add (j * a .ww + i))
-      ∙ fill-in 0 (a .ww) scratch (a .ww) (a .wh) seen i j (omega arith) wi hj (omega (arith, row-fits (length scratch) (a .ww) (a .ww) (a .wh) j (ok .dst .fits) hj))
+      ∙ fill-in 0 (a .ww) scratch (a .ww) (a .wh) seen i j (omega arith) wi hj (omega (arith, r))
 
   -- either, by whether the plane has the window
   by-plane : (b : Bool) → (b ≡ true → Inside (a .left) (a .ww) (a .iw) × Inside (a .top) (a .wh) (a .ih))

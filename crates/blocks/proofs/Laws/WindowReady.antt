@@ -7,13 +7,12 @@ use native.Mathlib.Omega.{arith}
 use borrow.Author.Tests.{leb-true}
 use lib.Dec.{leb, eqb}
 use lib.IntN.{ℤ, pos, natAbs}
-use lib.ListN.{length}
 use mir.Syntax.{w64}
-use mir.Val.{SFits, toZ, ofZ}
+use mir.Val.{SFits}
 use Rattle.rows.specs.Numbers.{up}
 use Rattle.rows.specs.Places.{pick, fill}
 use Rattle.rows.specs.Edge.{edge}
-use Rattle.rows.proofs.Laws.Signed.{abs-sub, fit-abs, backs}
+use Rattle.rows.proofs.Laws.Signed.{abs-sub, fit-abs}
 use Rattle.rows.proofs.Laws.Fill.{and-true}
 use Rattle.blocks.specs.Refuse.{Test, size, stride, number, read, written, _asks_, lowest, orSame, sizeOk, blockSide, strideOk, partLen, holds, holdsAll}
 use Rattle.blocks.specs.Edge.{placeOk}

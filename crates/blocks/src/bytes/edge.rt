@@ -48,27 +48,16 @@ pub extern "C" fn hv_emu_edge_8bpc(
 ) -> u32
     ensures { λ r. ⌜ EdgeAnswer bw bh iw ih x y (now (dst .entry)) «dst_stride» (now (plane .entry)) «plane_stride» r (now (dst .exit)) ⌝ }
 {
-    let number = check_edge(
-        bw,
-        bh,
+    let a = Area {
+        ww: bw,
+        wh: bh,
         iw,
         ih,
-        x,
-        y,
-        dst.len(),
-        dst_stride,
-        plane.len(),
-        plane_stride,
-    );
+        left: x,
+        top: y,
+    };
+    let number = check_edge(a, dst.len(), dst_stride, plane.len(), plane_stride);
     if number == 0 {
-        let a = Area {
-            ww: bw,
-            wh: bh,
-            iw,
-            ih,
-            left: x,
-            top: y,
-        };
         edge_rows(a, dst, dst_stride, plane, plane_stride);
     }
     number

@@ -14,8 +14,10 @@ use super::kinds::put_kind;
 use super::window::fetch;
 use super::window::pick;
 use crate::frame::Frame;
+use crate::frame::Reference;
 use crate::frame::area_of;
 use crate::order::Order;
+use crate::order::TableLengths;
 use crate::order::check_order;
 use crate::order::kind_number;
 use crate::order::kind_of;
@@ -23,38 +25,29 @@ use crate::window::Part;
 use crate::window::no_part;
 use rows::bytes::pixel::Pixel;
 
-// An order's tests, and its window in the default mode where none refuses: the part that the kind's rows read. tl, el and wl are the lengths of the tables,
-// dl of what is written.
+// An order's tests, and its window in the default mode where none refuses: the part that the kind's rows read. dl is the length of what is written.
 fn order_window(
     deep: bool,
     named: bool,
-    f: Frame,
-    plane_no: u32,
+    lent: Reference,
     plane: &[Pixel],
-    plane_stride: usize,
     o: Order,
-    tl: usize,
-    el: usize,
-    wl: usize,
+    t: TableLengths,
     scratch: &mut [Pixel],
     dl: usize,
     dst_stride: usize,
 ) -> Part
-    ensures { λ r. ⌜ (r ≡ orderPart (lowest (orderTests deep named f «plane_no» (length (now (plane .entry))) «plane_stride» o tl el wl
-        (length (now (scratch .entry))) dl «dst_stride»)) f «plane_no» «plane_stride» o)
-        × (now (scratch .exit) ≡ orderScratch (r .number) f «plane_no» (now (plane .entry)) «plane_stride» o (now (scratch .entry))) ⌝ }
+    ensures { λ r. ⌜ (r ≡ orderPart (lowest (orderTests deep named (lent .frame) (lent .«plane_no») (length (now (plane .entry))) (lent .stride) o
+        (t .subpel) (t .ext) (t .warp) (length (now (scratch .entry))) dl «dst_stride»)) (lent .frame) (lent .«plane_no») (lent .stride) o)
+        × (now (scratch .exit) ≡ orderScratch (r .number) (lent .frame) (lent .«plane_no») (now (plane .entry)) (lent .stride) o (now (scratch .entry))) ⌝ }
 {
     let number = check_order(
         deep,
         named,
-        f,
-        plane_no,
+        lent,
         plane.len(),
-        plane_stride,
         o,
-        tl,
-        el,
-        wl,
+        t,
         scratch.len(),
         dl,
         dst_stride,
@@ -64,8 +57,8 @@ fn order_window(
     }
     let k = o.kind;
     let n = kind_number(k);
-    let a = area_of(f, plane_no, n, o.w, o.h, o.x, o.y);
-    fetch(a, plane, plane_stride, 0, scratch)
+    let a = area_of(lent, n, o.w, o.h, o.x, o.y);
+    fetch(a, plane, lent.stride, 0, scratch)
 }
 
 pub fn order_put_at(
@@ -108,6 +101,11 @@ pub fn order_put_at(
         ss_hor,
         ss_ver,
     };
+    let lent = Reference {
+        frame: f,
+        plane_no,
+        stride: plane_stride,
+    };
     let k = kind_of(kind, mx, my, filter_type, a, b, c, d);
     let o = Order {
         x,
@@ -116,17 +114,18 @@ pub fn order_put_at(
         h,
         kind: k,
     };
+    let t = TableLengths {
+        subpel: subpel.len(),
+        ext: ext.len(),
+        warp: warp.len(),
+    };
     let part = order_window(
         depth_ok(depth),
         kind <= 3,
-        f,
-        plane_no,
+        lent,
         plane,
-        plane_stride,
         o,
-        subpel.len(),
-        ext.len(),
-        warp.len(),
+        t,
         scratch,
         dst.len(),
         dst_stride,
@@ -180,6 +179,11 @@ pub fn order_prep_at(
         ss_hor,
         ss_ver,
     };
+    let lent = Reference {
+        frame: f,
+        plane_no,
+        stride: plane_stride,
+    };
     let k = kind_of(kind, mx, my, filter_type, a, b, c, d);
     let o = Order {
         x,
@@ -188,17 +192,18 @@ pub fn order_prep_at(
         h,
         kind: k,
     };
+    let t = TableLengths {
+        subpel: subpel.len(),
+        ext: ext.len(),
+        warp: warp.len(),
+    };
     let part = order_window(
         depth_ok(depth),
         kind <= 3,
-        f,
-        plane_no,
+        lent,
         plane,
-        plane_stride,
         o,
-        subpel.len(),
-        ext.len(),
-        warp.len(),
+        t,
         scratch,
         tmp.len(),
         tmp_stride,

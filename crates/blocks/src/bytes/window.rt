@@ -7,6 +7,7 @@ ghost use Rattle.blocks.specs.Window.{areaAt, areaFetched, windowOf, scr
 use super::edge::edge_rows;
 use crate::frame::Area;
 use crate::frame::Frame;
+use crate::frame::Reference;
 use crate::frame::area_of;
 use crate::window::Part;
 use crate::window::check_window;
@@ -36,10 +37,8 @@ pub fn fetch(
 
 // A window's call: its tests, and the window where none refuses.
 pub fn window(
-    f: Frame,
-    plane_no: u32,
+    lent: Reference,
     plane: &[Pixel],
-    plane_stride: usize,
     kind: u32,
     w: usize,
     h: usize,
@@ -48,27 +47,17 @@ pub fn window(
     mode: u32,
     scratch: &mut [Pixel],
 ) -> Part
-    ensures { λ r. ⌜ (r ≡ windowOf f «plane_no» (length (now (plane .entry))) «plane_stride» kind w h x y mode (length (now (scratch .entry))))
-        × (now (scratch .exit) ≡ scratchOf (r .number) f «plane_no» (now (plane .entry)) «plane_stride» kind w h x y mode (now (scratch .entry))) ⌝ }
+    ensures { λ r. ⌜ (r ≡ windowOf (lent .frame) (lent .«plane_no») (length (now (plane .entry))) (lent .stride) kind w h x y mode (length (now
+        (scratch .entry))))
+        × (now (scratch .exit) ≡ scratchOf (r .number) (lent .frame) (lent .«plane_no») (now (plane .entry)) (lent .stride) kind w h x y mode
+        (now (scratch .entry))) ⌝ }
 {
-    let number = check_window(
-        f,
-        plane_no,
-        plane.len(),
-        plane_stride,
-        kind,
-        w,
-        h,
-        x,
-        y,
-        mode,
-        scratch.len(),
-    );
+    let number = check_window(lent, plane.len(), kind, w, h, x, y, mode, scratch.len());
     if number != 0 {
         return no_part(number);
     }
-    let a = area_of(f, plane_no, kind, w, h, x, y);
-    fetch(a, plane, plane_stride, mode, scratch)
+    let a = area_of(lent, kind, w, h, x, y);
+    fetch(a, plane, lent.stride, mode, scratch)
 }
 
 // The part that an answer names, empty where it was refused.
@@ -90,10 +79,8 @@ pub fn pick<'a>(p: Part, plane: &'a [Pixel], scratch: &'a [Pixel]) -> &'a [Pixel
 
 // The part itself: a second call on the same arguments, after the first has filled scratch.
 pub fn window_part<'a>(
-    f: Frame,
-    plane_no: u32,
+    lent: Reference,
     plane: &'a [Pixel],
-    plane_stride: usize,
     kind: u32,
     w: usize,
     h: usize,
@@ -103,22 +90,11 @@ pub fn window_part<'a>(
     scratch: &'a [Pixel],
 ) -> &'a [Pixel]
     ensures { λ r. ⌜ now r
-        ≡ partOf (windowOf f «plane_no» (length (now (plane .entry))) «plane_stride» kind w h x y mode (length (now (scratch .entry)))) (now (plane .entry))
+        ≡ partOf (windowOf (lent .frame) (lent .«plane_no») (length (now (plane .entry))) (lent .stride) kind w h x y mode (length (now
+        (scratch .entry)))) (now (plane .entry))
         (now (scratch .entry)) ⌝ }
 {
-    let part = find_window(
-        f,
-        plane_no,
-        plane.len(),
-        plane_stride,
-        kind,
-        w,
-        h,
-        x,
-        y,
-        mode,
-        scratch.len(),
-    );
+    let part = find_window(lent, plane.len(), kind, w, h, x, y, mode, scratch.len());
     pick(part, plane, scratch)
 }
 
@@ -153,19 +129,12 @@ pub extern "C" fn hv_window_8bpc(
         ss_hor,
         ss_ver,
     };
-    let part = window(
-        f,
+    let lent = Reference {
+        frame: f,
         plane_no,
-        plane,
-        plane_stride,
-        kind,
-        w,
-        h,
-        x,
-        y,
-        mode,
-        scratch,
-    );
+        stride: plane_stride,
+    };
+    let part = window(lent, plane, kind, w, h, x, y, mode, scratch);
     *buffer = part.buffer;
     *place = part.place;
     *stride = part.stride;

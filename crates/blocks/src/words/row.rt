@@ -5,14 +5,15 @@ ghost use mathlib.Core.List.{[]};
 ghost use Rattle.blocks.specs.Window.{partOf, rowAt, PartAnswer};
 use super::window::pick;
 use crate::frame::Frame;
+use crate::frame::Reference;
 use crate::row::row_at;
 use rows::words::pixel::Pixel;
 
 // The row itself.
-pub fn row_part(f: Frame, plane_no: u32, plane: &[Pixel], plane_stride: usize, row: i64) -> &[Pixel]
-    ensures { λ r. ⌜ now r ≡ partOf (rowAt f «plane_no» (length (now (plane .entry))) «plane_stride» row) (now (plane .entry)) [] ⌝ }
+pub fn row_part(lent: Reference, plane: &[Pixel], row: i64) -> &[Pixel]
+    ensures { λ r. ⌜ now r ≡ partOf (rowAt (lent .frame) (lent .«plane_no») (length (now (plane .entry))) (lent .stride) row) (now (plane .entry)) [] ⌝ }
 {
-    let part = row_at(f, plane_no, plane.len(), plane_stride, row);
+    let part = row_at(lent, plane.len(), row);
     pick(part, plane, &plane[0..0])
 }
 
@@ -40,7 +41,12 @@ pub extern "C" fn hv_row_16bpc(
         ss_hor,
         ss_ver,
     };
-    let part = row_at(f, plane_no, plane.len(), plane_stride, row);
+    let lent = Reference {
+        frame: f,
+        plane_no,
+        stride: plane_stride,
+    };
+    let part = row_at(lent, plane.len(), row);
     *buffer = part.buffer;
     *place = part.place;
     *stride = part.stride;

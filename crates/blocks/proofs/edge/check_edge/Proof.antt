@@ -1,21 +1,22 @@
 use borrow.Author.Needs.{needs}
-use Rattle.rows.proofs.Laws.Signed.{back}
+use mir.Syntax.{w64}
+use Rattle.blocks.proofs.Laws.Told.{told-one}
 use Rattle.blocks.proofs.edge.check_edge.Statement.{statement}
 use Rattle.blocks.proofs.edge.check_edge.Tie as tie
 
 returns : tie.Need-returns
 returns c =
-    let a = c .before .before .before .before .before .before .before in
+    let p = c .before .before .before .before in let t = p .before .before in let h = t .before in let a = h .before .before .args .a in
     rw (
       c .sides2 .ensures,
       c .before .sides .ensures,
       c .before .before .stride2 .ensures,
       c .before .before .before .stride .ensures,
-      c .before .before .before .before .places .ensures,
-      c .before .before .before .before .before .held2 .ensures,
-      c .before .before .before .before .before .before .held .ensures,
-      back (a .fits .x),
-      back (a .fits .y),
+      p .places .ensures,
+      h .held2 .ensures,
+      h .before .held .ensures,
+      told-one w64 (a .left) (t .struct-told .given .1 .1 .1 .1 .0 .1),
+      told-one w64 (a .top) (t .struct-told .given .1 .1 .1 .1 .1 .0 .1),
     )
 
 pub check-edge-spec : {M : Type 1} → statement M

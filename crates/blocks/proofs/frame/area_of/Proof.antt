@@ -9,15 +9,15 @@ use Rattle.blocks.proofs.frame.area_of.Statement.{statement}
 use Rattle.blocks.proofs.frame.area_of.Tie as tie
 
 left-is : (c : tie.After-window-start) →
-    let s = c .before .before .before .before .before in toZ w64 (ofZ w64 (c .window-start .result)) ≡ windowStart (s .args .kind) (s .args .x)
+    let s = c .before .before .before .before .before .before in toZ w64 (ofZ w64 (c .window-start .result)) ≡ windowStart (s .args .kind) (s .args .x)
 left-is c =
-    let s = c .before .before .before .before .before in
+    let s = c .before .before .before .before .before .before in
     backs w64 (rw (back (s .fits .x)) at (c .window-start .ensures)) (start-fits (s .args .kind) (s .args .x) (s .pre .2))
 
 top-is : (c : tie.After-window-start2) →
-    let s = c .before .before .before .before .before .before in toZ w64 (ofZ w64 (c .window-start2 .result)) ≡ windowStart (s .args .kind) (s .args .y)
+    let s = c .before .before .before .before .before .before .before in toZ w64 (ofZ w64 (c .window-start2 .result)) ≡ windowStart (s .args .kind) (s .args .y)
 top-is c =
-    let s = c .before .before .before .before .before .before in
+    let s = c .before .before .before .before .before .before .before in
     backs w64 (rw (back (s .fits .y)) at (c .window-start2 .ensures)) (start-fits (s .args .kind) (s .args .y) (s .pre .3))
 
 returns : tie.Need-returns
@@ -29,9 +29,9 @@ pub area-of-spec : {M : Type 1} → statement M
 area-of-spec =
     tie.close
     (tie.spec
-    (λ c κs. c .pre .0)  -- window-side-requires
-    (λ c κs. c .before .pre .1)  -- window-side-requires-2
+    (λ c κs. c .before .pre .0)  -- window-side-requires
+    (λ c κs. c .before .before .pre .1)  -- window-side-requires-2
     (λ c κs. search needs) (λ c κs. search needs)  -- plane-w, plane-h
-    (λ c κs. let s = c .before .before .before .before in rw (back (s .fits .x)) (s .pre .2))  -- window-start-requires
-    (λ c κs. let s = c .before .before .before .before .before in rw (back (s .fits .y)) (s .pre .3))  -- window-start-requires-2
+    (λ c κs. let s = c .before .before .before .before .before in rw (back (s .fits .x)) (s .pre .2))  -- window-start-requires
+    (λ c κs. let s = c .before .before .before .before .before .before in rw (back (s .fits .y)) (s .pre .3))  -- window-start-requires-2
     returns)

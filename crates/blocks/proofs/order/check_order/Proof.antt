@@ -9,20 +9,22 @@ use Rattle.blocks.proofs.order.check_order.Tie as tie
 
 -- what the first part answers
 shape : (c : tie.After-order-shape) → let a = c .before .args in
-    c .order-shape .result ≡ lowest (shapeTests (a .f) (a .plane-no) (a .plane-stride) (a .o) (a .dst-stride))
+    c .order-shape .result ≡ lowest (shapeTests (a .lent .frame) (a .lent .«plane_no») (a .lent .stride) (a .o) (a .dst-stride))
 shape c = c .order-shape .ensures
 
-none : (c : tie.Else1) → let a = c .before .before .args in lowest (shapeTests (a .f) (a .plane-no) (a .plane-stride) (a .o) (a .dst-stride)) ≡ 0
+none : (c : tie.Else1) → let a = c .before .before .args in lowest (shapeTests (a .lent .frame) (a .lent .«plane_no») (a .lent .stride) (a .o)
+    (a .dst-stride)) ≡ 0
 none c = sym (shape (c .before)) ∙ c .if1 .left
 
 -- and the second
 numbers : (c : tie.After-order-numbers) → let a = c .before .before .before .before .before .args in
-    c .order-numbers .result ≡ lowest (numberTests (a .deep) (a .named) (a .f) (a .plane-no) (a .o))
+    c .order-numbers .result ≡ lowest (numberTests (a .deep) (a .named) (a .lent .frame) (a .lent .«plane_no») (a .o))
 numbers c =
     let g = c .before .before .struct-told .given in
     rw (back (fit w64 (g .0 .1)), back (fit w64 (g .1 .0 .1))) at (c .order-numbers .ensures)
 
-no-number : (c : tie.Else2) → let a = c .before .before .before .before .before .before .args in lowest (numberTests (a .deep) (a .named) (a .f) (a .plane-no) (a .o)) ≡ 0
+no-number : (c : tie.Else2) → let a = c .before .before .before .before .before .before .args in lowest (numberTests (a .deep) (a .named)
+    (a .lent .frame) (a .lent .«plane_no») (a .o)) ≡ 0
 no-number c = sym (numbers (c .before)) ∙ c .if2 .left
 
 returns : tie.Need-returns

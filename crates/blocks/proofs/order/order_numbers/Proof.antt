@@ -5,7 +5,7 @@ use Rattle.blocks.proofs.order.order_numbers.Tie as tie
 
 returns : tie.Need-returns
 returns c =
-    let n = c .before in let m = n .before in let f = m .before in let p = f .before in let k = p .before in let s = k .before .before in
+    let n = c .before in let m = n .before in let f = m .before in let p = f .before in let k = p .before in let s = k .before .before .before in
     rw (
       c .needed4 .ensures,
       n .needed3 .ensures,

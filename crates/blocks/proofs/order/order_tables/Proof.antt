@@ -7,13 +7,8 @@ use Rattle.blocks.proofs.order.order_tables.Tie as tie
 returns : tie.Need-returns
 unfolding subpelOk wholeFilters
 returns c =
-    rw (
-      c .needed4 .ensures,
-      c .before .needed3 .ensures,
-      c .before .before .needed2 .ensures,
-      c .before .before .before .needed .ensures,
-      c .before .before .before .before .filters-ok .ensures,
-    )
+    let n = c .before .before .before .before .before .before in
+    rw (c .needed4 .ensures, c .before .needed3 .ensures, c .before .before .needed2 .ensures, n .needed .ensures, n .before .filters-ok .ensures)
 
 pub order-tables-spec : {M : Type 1} → statement M
 order-tables-spec =

@@ -19,7 +19,7 @@ returns c =
       d .held .ensures,
       p .plane-h .ensures,
       p .before .plane-w .ensures,
-      back (p .before .before .fits .row),
+      back (p .before .before .before .fits .row),
     ) refl
 
 pub check-row-spec : {M : Type 1} → statement M

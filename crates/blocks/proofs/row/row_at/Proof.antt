@@ -13,11 +13,11 @@ use Rattle.blocks.proofs.row.row_at.Tie as tie
 
 -- what the check answered is the number of the contract
 is : (c : tie.After-check-row) → let a = c .before .args in
-    c .check-row .result ≡ lowest (rowTests (a .f) (a .plane-no) (a .pl) (a .plane-stride) (a .row))
+    c .check-row .result ≡ lowest (rowTests (a .lent .frame) (a .lent .«plane_no») (a .pl) (a .lent .stride) (a .row))
 is c = rw (back (c .before .fits .row)) at (c .check-row .ensures)
 
-row-is : (c : tie.After-above64) → c .above64 .result ≡ up (c .before .before .before .args .row)
-row-is c = c .above64 .ensures ∙ ap up (back (c .before .before .before .fits .row))
+row-is : (c : tie.After-above64) → c .above64 .result ≡ up (c .before .before .before .before .args .row)
+row-is c = c .above64 .ensures ∙ ap up (back (c .before .before .before .before .fits .row))
 
 returns : tie.Need-returns
 unfolding rowAt
@@ -25,13 +25,13 @@ returns c = let t = c .before in no-part-of _ (is (t .before)) (t .if1 .taken) (
 
 mul-place : tie.Need-mul-place
 mul-place c =
-    let l = c .before in let a = l .before .before .args in
-    rw (row-is c) (omega (arith, row-there (a .f) (a .plane-no) (a .pl) (a .plane-stride) (a .row) (sym (is (l .before)) ∙ l .if1 .left)))
+    let l = c .before .before in let a = l .before .before .args in
+    rw (row-is c) (omega (arith, row-there (a .lent .frame) (a .lent .«plane_no») (a .pl) (a .lent .stride) (a .row) (sym (is (l .before)) ∙ l .if1 .left)))
 
 returns-2 : tie.Need-returns-2
 unfolding rowAt
 returns-2 c =
-    let l = c .before .before in
+    let l = c .before .before .before in
     rw (row-is (c .before), c .plane-w .ensures) (sym (done _ _ _ (sym (is (l .before)) ∙ l .if1 .left)))
 
 pub row-at-spec : {M : Type 1} → statement M

@@ -8,13 +8,14 @@ use Rattle.blocks.proofs.window.check_window.Tie as tie
 returns : tie.Need-returns
 returns c =
     let a = c .before .before .args in let e = c .before .window-sizes .ensures in
-    e ∙ window-stop (a .f) (a .plane-no) (a .pl) (a .plane-stride) (a .kind) (a .w) (a .h) (a .x) (a .y) (a .mode) (a .sl) (rw e at (c .if1 .taken))
+    e ∙ window-stop (a .lent .frame) (a .lent .«plane_no») (a .pl) (a .lent .stride) (a .kind) (a .w) (a .h) (a .x) (a .y) (a .mode) (a .sl) (rw e at
+    (c .if1 .taken))
 
 returns-2 : tie.Need-returns-2
 returns-2 c =
     let l = c .before .before in let s = l .before .before in let a = s .args in
     (rw (c .before .window-held .ensures, back (s .fits .x), back (s .fits .y)) at (c .window-numbers .ensures))
-    ∙ window-go (a .f) (a .plane-no) (a .pl) (a .plane-stride) (a .kind) (a .w) (a .h) (a .x) (a .y) (a .mode) (a .sl)
+    ∙ window-go (a .lent .frame) (a .lent .«plane_no») (a .pl) (a .lent .stride) (a .kind) (a .w) (a .h) (a .x) (a .y) (a .mode) (a .sl)
     (sym (l .before .window-sizes .ensures) ∙ l .if1 .left)
 
 pub check-window-spec : {M : Type 1} → statement M

@@ -9,7 +9,8 @@ use Rattle.blocks.proofs.window.find_window.Tie as tie
 
 -- what the check answered is the number of the contract
 is : (c : tie.After-check-window) → let a = c .before .args in
-    c .check-window .result ≡ lowest (windowTests (a .f) (a .plane-no) (a .pl) (a .plane-stride) (a .kind) (a .w) (a .h) (a .x) (a .y) (a .mode) (a .sl))
+    c .check-window .result ≡ lowest (windowTests (a .lent .frame) (a .lent .«plane_no») (a .pl) (a .lent .stride) (a .kind) (a .w) (a .h) (a .x)
+    (a .y) (a .mode) (a .sl))
 is c = let f = c .before .fits in rw (back (f .x), back (f .y)) at (c .check-window .ensures)
 
 returns : tie.Need-returns
@@ -17,14 +18,14 @@ unfolding windowOf
 returns c = let t = c .before in no-part-of _ (is (t .before)) (t .if1 .taken) (c .no-part .ensures)
 
 accepted : (c : tie.Else1) → let a = c .before .before .args in
-    Accepted (a .f) (a .plane-no) (a .pl) (a .plane-stride) (a .kind) (a .w) (a .h) (a .x) (a .y) (a .mode) (a .sl)
+    Accepted (a .lent .frame) (a .lent .«plane_no») (a .pl) (a .lent .stride) (a .kind) (a .w) (a .h) (a .x) (a .y) (a .mode) (a .sl)
 accepted c = record { is = sym (is (c .before)) ∙ c .if1 .left }
 
 area-of-requires : tie.Need-area-of-requires
 area-of-requires c κs = let f = c .before .before .fits in rw (back (f .x), back (f .y)) (accepted-small (accepted c))
 
 area-is : (c : tie.After-area-of) → let a = c .before .before .before .args in
-    c .area-of .result ≡ areaOf (a .f) (a .plane-no) (a .kind) (a .w) (a .h) (a .x) (a .y)
+    c .area-of .result ≡ areaOf (a .lent .frame) (a .lent .«plane_no») (a .kind) (a .w) (a .h) (a .x) (a .y)
 area-is c = let f = c .before .before .before .fits in rw (back (f .x), back (f .y)) at (c .area-of .ensures)
 
 locate-requires : tie.Need-locate-requires

@@ -17,15 +17,18 @@ abbrev entry : tie.After-check-order → tie.Start
 entry c = c .before .before .before
 
 none : (c : tie.Else1) → let a = entry (c .before) .args in
-    lowest (orderTests (a .deep) (a .named) (a .f) (a .plane-no) (length (a .plane .now)) (a .plane-stride) (a .o) (a .tl) (a .el) (a .wl)
+    lowest (orderTests (a .deep) (a .named) (a .lent .frame) (a .lent .«plane_no») (length (a .plane .now)) (a .lent .stride) (a .o) (a .t .subpel)
+    (a .t .ext) (a .t .warp)
     (length (a .scratch .now)) (a .dl) (a .dst-stride)) ≡ 0
 none c = sym (c .before .check-order .ensures) ∙ c .if1 .left
 
 accepted : (c : tie.Else1) → let a = entry (c .before) .args in let o = a .o in
-    Accepted (a .f) (a .plane-no) (length (a .plane .now)) (a .plane-stride) (kindNumber (o .kind)) (o .w) (o .h) (o .x) (o .y) 0 (length (a .scratch .now))
+    Accepted (a .lent .frame) (a .lent .«plane_no») (length (a .plane .now)) (a .lent .stride) (kindNumber (o .kind)) (o .w) (o .h) (o .x) (o .y) 0
+    (length (a .scratch .now))
 accepted c =
     let a = entry (c .before) .args in
-    order-accepted (a .deep) (a .named) (a .f) (a .plane-no) (a .plane .now) (a .plane-stride) (a .o) (a .tl) (a .el) (a .wl) (a .scratch .now) (a .dl) (a .dst-stride) (none c)
+    order-accepted (a .deep) (a .named) (a .lent .frame) (a .lent .«plane_no») (a .plane .now) (a .lent .stride) (a .o) (a .t .subpel) (a .t .ext)
+    (a .t .warp) (a .scratch .now) (a .dl) (a .dst-stride) (none c)
 
 area-of-requires : tie.Need-area-of-requires
 area-of-requires c κs =
@@ -33,7 +36,7 @@ area-of-requires c κs =
     rw (told-one w64 (o .x) (g .0 .1), told-one w64 (o .y) (g .1 .0 .1)) (accepted-small (accepted e))
 
 area-is : (c : tie.After-area-of) → let a = entry (c .before .before .before .before .before) .args in
-    c .area-of .result ≡ areaOf (a .f) (a .plane-no) (kindNumber (a .o .kind)) (a .o .w) (a .o .h) (a .o .x) (a .o .y)
+    c .area-of .result ≡ areaOf (a .lent .frame) (a .lent .«plane_no») (kindNumber (a .o .kind)) (a .o .w) (a .o .h) (a .o .x) (a .o .y)
 area-is c =
     let k = c .before .before .before in let o = entry (k .before .before) .args .o in let g = c .before .struct-told2 .given in
     rw (k .kind-number .ensures, told-one w64 (o .x) (g .0 .1), told-one w64 (o .y) (g .1 .0 .1)) at (c .area-of .ensures)

@@ -20,27 +20,35 @@ abbrev μ-loop : tie.MeasureT-loop
 abbrev entry : tie.Then1 Inv-loop μ-loop → tie.Start Inv-loop μ-loop
 entry c = c .before .before .before .before .before
 
+-- the turn, from where its row of dst is named
+abbrev turning : tie.After-struct-known2 Inv-loop μ-loop → tie.At-loop Inv-loop μ-loop
+turning c = c .before .before .before .before .before
+
 -- in a turn, row j is within dst and the row that is nearest within the plane
 row : (c : tie.After-nearest-row Inv-loop μ-loop) → let t = c .before .before in let s = entry t .args in
-    (t .before .before .loop .j * s .dst-stride + s .a .ww ≤ length (s .dst .now)) × (c .nearest-row .result * s .plane-stride + s .a .iw ≤ length (s .plane .now))
+    (t .before .before .loop .j * s .dst-stride + s .a .ww ≤ length (s .dst .now))
+    × (c .nearest-row .result * s .plane-stride + s .a .iw ≤ length (s .plane .now))
 row c = let t = c .before .before in turn (entry t .pre) (t .if1 .taken) (c .nearest-row .ensures .1)
 
 nearest-row-requires : tie.Need-nearest-row-requires Inv-loop μ-loop
 nearest-row-requires c κs =
-    let p = entry (c .before) .pre .area in
-    (rw (told-one w64 (entry (c .before) .args .a .top) (c .struct-told .given .1 .1 .1 .1 .1 .0 .1)) (p .top), omega (arith, p, c .before .if1 .taken), p .ih1, p .ih14)
+    let s = entry (c .before) in let p = s .pre .area in
+    let y = told-one w64 (s .args .a .top) (c .struct-told .given .1 .1 .1 .1 .1 .0 .1) in
+    (rw y (p .top), omega (arith, p, c .before .if1 .taken), p .ih1, p .ih14)
 
 edge-row-requires : tie.Need-edge-row-requires Inv-loop μ-loop
 edge-row-requires c κs =
     let l = c .before .before .before in let t = l .before .before in let p = entry t .pre in
     let n = filled-span 0 (t .before .before .loop .inv) (p .dst) (t .if1 .taken) in
-    (omega (arith, p .area), omega (arith, p .area), row l .1, omega (arith, n, p .area), rw (told-one w64 (entry t .args .a .left) (c .struct-told2 .given .1 .1 .1 .1 .0 .1)) (omega (arith, p .area .left)))
+    let x = told-one w64 (entry t .args .a .left) (c .struct-told2 .given .1 .1 .1 .1 .0 .1) in
+    (omega (arith, p .area), omega (arith, p .area), row l .1, omega (arith, n, p .area), rw x (omega (arith, p .area .left)))
 
 loop-again : tie.Need-loop-again Inv-loop μ-loop
 loop-again c =
     let g = c .before .before in let l = g .before .before .before .before in let t = l .before .before in let p = entry t .pre in
     let a = entry t .args .a in
-    let x = told-one w64 (a .left) (g .before .struct-told2 .given .1 .1 .1 .1 .0 .1) in let y = told-one w64 (a .top) (l .before .struct-told .given .1 .1 .1 .1 .1 .0 .1) in
+    let x = told-one w64 (a .left) (g .before .struct-told2 .given .1 .1 .1 .1 .0 .1) in
+    let y = told-one w64 (a .top) (l .before .struct-told .given .1 .1 .1 .1 .1 .0 .1) in
     filled-more 0 _ (t .before .before .loop .inv) (p .area .ww1) (p .dst) (t .if1 .taken)
     (row-is _ _ _ _ _ _ _ _ (rw y at (l .nearest-row .ensures .0)) (rw x at (g .edge-row .ensures)))
 
@@ -54,9 +62,9 @@ edge-rows-spec =
     (λ c. filled-none 0 _ _ _ _ _ (omega (arith, c .before .before .pre .dst)))  -- loop-holds
     (λ c. omega (arith, row-in (c .before .before .loop .j) (entry c .pre .dst) (c .if1 .taken)))  -- j * dst_stride
     nearest-row-requires
-    (λ c. omega (arith, row (c .before), c .before .before .before .before .before .loop .inv .len))  -- d + ww
-    (λ c. omega (arith, row (c .before), c .before .before .before .before .before .loop .inv .len))  -- words: 2 * d
-    (λ c. omega (arith, row (c .before), c .before .before .before .before .before .loop .inv .len)) (λ c. omega (arith, row (c .before), c .before .before .before .before .before .loop .inv .len))  -- dst[d..d + ww]
-    (λ c. omega (arith, row (c .before), c .before .before .before .before .before .loop .inv .len))
+    (λ c. omega (arith, row (c .before), turning c .loop .inv .len))  -- d + ww
+    (λ c. omega (arith, row (c .before), turning c .loop .inv .len))  -- words: 2 * d
+    (λ c. omega (arith, row (c .before), turning c .loop .inv .len)) (λ c. omega (arith, row (c .before), turning c .loop .inv .len))  -- dst[d..d + ww]
+    (λ c. omega (arith, row (c .before), turning c .loop .inv .len))
     (λ c. omega (arith, row (c .before .before))) edge-row-requires  -- edge-row
     (λ c. search needs) (λ c. search needs) loop-again (λ c. c .before .before .loop .inv .len) returns)  -- j += 1, and the loop

@@ -10,7 +10,7 @@ use Rattle.blocks.proofs.words.row.row_part.Statement.{statement}
 use Rattle.blocks.proofs.words.row.row_part.Tie as tie
 
 answer : (c : tie.After-row-at) → let a = c .before .before .args in
-    c .row-at .result ≡ rowAt (a .f) (a .plane-no) (length (a .plane .now)) (a .plane-stride) (a .row)
+    c .row-at .result ≡ rowAt (a .lent .frame) (a .lent .«plane_no») (length (a .plane .now)) (a .lent .stride) (a .row)
 answer c = rw (back (c .before .before .fits .row)) at (c .row-at .ensures)
 
 returns : tie.Need-returns

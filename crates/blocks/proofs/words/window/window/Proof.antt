@@ -15,7 +15,8 @@ entry c = c .before .before .before
 -- what the check answered is the number of the contract
 is : (c : tie.After-check-window) → let a = entry c .args in
     c .check-window .result
-    ≡ lowest (windowTests (a .f) (a .plane-no) (length (a .plane .now)) (a .plane-stride) (a .kind) (a .w) (a .h) (a .x) (a .y) (a .mode) (length (a .scratch .now)))
+    ≡ lowest (windowTests (a .lent .frame) (a .lent .«plane_no») (length (a .plane .now)) (a .lent .stride) (a .kind) (a .w) (a .h) (a .x) (a .y)
+    (a .mode) (length (a .scratch .now)))
 is c = let f = entry c .fits in rw (back (f .x), back (f .y)) at (c .check-window .ensures)
 
 returns : tie.Need-returns
@@ -25,14 +26,15 @@ returns c =
     (e, rw (c .no-part .ensures) (scratch-kept _ _ _ _ _ _ _ _ _ _ _ _ (t .if1 .taken)))
 
 accepted : (c : tie.Else1) → let a = entry (c .before) .args in
-    Accepted (a .f) (a .plane-no) (length (a .plane .now)) (a .plane-stride) (a .kind) (a .w) (a .h) (a .x) (a .y) (a .mode) (length (a .scratch .now))
+    Accepted (a .lent .frame) (a .lent .«plane_no») (length (a .plane .now)) (a .lent .stride) (a .kind) (a .w) (a .h) (a .x) (a .y) (a .mode) (length
+    (a .scratch .now))
 accepted c = record { is = sym (is (c .before)) ∙ c .if1 .left }
 
 area-of-requires : tie.Need-area-of-requires
 area-of-requires c κs = let f = entry (c .before) .fits in rw (back (f .x), back (f .y)) (accepted-small (accepted c))
 
 area-is : (c : tie.After-area-of) → let a = entry (c .before .before) .args in
-    c .area-of .result ≡ areaOf (a .f) (a .plane-no) (a .kind) (a .w) (a .h) (a .x) (a .y)
+    c .area-of .result ≡ areaOf (a .lent .frame) (a .lent .«plane_no») (a .kind) (a .w) (a .h) (a .x) (a .y)
 area-is c = let f = entry (c .before .before) .fits in rw (back (f .x), back (f .y)) at (c .area-of .ensures)
 
 returns-2 : tie.Need-returns-2

@@ -10,7 +10,8 @@ use Rattle.blocks.proofs.words.window.window_part.Tie as tie
 
 answer : (c : tie.After-find-window) → let a = c .before .before .before .args in
     c .find-window .result
-    ≡ windowOf (a .f) (a .plane-no) (length (a .plane .now)) (a .plane-stride) (a .kind) (a .w) (a .h) (a .x) (a .y) (a .mode) (length (a .scratch .now))
+    ≡ windowOf (a .lent .frame) (a .lent .«plane_no») (length (a .plane .now)) (a .lent .stride) (a .kind) (a .w) (a .h) (a .x) (a .y) (a .mode)
+    (length (a .scratch .now))
 answer c = let f = c .before .before .before .fits in rw (back (f .x), back (f .y)) at (c .find-window .ensures)
 
 returns : tie.Need-returns
