@@ -6,6 +6,7 @@ use std::panic::{self, AssertUnwindSafe};
 
 use archive::Linked;
 
+use crate::amount::Amount;
 use crate::answer::Answer;
 use crate::ask::{Answers, Original};
 use crate::calls::Call;
@@ -16,13 +17,6 @@ use crate::refuse::Refuse;
 use crate::rng::Rng;
 use crate::rules::Rules;
 use crate::tally::{Tally, print_heads};
-
-/// How many calls of each entry and depth, and under which seed.
-#[derive(Clone, Copy)]
-pub struct Amount {
-    pub calls: u64,
-    pub seed: u64,
-}
 
 /// The call of an entry at a depth with this index under a seed.
 pub fn nth_call<C: Call>(depth: Option<i32>, seed: u64, index: u64) -> C {

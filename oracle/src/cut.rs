@@ -3,12 +3,12 @@
 
 use archive::Linked;
 
+use crate::amount::Amount;
 use crate::answer::{Answer, Buffer, Px, Room};
 use crate::ask::order::fetch;
 use crate::ask::{Answers, Original};
 use crate::calls::order::{self, Order, OrderPrep, OrderPut};
 use crate::calls::window::{self, Area, Block, Lie, Wrong};
-use crate::compare::Amount;
 use crate::kernels::{self, Fetched};
 use crate::lend::Places;
 use crate::library::Library;

@@ -5,9 +5,10 @@ use std::io::{self, Write};
 
 use archive::Linked;
 
+use crate::amount::Amount;
 use crate::ask::Answers;
 use crate::calls::Call;
-use crate::compare::{Amount, nth_call};
+use crate::compare::nth_call;
 use crate::every_entry;
 use crate::library::Library;
 use crate::pages::{BeginsAfterPage, EndsAtPage};

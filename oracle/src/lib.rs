@@ -1,6 +1,7 @@
 //! The oracle: the original Rust and the library's C functions, beside document 01's refusals and arithmetic, written out
 //! once more.
 
+pub mod amount;
 pub mod answer;
 pub mod ask;
 pub mod calls;

@@ -5,7 +5,8 @@
 
 use std::process::ExitCode;
 
-use oracle::compare::{self, Amount};
+use oracle::amount::Amount;
+use oracle::compare;
 use oracle::{cut, differences, guard, record, worked};
 
 const USAGE: &str = "usage: oracle | oracle compare [N] [SEED] | oracle guard [N] [SEED] | oracle cut [N] [SEED] | \

@@ -19,6 +19,7 @@ mod scaled;
 use std::collections::BTreeMap;
 use std::fs;
 
+use crate::amount::Amount;
 use crate::answer::{Answer, Px, Room};
 use crate::ask::{Answers, Original};
 use crate::calls::Call;
@@ -30,7 +31,7 @@ use crate::calls::search::{SadNxn, SadRefineMv};
 use crate::calls::shear::{GetShearParams, ResolveDivisor32, SetAffineMv2d};
 use crate::calls::subpel::{self, Prep8tap, Put8tap};
 use crate::calls::warp::{self, WarpAffine, WarpAffineT};
-use crate::compare::{Amount, nth_call};
+use crate::compare::nth_call;
 use crate::every_entry;
 use crate::refuse::Refuse;
 use crate::rules::Rules;

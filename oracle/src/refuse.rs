@@ -3,7 +3,7 @@
 
 use crate::answer::Px;
 use crate::calls::bilinear::{self, PrepBilin, PutBilin};
-use crate::calls::combine::{Avg, Blend, Mask, Morph, Pair, WAvg, WMask};
+use crate::calls::combine::{self, Avg, Blend, Mask, Morph, Pair, WAvg, WMask};
 use crate::calls::copy::{Prep, Put};
 use crate::calls::edge::EmuEdge;
 use crate::calls::search::{SadNxn, SadRefineMv};
@@ -121,13 +121,6 @@ impl<P: Px> Refuse for Mask<P> {
     }
 }
 
-/// Row and column of the first mask value above 64, in reading order, for sides and a mask that passed their tests.
-pub fn first_above_64<P: Px>(call: &Blend<P>) -> Option<(usize, usize)> {
-    let block = &call.mask[..call.w * call.h];
-    let place = block.iter().position(|m| *m > 64)?;
-    Some((place / call.w, place % call.w))
-}
-
 impl<P: Px> Refuse for Blend<P> {
     fn number(&self) -> u32 {
         let Blend { w, h, .. } = *self;
@@ -136,7 +129,7 @@ impl<P: Px> Refuse for Blend<P> {
             2 if bad_stride(self.dst_stride, w),
             5 if short(&self.tmp, h, w, w) || short(&self.mask, h, w, w),
             6 if short(&self.dst, h, self.dst_stride, w),
-            7 if first_above_64(self).is_some(),
+            7 if combine::first_above_64(self).is_some(),
         }
     }
 }

@@ -1,9 +1,10 @@
 //! The comparison itself: it passes an answerer that is right, refusals too, and catches those that are wrong.
 
+use oracle::amount::Amount;
 use oracle::answer::{Answer, Buffer};
 use oracle::ask::{Answers, Original};
 use oracle::calls::Call;
-use oracle::compare::{Amount, expected, one_entry};
+use oracle::compare::{expected, one_entry};
 use oracle::every_entry;
 use oracle::refuse::Refuse;
 use oracle::rng::Rng;

@@ -1,10 +1,11 @@
 //! Blocks that are cut: the rectangles are as demand 3 has them, right orders pass, and wrong ones are caught.
 
+use oracle::amount::Amount;
 use oracle::answer::{Answer, Buffer, Px};
 use oracle::ask::Answers;
 use oracle::calls::order::{Order, OrderPrep, OrderPut};
 use oracle::calls::window::Lie;
-use oracle::compare::{Amount, expected};
+use oracle::compare::expected;
 use oracle::cut::{Cut, Orders, every_block, pieces};
 use oracle::rng::Rng;
 

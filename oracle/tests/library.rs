@@ -5,12 +5,13 @@ use std::marker::PhantomData;
 use std::slice;
 
 use archive::Linked;
+use oracle::amount::Amount;
 use oracle::answer::{Answer, Buffer, Room};
 use oracle::calls::combine::Blend;
 use oracle::calls::copy::Put;
 use oracle::calls::search::SadNxn;
 use oracle::calls::shear::{GetShearParams, Record, SetAffineMv2d};
-use oracle::compare::{Amount, expected, one_entry};
+use oracle::compare::{expected, one_entry};
 use oracle::every_entry;
 use oracle::lend::Places;
 use oracle::library::Library;

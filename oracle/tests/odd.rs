@@ -2,12 +2,13 @@
 //! alone are told apart by windows, rows and orders of every kind, and each answer is that of the whole plane.
 
 use archive::Linked;
+use oracle::amount::Amount;
 use oracle::answer::{Answer, Buffer, Px, Room};
 use oracle::ask::Answers;
 use oracle::calls::Call;
 use oracle::calls::order::{Motion, Order, OrderPrep, OrderPut};
 use oracle::calls::window::{Block, Reference, Row, Window};
-use oracle::compare::{Amount, expected, one_entry};
+use oracle::compare::{expected, one_entry};
 use oracle::lend::Places;
 use oracle::library::Library;
 use oracle::refuse::Refuse;

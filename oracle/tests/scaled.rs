@@ -3,6 +3,7 @@
 
 use std::panic::{AssertUnwindSafe, catch_unwind};
 
+use oracle::amount::Amount;
 use oracle::answer::{Answer, Px, Room};
 use oracle::ask::{Answers, Original};
 use oracle::calls::Call;
@@ -11,7 +12,7 @@ use oracle::calls::scaled::{
     EIGHT, Fetched, Filters, Prep8tapScaled, PrepBilinScaled, Put8tapScaled, PutBilinScaled, Source, TWO,
 };
 use oracle::calls::subpel::{self, Prep8tap, Put8tap};
-use oracle::compare::{Amount, expected, nth_call, one_entry};
+use oracle::compare::{expected, nth_call, one_entry};
 use oracle::refuse::Refuse;
 use oracle::rules::Rules;
 use oracle::tables::real_subpel;

@@ -3,7 +3,6 @@
 use super::{Call, with_depth};
 use crate::answer::{Answer, Buffer, Px, Room};
 use crate::limits::{self, Faults, need};
-use crate::refuse::first_above_64;
 use crate::rng::Rng;
 
 /// What avg, w_avg, mask and w_mask have in common: two intermediates, combined into a destination.
@@ -41,6 +40,13 @@ pub struct Blend<P> {
     pub w: usize,
     pub h: usize,
     pub mask: Room<u8>,
+}
+
+/// Row and column of the first mask value above 64, in reading order, for sides and a mask that passed their tests.
+pub fn first_above_64<P: Px>(call: &Blend<P>) -> Option<(usize, usize)> {
+    let block = &call.mask[..call.w * call.h];
+    let place = block.iter().position(|m| *m > 64)?;
+    Some((place / call.w, place % call.w))
 }
 
 #[derive(Clone, Debug)]
