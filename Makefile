@@ -56,8 +56,8 @@ DRAFT := $(if $(ARCHIVE),target/draft/libblocks.a)
 target/draft/libblocks.a: crates.txt tools/draft-archive tools/kept-module $(shell find crates -name '*.rt')
 	@tools/draft-archive blocks $@
 
-# The made half is held to the written one first, before anything is compiled from it. The verdict is the last line, so rt ci comes last; it proves
-# everything anew.
+# The made half is held to the written one first, before anything is compiled from it. The verdict is the last line, so rt ci comes last (tools/timed-ci runs
+# it, and prints what each crate and edit took); it proves everything anew.
 test: sets $(if $(shell command -v cargo),$(DRAFT))
 	@if command -v python3 >/dev/null; then tools/reading; fi
 	@if command -v cc >/dev/null; then cc -std=c99 -Wall -Wextra -pedantic -Werror -fsyntax-only include/hemavolups.h; fi
@@ -66,7 +66,7 @@ test: sets $(if $(shell command -v cargo),$(DRAFT))
 	@why=$$($(lacking)); if [ -n "$$why" ]; then echo "$$why"; else ($(call ORACLE,$(DRAFT)) run --offline) \
 	    && ($(call ORACLE,$(DRAFT)) test --offline --release -q) && ($(call ORACLE,$(DRAFT)) run --offline --release -- compare 300) \
 	    && ($(call ORACLE,$(DRAFT)) run --offline --release -- guard 100); fi
-	@rt ci
+	@tools/timed-ci
 
 compare: $(if $(shell $(lacking)),,$(ARCHIVE))
 	@why=$$($(lacking)); if [ -n "$$why" ]; then echo "$$why" >&2; exit 1; fi
