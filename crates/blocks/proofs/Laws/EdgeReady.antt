@@ -8,19 +8,18 @@ use borrow.Author.Tests.{leb-true}
 use lib.Dec.{leb, leb·suc-suc}
 use lib.IntN.{ℤ, pos, negsuc, natAbs, _+ℤ_, _-ℤ_}
 use lib.Signed.{leZ}
-use lib.ListN.{length, getD}
+use lib.ListN.{getD}
 use mir.Syntax.{w64}
 use mir.Val.{SFits, toZ, ofZ}
 use Rattle.rows.specs.Numbers.{clip, near}
-use Rattle.rows.specs.Places.{rowOf, fill}
+use Rattle.rows.specs.Places.{rowOf}
 use Rattle.rows.specs.Edge.{endless, edge}
 use Rattle.rows.proofs.Laws.Signed.{back, backn, fit-abs, abs-add, sub-parts, eq-of, clip-up}
-use Rattle.blocks.specs.Refuse.{need, lowest, orSame, sizeOk, strideOk, holds}
+use Rattle.blocks.specs.Refuse.{lowest}
 use Rattle.blocks.specs.Ready.{Fetch}
 use Rattle.blocks.specs.declared.frame.Area.{Area}
-use Rattle.blocks.specs.Edge.{placeOk, edgeTests, EdgeAnswer}
+use Rattle.blocks.specs.Edge.{placeOk, edgeTests}
 use Rattle.blocks.proofs.Laws.Refuse.{all-met, size-met}
-use Rattle.blocks.proofs.Laws.Answer.{unique-of}
 use Rattle.blocks.proofs.Laws.Ready.{rows-met}
 use Rattle.blocks.proofs.Laws.Rows.{row-in}
 
@@ -96,15 +95,3 @@ pub row-is : (plane : List ℕ) (ps iw ih : ℕ) (x y : ℤ) (j n : ℕ) {k : �
     → r ≡ rowOf n (λ i. getD plane (k * ps + clip (iw - 1) (x +ℤ pos i)) 0) → r ≡ rowOf n (λ i. edge plane ps iw ih x y i j)
 unfolding edge endless
 row-is plane ps iw ih x y j n e q = q ∙ ap (λ (m : ℕ). rowOf n (λ i. getD plane (m * ps + clip (iw - 1) (x +ℤ pos i)) 0)) e
-
--- ---- the answer
--- there is one
-edge-unique : (bw bh iw ih : ℕ) (x y : ℤ) (dst : List ℕ) (ds : ℕ) (plane : List ℕ) (ps : ℕ) (r r′ : ℕ) (d d′ : List ℕ)
-    → EdgeAnswer bw bh iw ih x y dst ds plane ps r d → EdgeAnswer bw bh iw ih x y dst ds plane ps r′ d′ → (r ≡ r′) × (d ≡ d′)
-edge-unique bw bh iw ih x y dst ds plane ps r r′ d d′ =
-    unique-of (lowest (edgeTests bw bh iw ih x y (length dst) ds (length plane) ps)) (λ n. orSame n (fill dst ds bw bh (edge plane ps iw ih x y)) dst)
-
--- a block of 8 x 8 far outside a plane of 4 x 3 is accepted
-edge-accepted : lowest (edgeTests 8 8 4 3 (negsuc 99) (pos 50) 64 8 12 4) ≡ 0
-unfolding need sizeOk strideOk placeOk holds
-edge-accepted = refl

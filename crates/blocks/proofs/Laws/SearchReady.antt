@@ -9,20 +9,19 @@ use borrow.Author.Tests.{lt-ltb, le-ltb, eqb-true, eqb-false, eq-eqb, ne-eqb}
 use lib.Dec.{T, ltb, eqb}
 use lib.IntN.{ℤ, pos, negsuc, natAbs, _+ℤ_, _-ℤ_}
 use lib.Signed.{nonNeg}
-use lib.ListN.{length, getD}
+use lib.ListN.{getD}
 use mir.Syntax.{w32, w64}
 use mir.Val.{SFits, Fits, toZ, ofZ}
 use Rattle.rows.specs.Numbers.{up, dn, px, apart, sum}
 use Rattle.rows.specs.Places.{pick, pixel}
 use Rattle.rows.specs.Search.{rowApart, sad, moved, sadAt, Offset, Best, none, best, better, visit, through, steps, search, answer, centre, refine}
 use Rattle.rows.proofs.Laws.Signed.{back, backn, fit-abs, add-parts, sub-parts, one-part, abs-parts, nonNeg-of}
-use Rattle.blocks.specs.Refuse.{need, lowest, orSame, sizeOk, strideOk, holds}
+use Rattle.blocks.specs.Refuse.{lowest, orSame}
 use Rattle.blocks.specs.Ready.{Block, Rows, Blocks, Wider}
 use Rattle.blocks.specs.declared.search.Best as code
-use Rattle.blocks.specs.Search.{bestOf, sadsTests, sadTests, refineTests, SadAnswer, RefineAnswer}
+use Rattle.blocks.specs.Search.{bestOf, sadsTests, refineTests, RefineAnswer}
 use Rattle.blocks.proofs.Laws.Refuse.{all-met, done}
 use Rattle.blocks.proofs.Laws.Ready.{block-met, rows-met}
-use Rattle.blocks.proofs.Laws.Answer.{unique-of}
 
 -- ---- what the rows rely on
 pub sads-ready : (m : ℕ) (deep : Bool) (l0 s0 l1 s1 w h : ℕ) → lowest (sadsTests m deep l0 s0 l1 s1 w h) ≡ 0
@@ -274,27 +273,3 @@ pub explicit-answer : (deep : Bool) (depth : ℕ) (p : List ℕ) (s : ℕ) (q : 
 unfolding orSame
 explicit-answer deep depth p s q s′ w h x y a e f =
     explicit-moves depth (pixel p s) (pixel q s′) w h (sym (a .1) ∙ ap₂ (λ (i j : ℤ). record { dx = i; dy = j }) e f)
-
--- ---- the answers
--- there is one
-sad-unique : (deep : Bool) (depth : ℕ) (p : List ℕ) (s : ℕ) (q : List ℕ) (s′ w h : ℕ) (r r′ : ℕ) (t t′ : ℤ)
-    → SadAnswer deep depth p s q s′ w h r t → SadAnswer deep depth p s q s′ w h r′ t′ → (r ≡ r′) × (t ≡ t′)
-sad-unique deep depth p s q s′ w h r r′ t t′ =
-    unique-of (lowest (sadTests deep (length p) s (length q) s′ w h)) (λ n. orSame n (pos (sad depth (pixel p s) (pixel q s′) w h)) (pos 0))
-
-refine-unique : (deep : Bool) (depth : ℕ) (p : List ℕ) (s : ℕ) (q : List ℕ) (s′ w h : ℕ) (isImplicit : Bool) (r r′ : ℕ) (x x′ y y′ : ℤ)
-    → RefineAnswer deep depth p s q s′ w h isImplicit r x y → RefineAnswer deep depth p s q s′ w h isImplicit r′ x′ y′
-    → (r ≡ r′) × (x ≡ x′) × (y ≡ y′)
-refine-unique deep depth p s q s′ w h isImplicit r r′ x x′ y y′ a b =
-    let o = refine depth isImplicit (pixel p s) (pixel q s′) w h in
-    let e = unique-of (lowest (refineTests deep (length p) s (length q) s′ w h)) (λ n. orSame n o centre) a b in
-    (e .0, ap (λ (o : Offset). o .dx) (e .1), ap (λ (o : Offset). o .dy) (e .1))
-
--- a block of 8 x 8 in buffers that hold just that, and just the 16 x 16 around it, is accepted
-sad-accepted : lowest (sadTests true 64 8 64 8 8 8) ≡ 0
-unfolding need sizeOk strideOk holds
-sad-accepted = refl
-
-refine-accepted : lowest (refineTests true 256 16 256 16 8 8) ≡ 0
-unfolding need sizeOk strideOk holds
-refine-accepted = refl
