@@ -49,7 +49,7 @@ need true n rest = rest
 need false n rest = n
 
 -- "The lowest number that applies is given. 0 is done." The first test that isn't met gives it, since an entry's tests stand in the order of their
--- numbers (proved of each: Laws/InOrder)
+-- numbers (proved of each: Laws/Calls/InOrder)
 abbrev pub lowest : List Test → ℕ
 lowest [] = 0
 lowest (t ∷ ts) = need (t .meets) (numberOf (t .reason)) (lowest ts)

@@ -88,7 +88,7 @@ axisOf subpel ext Off = whole
 axisOf subpel ext (Ext n) = by (filter ext n)
 axisOf subpel ext (Subpel n) = by (filter subpel n)
 
--- the filter that the numbers choose; as an axis it is `axis` (Laws/SubpelChoice)
+-- the filter that the numbers choose; as an axis it is `axis` (Laws/Subpel/Choice)
 unfoldable pub filterOf : (filterType : ℤ) (fraction side : ℕ) → Filter
 filterOf filterType zero side = Off
 filterOf (negsuc t) (suc f) side = Ext f

@@ -20,7 +20,7 @@ use Rattle.blocks.specs.declared.window.Part.{Part}
 -- ---- the frame
 
 -- "a chroma plane's side is the luma side divided by two, rounded up, where its flag is set; a call names luma (0) or chroma (1)" (as E3 amends it: so
--- an odd picture's last column has its chroma, Laws/OddPictures)
+-- an odd picture's last column has its chroma, Laws/Window/OddPictures)
 unfoldable pub planeSide : (planeNo : ℕ) (flag : Bool) (luma : ℕ) → ℕ
 planeSide planeNo flag luma = pick (eqb planeNo 1 && flag) ((luma + 1) / 2) luma
 
@@ -31,7 +31,7 @@ abbrev pub planeH : Frame → ℕ → ℕ
 planeH f planeNo = planeSide planeNo (f .«ss_ver») (f .«luma_h»)
 
 -- "Luma sides 1 to 16,384"; "a side of 0 of the named plane is number 1", which since E3 is no reason of its own: only a luma side of 0 has a half of 0
--- (chroma-never-empty in Laws/OddPictures)
+-- (chroma-never-empty in Laws/Window/OddPictures)
 unfoldable pub frameSizesOk : Frame → ℕ → Bool
 frameSizesOk f planeNo = (sizeOk 16384 (f .«luma_w») && sizeOk 16384 (f .«luma_h»)) && (leb 1 (planeW f planeNo) && leb 1 (planeH f planeNo))
 

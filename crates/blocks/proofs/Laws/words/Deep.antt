@@ -10,7 +10,7 @@ use lib.IntN.{ℤ}
 use Rattle.rows.specs.Numbers.{up}
 use Rattle.rows.specs.Depth.{High, bitsOf, biasOf, maxOf}
 use Rattle.rows.specs.words.Pixel.{BitsOk, BiasOk, MaxOk}
-use Rattle.rows.proofs.Laws.Depth.{high}
+use Rattle.rows.proofs.Laws.Numbers.Depth.{high}
 use Rattle.blocks.specs.words.Depth.{depthOk}
 use Rattle.blocks.specs.Ready.{Deep}
 

@@ -1,4 +1,4 @@
-use Rattle.rows.proofs.Laws.Signed.{back}
+use Rattle.rows.proofs.Laws.Numbers.Signed.{back}
 use Rattle.blocks.specs.Subpel.{sixteenthOk}
 use Rattle.blocks.proofs.bilinear.sixteenth_ok.Statement.{statement}
 use Rattle.blocks.proofs.bilinear.sixteenth_ok.Tie as tie

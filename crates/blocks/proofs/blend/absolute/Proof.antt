@@ -6,7 +6,7 @@ use lib.IntN.{ℤ, pos, negsuc, _-ℤ_}
 use lib.Signed.{mag, ltZ}
 use mir.Syntax.{w32}
 use mir.Val.{SFits, toZ, ofZ}
-use Rattle.rows.proofs.Laws.Signed.{signed, rd, back, backs, fit, flip, below}
+use Rattle.rows.proofs.Laws.Numbers.Signed.{signed, rd, back, backs, fit, flip, below}
 use Rattle.blocks.proofs.blend.absolute.Statement.{statement}
 use Rattle.blocks.proofs.blend.absolute.Tie as tie
 

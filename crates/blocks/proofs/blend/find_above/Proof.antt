@@ -5,8 +5,8 @@ use mathlib.Core.Path.{_≡_, refl}
 use lib.ListN.{length}
 use borrow.Author.Needs.{needs}
 use Rattle.rows.specs.Combine.{AtMost}
-use Rattle.blocks.proofs.Laws.Rows.{row-in}
-use Rattle.blocks.proofs.Laws.Above.{at-most-more, spot-found, spot-none}
+use Rattle.blocks.proofs.Laws.Loops.Rows.{row-in}
+use Rattle.blocks.proofs.Laws.Blend.Above.{at-most-more, spot-found, spot-none}
 use Rattle.blocks.proofs.blend.find_above.Statement.{statement}
 use Rattle.blocks.proofs.blend.find_above.Tie as tie
 

@@ -2,8 +2,8 @@ use native.Mathlib.Omega.{arith}
 use Prim.Native.Nat.{_*_, _≤_}
 use lib.ListN.{length}
 use borrow.Author.Needs.{needs}
-use Rattle.blocks.proofs.Laws.Gapless.{gapless-all}
-use Rattle.blocks.proofs.Laws.Above.{at-most-wider, spot-none}
+use Rattle.blocks.proofs.Laws.Loops.Gapless.{gapless-all}
+use Rattle.blocks.proofs.Laws.Blend.Above.{at-most-wider, spot-none}
 use Rattle.blocks.proofs.blend.first_above.Statement.{statement}
 use Rattle.blocks.proofs.blend.first_above.Tie as tie
 

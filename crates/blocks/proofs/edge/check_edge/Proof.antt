@@ -1,6 +1,6 @@
 use borrow.Author.Needs.{needs}
 use mir.Syntax.{w64}
-use Rattle.blocks.proofs.Laws.Told.{told-one}
+use Rattle.blocks.proofs.Laws.Calls.Told.{told-one}
 use Rattle.blocks.proofs.edge.check_edge.Statement.{statement}
 use Rattle.blocks.proofs.edge.check_edge.Tie as tie
 

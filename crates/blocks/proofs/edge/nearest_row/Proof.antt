@@ -5,8 +5,8 @@ use native.Mathlib.Omega.{arith}
 use lib.IntN.{pos, _+ℤ_}
 use mir.Syntax.{w64}
 use Rattle.rows.specs.Numbers.{clip}
-use Rattle.rows.proofs.Laws.Signed.{fit}
-use Rattle.blocks.proofs.Laws.EdgeReady.{Below, below, clip-below}
+use Rattle.rows.proofs.Laws.Numbers.Signed.{fit}
+use Rattle.blocks.proofs.Laws.Edge.Ready.{Below, below, clip-below}
 use Rattle.blocks.proofs.edge.nearest_row.Statement.{statement}
 use Rattle.blocks.proofs.edge.nearest_row.Tie as tie
 

@@ -1,6 +1,6 @@
-use Rattle.rows.proofs.Laws.Signed.{back}
+use Rattle.rows.proofs.Laws.Numbers.Signed.{back}
 use Rattle.blocks.specs.Edge.{placeOk}
-use Rattle.blocks.proofs.Laws.EdgeReady.{near-both}
+use Rattle.blocks.proofs.Laws.Edge.Ready.{near-both}
 use Rattle.blocks.proofs.edge.place_ok.Statement.{statement}
 use Rattle.blocks.proofs.edge.place_ok.Tie as tie
 

@@ -3,9 +3,9 @@ use native.Mathlib.Omega.{arith}
 use borrow.Author.Needs.{needs}
 use mir.Syntax.{w32}
 use Rattle.blocks.specs.Refuse.{lowest}
-use Rattle.blocks.proofs.Laws.Refuse.{later, sooner}
-use Rattle.blocks.proofs.Laws.Told.{told-back}
-use Rattle.blocks.proofs.Laws.SubpelReady.{shapeTests, shape-met}
+use Rattle.blocks.proofs.Laws.Calls.Refuse.{later, sooner}
+use Rattle.blocks.proofs.Laws.Calls.Told.{told-back}
+use Rattle.blocks.proofs.Laws.Subpel.Ready.{shapeTests, shape-met}
 use Rattle.blocks.proofs.filters.check_8tap.Statement.{statement}
 use Rattle.blocks.proofs.filters.check_8tap.Tie as tie
 

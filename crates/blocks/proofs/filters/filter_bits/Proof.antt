@@ -1,5 +1,5 @@
-use Rattle.rows.proofs.Laws.Signed.{signed, rd}
-use Rattle.blocks.proofs.Laws.SubpelChoice.{bits-below, bits-above}
+use Rattle.rows.proofs.Laws.Numbers.Signed.{signed, rd}
+use Rattle.blocks.proofs.Laws.Subpel.Choice.{bits-below, bits-above}
 use Rattle.blocks.proofs.filters.filter_bits.Statement.{statement}
 use Rattle.blocks.proofs.filters.filter_bits.Tie as tie
 

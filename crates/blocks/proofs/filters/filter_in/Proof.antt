@@ -1,6 +1,6 @@
 use borrow.Author.Needs.{needs}
 use native.Mathlib.Omega.{arith}
-use Rattle.rows.proofs.Laws.Signed.{back, rd}
+use Rattle.rows.proofs.Laws.Numbers.Signed.{back, rd}
 use Rattle.blocks.specs.Subpel.{filterIn}
 use Rattle.blocks.proofs.filters.filter_in.Statement.{statement}
 use Rattle.blocks.proofs.filters.filter_in.Tie as tie

@@ -1,4 +1,4 @@
-use Rattle.rows.proofs.Laws.Signed.{back}
+use Rattle.rows.proofs.Laws.Numbers.Signed.{back}
 use Rattle.blocks.specs.Subpel.{sixteenthOk, fractionOk}
 use Rattle.blocks.proofs.filters.fraction_ok.Statement.{statement}
 use Rattle.blocks.proofs.filters.fraction_ok.Tie as tie

@@ -4,10 +4,10 @@ use Prim.Native.Nat.{ℕ, _+_, _-_, _*_, _%_, _<_}
 use borrow.Author.Needs.{needs}
 use Rattle.rows.specs.Numbers.{up, dn}
 use Rattle.rows.specs.Subpel.{family}
-use Rattle.rows.proofs.Laws.Signed.{signed, rd}
+use Rattle.rows.proofs.Laws.Numbers.Signed.{signed, rd}
 use Rattle.blocks.specs.Subpel.{filterOf}
 use Rattle.blocks.specs.declared.filters.Filter.the-variants.{Subpel}
-use Rattle.blocks.proofs.Laws.SubpelChoice.{filter-off, filter-ext, filter-sub, family-low, family-high}
+use Rattle.blocks.proofs.Laws.Subpel.Choice.{filter-off, filter-ext, filter-sub, family-low, family-high}
 use Rattle.blocks.proofs.filters.get_filter.Statement.{statement}
 use Rattle.blocks.proofs.filters.get_filter.Tie as tie
 

@@ -1,4 +1,4 @@
-use Rattle.rows.proofs.Laws.Signed.{signed, rd}
+use Rattle.rows.proofs.Laws.Numbers.Signed.{signed, rd}
 use Rattle.blocks.proofs.filters.on_axis.Statement.{statement}
 use Rattle.blocks.proofs.filters.on_axis.Tie as tie
 

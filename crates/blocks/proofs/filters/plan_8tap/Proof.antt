@@ -9,8 +9,8 @@ use Rattle.rows.specs.Numbers.{up, half}
 use Rattle.rows.specs.Subpel.{axis, filterBits}
 use Rattle.blocks.specs.Subpel.{on, axisOf, filterOf, tapsOf}
 use Rattle.blocks.specs.declared.filters.Filter.{Filter}
-use Rattle.blocks.proofs.Laws.SubpelChoice.{axis-of, bits-fit, plan-none, plan-down, plan-across, plan-both}
-use Rattle.blocks.proofs.Laws.Told.{told-back}
+use Rattle.blocks.proofs.Laws.Subpel.Choice.{axis-of, bits-fit, plan-none, plan-down, plan-across, plan-both}
+use Rattle.blocks.proofs.Laws.Calls.Told.{told-back}
 use Rattle.blocks.proofs.filters.plan_8tap.Statement.{statement}
 use Rattle.blocks.proofs.filters.plan_8tap.Tie as tie
 

@@ -2,7 +2,7 @@ use borrow.Author.Needs.{needs}
 use mir.Syntax.{w32}
 use Rattle.blocks.specs.Subpel.{subpelOk}
 use Rattle.blocks.specs.Refuse.{wholeFilters}
-use Rattle.blocks.proofs.Laws.Told.{told-back}
+use Rattle.blocks.proofs.Laws.Calls.Told.{told-back}
 use Rattle.blocks.proofs.filters.tables.Statement.{statement}
 use Rattle.blocks.proofs.filters.tables.Tie as tie
 

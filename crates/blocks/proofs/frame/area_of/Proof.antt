@@ -2,9 +2,9 @@ use mathlib.Core.Path.{_≡_, refl}
 use borrow.Author.Needs.{needs}
 use mir.Syntax.{w64}
 use mir.Val.{toZ, ofZ}
-use Rattle.rows.proofs.Laws.Signed.{back, backs}
+use Rattle.rows.proofs.Laws.Numbers.Signed.{back, backs}
 use Rattle.blocks.specs.Window.{windowStart}
-use Rattle.blocks.proofs.Laws.WindowReady.{start-fits}
+use Rattle.blocks.proofs.Laws.Window.Ready.{start-fits}
 use Rattle.blocks.proofs.frame.area_of.Statement.{statement}
 use Rattle.blocks.proofs.frame.area_of.Tie as tie
 

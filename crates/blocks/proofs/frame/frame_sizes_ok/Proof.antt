@@ -1,6 +1,6 @@
 use mathlib.Core.Path.{sym}
 use borrow.Author.Needs.{needs}
-use Rattle.blocks.proofs.Laws.OddPictures.{chroma-never-empty}
+use Rattle.blocks.proofs.Laws.Window.OddPictures.{chroma-never-empty}
 use Rattle.blocks.proofs.frame.frame_sizes_ok.Statement.{statement}
 use Rattle.blocks.proofs.frame.frame_sizes_ok.Tie as tie
 

@@ -1,7 +1,7 @@
 use mathlib.Core.Path.{refl}
 use native.Mathlib.Omega.{arith}
 use borrow.Author.Needs.{needs}
-use Rattle.blocks.proofs.Laws.WindowReady.{margins}
+use Rattle.blocks.proofs.Laws.Window.Ready.{margins}
 use Rattle.blocks.proofs.frame.window_side.Statement.{statement}
 use Rattle.blocks.proofs.frame.window_side.Tie as tie
 

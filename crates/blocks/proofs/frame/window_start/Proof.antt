@@ -4,9 +4,9 @@ use borrow.Author.Needs.{needs}
 use lib.IntN.{_-ℤ_}
 use mir.Syntax.{w64}
 use mir.Val.{SFits, toZ, ofZ}
-use Rattle.rows.proofs.Laws.Signed.{back, backn, fit, fit-abs}
+use Rattle.rows.proofs.Laws.Numbers.Signed.{back, backn, fit, fit-abs}
 use Rattle.blocks.specs.Window.{before, windowStart}
-use Rattle.blocks.proofs.Laws.WindowReady.{margins, start-near}
+use Rattle.blocks.proofs.Laws.Window.Ready.{margins, start-near}
 use Rattle.blocks.proofs.frame.window_start.Statement.{statement}
 use Rattle.blocks.proofs.frame.window_start.Tie as tie
 

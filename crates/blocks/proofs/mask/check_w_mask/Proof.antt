@@ -1,5 +1,5 @@
 use borrow.Author.Needs.{needs}
-use Rattle.rows.proofs.Laws.Signed.{back}
+use Rattle.rows.proofs.Laws.Numbers.Signed.{back}
 use Rattle.blocks.proofs.mask.check_w_mask.Statement.{statement}
 use Rattle.blocks.proofs.mask.check_w_mask.Tie as tie
 

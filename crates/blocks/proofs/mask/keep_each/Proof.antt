@@ -2,8 +2,8 @@ use native.Mathlib.Omega.{arith}
 use Prim.Native.Nat.{_+_, _-_, _*_, _≤_}
 use lib.ListN.{length}
 use borrow.Author.Needs.{needs}
-use Rattle.blocks.proofs.Laws.Rows.{Filled, filled-none, Turn, turn, row-in, block-loop}
-use Rattle.blocks.proofs.Laws.Weighed.{weigh}
+use Rattle.blocks.proofs.Laws.Loops.Rows.{Filled, filled-none, Turn, turn, row-in, block-loop}
+use Rattle.blocks.proofs.Laws.Mask.Weighed.{weigh}
 use Rattle.blocks.proofs.mask.keep_each.Statement.{statement}
 use Rattle.blocks.proofs.mask.keep_each.Tie as tie
 

@@ -3,7 +3,7 @@ use mathlib.Core.Bool.{true}
 use native.Mathlib.Omega.{arith}
 use borrow.Author.Needs.{needs}
 use Rattle.rows.specs.Mask.{maskAt}
-use Rattle.blocks.proofs.Laws.MaskReady.{flags-met}
+use Rattle.blocks.proofs.Laws.Mask.Ready.{flags-met}
 use Rattle.blocks.proofs.mask.keep_mask.Statement.{statement}
 use Rattle.blocks.proofs.mask.keep_mask.Tie as tie
 

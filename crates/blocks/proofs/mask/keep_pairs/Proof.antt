@@ -6,8 +6,8 @@ use borrow.Author.Needs.{needs}
 use mathlib.Core.List.{_++_}
 use mathlib.Core.Path.{_≡_, refl, sym}
 use Rattle.rows.specs.Mask.{maskAt}
-use Rattle.blocks.proofs.Laws.Rows.{Filled, filled-none, filled-more, filled-all, Turn, turn, row-in}
-use Rattle.blocks.proofs.Laws.Weighed.{weigh, Front, front, front-span, pairs}
+use Rattle.blocks.proofs.Laws.Loops.Rows.{Filled, filled-none, filled-more, filled-all, Turn, turn, row-in}
+use Rattle.blocks.proofs.Laws.Mask.Weighed.{weigh, Front, front, front-span, pairs}
 use Rattle.blocks.proofs.mask.keep_pairs.Statement.{statement}
 use Rattle.blocks.proofs.mask.keep_pairs.Tie as tie
 

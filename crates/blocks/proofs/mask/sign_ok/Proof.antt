@@ -1,4 +1,4 @@
-use Rattle.rows.proofs.Laws.Signed.{back}
+use Rattle.rows.proofs.Laws.Numbers.Signed.{back}
 use Rattle.blocks.specs.Mask.{signOk}
 use Rattle.blocks.proofs.mask.sign_ok.Statement.{statement}
 use Rattle.blocks.proofs.mask.sign_ok.Tie as tie

@@ -1,9 +1,9 @@
 use mathlib.Core.Path.{_≡_, sym, _∙_}
 use mir.Syntax.{w64}
 use borrow.Author.Needs.{needs}
-use Rattle.rows.proofs.Laws.Signed.{back, fit}
+use Rattle.rows.proofs.Laws.Numbers.Signed.{back, fit}
 use Rattle.blocks.specs.Refuse.{lowest}
-use Rattle.blocks.proofs.Laws.OrderReady.{shapeTests, numberTests, shape-small, numbers-motion, shape-stop, numbers-stop, order-go}
+use Rattle.blocks.proofs.Laws.Order.Ready.{shapeTests, numberTests, shape-small, numbers-motion, shape-stop, numbers-stop, order-go}
 use Rattle.blocks.proofs.order.check_order.Statement.{statement}
 use Rattle.blocks.proofs.order.check_order.Tie as tie
 

@@ -1,8 +1,8 @@
 use borrow.Author.Needs.{needs}
 use mathlib.Core.Path.{refl}
 use Rattle.blocks.specs.Order.{filtersOk}
-use Rattle.blocks.proofs.Laws.KindsReady.{subpel-passed}
-use Rattle.blocks.proofs.Laws.OrderReady.{warp-near}
+use Rattle.blocks.proofs.Laws.Order.Kinds.{subpel-passed}
+use Rattle.blocks.proofs.Laws.Order.Ready.{warp-near}
 use Rattle.blocks.proofs.order.filters_ok.Statement.{statement}
 use Rattle.blocks.proofs.order.filters_ok.Tie as tie
 

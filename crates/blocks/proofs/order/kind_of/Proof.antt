@@ -1,6 +1,6 @@
 use mathlib.Core.Path.{refl}
 use borrow.Author.Tests.{ne-eqb}
-use Rattle.rows.proofs.Laws.Signed.{back}
+use Rattle.rows.proofs.Laws.Numbers.Signed.{back}
 use Rattle.blocks.specs.Order.{kindOf}
 use Rattle.blocks.proofs.order.kind_of.Statement.{statement}
 use Rattle.blocks.proofs.order.kind_of.Tie as tie

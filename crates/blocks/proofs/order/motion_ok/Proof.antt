@@ -2,7 +2,7 @@ use borrow.Author.Needs.{needs}
 use mathlib.Core.Path.{refl}
 use Rattle.blocks.specs.Order.{motionOk}
 use Rattle.blocks.specs.Warp.{warpPlaceOk}
-use Rattle.blocks.proofs.Laws.KindsReady.{subpel-passed, bilin-passed, warp-passed}
+use Rattle.blocks.proofs.Laws.Order.Kinds.{subpel-passed, bilin-passed, warp-passed}
 use Rattle.blocks.proofs.order.motion_ok.Statement.{statement}
 use Rattle.blocks.proofs.order.motion_ok.Tie as tie
 

@@ -5,9 +5,9 @@ use native.Mathlib.Omega.{arith}
 use lib.Dec.{ltb}
 use borrow.Author.Needs.{needs}
 use borrow.Author.Tests.{le-leb, lt-leb, lt-ltb, le-ltb}
-use Rattle.rows.proofs.Laws.Places.{by-lt}
+use Rattle.rows.proofs.Laws.Blocks.Places.{by-lt}
 use Rattle.blocks.specs.Refuse.{reads}
-use Rattle.blocks.proofs.Laws.Refuse.{reads-past}
+use Rattle.blocks.proofs.Laws.Calls.Refuse.{reads-past}
 use Rattle.blocks.proofs.refuse.reads_around.Statement.{statement}
 use Rattle.blocks.proofs.refuse.reads_around.Tie as tie
 

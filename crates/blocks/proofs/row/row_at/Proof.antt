@@ -2,12 +2,12 @@ use borrow.Author.Needs.{needs}
 use mathlib.Core.Path.{_≡_, sym, ap, _∙_}
 use native.Mathlib.Omega.{arith}
 use Rattle.rows.specs.Numbers.{up}
-use Rattle.rows.proofs.Laws.Signed.{back}
+use Rattle.rows.proofs.Laws.Numbers.Signed.{back}
 use Rattle.blocks.specs.Refuse.{lowest}
 use Rattle.blocks.specs.Window.{rowTests, rowAt}
-use Rattle.blocks.proofs.Laws.Refuse.{done}
-use Rattle.blocks.proofs.Laws.WindowReady.{no-part-of}
-use Rattle.blocks.proofs.Laws.WindowRows.{row-there}
+use Rattle.blocks.proofs.Laws.Calls.Refuse.{done}
+use Rattle.blocks.proofs.Laws.Window.Ready.{no-part-of}
+use Rattle.blocks.proofs.Laws.Window.Rows.{row-there}
 use Rattle.blocks.proofs.row.row_at.Statement.{statement}
 use Rattle.blocks.proofs.row.row_at.Tie as tie
 

@@ -3,8 +3,8 @@ use mathlib.Core.Path.{ap, _∙_}
 use Prim.Native.Nat.{ℕ}
 use lib.Dec.{ltb}
 use Rattle.rows.specs.Numbers.{up}
-use Rattle.rows.proofs.Laws.Signed.{back}
-use Rattle.blocks.proofs.Laws.WindowRows.{below-none, from-none}
+use Rattle.rows.proofs.Laws.Numbers.Signed.{back}
+use Rattle.blocks.proofs.Laws.Window.Rows.{below-none, from-none}
 use Rattle.blocks.proofs.row.row_ok.Statement.{statement}
 use Rattle.blocks.proofs.row.row_ok.Tie as tie
 

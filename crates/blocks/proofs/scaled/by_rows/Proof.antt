@@ -3,8 +3,8 @@ use native.Mathlib.Omega.{arith}
 use lib.IntN.{pos}
 use mir.Syntax.{w8}
 use Rattle.rows.specs.Numbers.{at}
-use Rattle.rows.proofs.Laws.Signed.{back, fit}
-use Rattle.rows.proofs.Laws.Row.{Upto, upto-none, upto-more, upto-all}
+use Rattle.rows.proofs.Laws.Numbers.Signed.{back, fit}
+use Rattle.rows.proofs.Laws.Blocks.Row.{Upto, upto-none, upto-more, upto-all}
 use Rattle.blocks.proofs.scaled.by_rows.Statement.{statement}
 use Rattle.blocks.proofs.scaled.by_rows.Tie as tie
 

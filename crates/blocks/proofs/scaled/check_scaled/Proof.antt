@@ -3,8 +3,8 @@ use mathlib.Core.List.{List}
 use native.Mathlib.Omega.{arith}
 use borrow.Author.Needs.{needs}
 use Rattle.blocks.specs.Refuse.{Test, lowest}
-use Rattle.blocks.proofs.Laws.Refuse.{later, sooner}
-use Rattle.blocks.proofs.Laws.ScaledReady.{numberTests, numbers-met}
+use Rattle.blocks.proofs.Laws.Calls.Refuse.{later, sooner}
+use Rattle.blocks.proofs.Laws.Scaled.Ready.{numberTests, numbers-met}
 use Rattle.blocks.proofs.scaled.check_scaled.Statement.{statement}
 use Rattle.blocks.proofs.scaled.check_scaled.Tie as tie
 

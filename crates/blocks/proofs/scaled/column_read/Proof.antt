@@ -5,7 +5,7 @@ use native.Mathlib.Omega.{arith}
 use borrow.Author.Needs.{needs}
 use Rattle.rows.specs.Scaled.{sixteenth}
 use Rattle.blocks.specs.Scaled.{columnRead}
-use Rattle.blocks.proofs.Laws.ScaledReady.{column-past}
+use Rattle.blocks.proofs.Laws.Scaled.Ready.{column-past}
 use Rattle.blocks.proofs.scaled.column_read.Statement.{statement}
 use Rattle.blocks.proofs.scaled.column_read.Tie as tie
 

@@ -3,8 +3,8 @@ use mathlib.Core.Path.{_≡_, ap, _∙_}
 use native.Mathlib.Omega.{arith}
 use Prim.Native.Nat.{ℕ, _+_, _%_}
 use Rattle.rows.specs.Numbers.{up}
-use Rattle.rows.proofs.Laws.Signed.{rd}
-use Rattle.blocks.proofs.Laws.SubpelChoice.{family-low, family-high}
+use Rattle.rows.proofs.Laws.Numbers.Signed.{rd}
+use Rattle.blocks.proofs.Laws.Subpel.Choice.{family-low, family-high}
 use Rattle.blocks.proofs.scaled.family_of.Statement.{statement}
 use Rattle.blocks.proofs.scaled.family_of.Tie as tie
 

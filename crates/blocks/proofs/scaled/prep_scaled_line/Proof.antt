@@ -5,8 +5,8 @@ use Prim.Native.Nat.{_<_}
 use lib.Dec.{T}
 use lib.ListN.{getD}
 use mir.Syntax.{w16}
-use Rattle.rows.proofs.Laws.Signed.{backn}
-use Rattle.blocks.proofs.Laws.ScaledLines.{turned-lt, prep-line-whole, prep-line-by}
+use Rattle.rows.proofs.Laws.Numbers.Signed.{backn}
+use Rattle.blocks.proofs.Laws.Scaled.Lines.{turned-lt, prep-line-whole, prep-line-by}
 use Rattle.blocks.proofs.scaled.prep_scaled_line.Statement.{statement}
 use Rattle.blocks.proofs.scaled.prep_scaled_line.Tie as tie
 

@@ -9,9 +9,9 @@ use mir.Syntax.{w32}
 use Rattle.rows.specs.Numbers.{up}
 use Rattle.rows.specs.Scaled.{position}
 use Rattle.blocks.specs.Scaled.{each, columnRead, readsScaled}
-use Rattle.blocks.proofs.Laws.Told.{told-back}
-use Rattle.blocks.proofs.Laws.ScaledPlaces.{last-column}
-use Rattle.blocks.proofs.Laws.ScaledReady.{each-none, column-past}
+use Rattle.blocks.proofs.Laws.Calls.Told.{told-back}
+use Rattle.blocks.proofs.Laws.Scaled.Places.{last-column}
+use Rattle.blocks.proofs.Laws.Scaled.Ready.{each-none, column-past}
 use Rattle.blocks.proofs.scaled.reads_scaled.Statement.{statement}
 use Rattle.blocks.proofs.scaled.reads_scaled.Tie as tie
 

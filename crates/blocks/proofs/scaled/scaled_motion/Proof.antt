@@ -1,6 +1,6 @@
 use borrow.Author.Needs.{needs}
 use mir.Syntax.{w32}
-use Rattle.blocks.proofs.Laws.Told.{told-back}
+use Rattle.blocks.proofs.Laws.Calls.Told.{told-back}
 use Rattle.blocks.proofs.scaled.scaled_motion.Statement.{statement}
 use Rattle.blocks.proofs.scaled.scaled_motion.Tie as tie
 

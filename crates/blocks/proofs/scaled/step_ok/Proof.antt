@@ -1,4 +1,4 @@
-use Rattle.rows.proofs.Laws.Signed.{back}
+use Rattle.rows.proofs.Laws.Numbers.Signed.{back}
 use Rattle.blocks.specs.Scaled.{stepOk}
 use Rattle.blocks.proofs.scaled.step_ok.Statement.{statement}
 use Rattle.blocks.proofs.scaled.step_ok.Tie as tie

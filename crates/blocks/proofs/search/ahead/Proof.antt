@@ -1,5 +1,5 @@
-use Rattle.rows.proofs.Laws.Signed.{back}
-use Rattle.blocks.proofs.Laws.SearchReady.{ahead-start, start-cast, start-is}
+use Rattle.rows.proofs.Laws.Numbers.Signed.{back}
+use Rattle.blocks.proofs.Laws.Search.Ready.{ahead-start, start-cast, start-is}
 use Rattle.blocks.proofs.search.ahead.Statement.{statement}
 use Rattle.blocks.proofs.search.ahead.Tie as tie
 

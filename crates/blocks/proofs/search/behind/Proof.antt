@@ -1,5 +1,5 @@
-use Rattle.rows.proofs.Laws.Signed.{back}
-use Rattle.blocks.proofs.Laws.SearchReady.{behind-start, start-cast, start-is}
+use Rattle.rows.proofs.Laws.Numbers.Signed.{back}
+use Rattle.blocks.proofs.Laws.Search.Ready.{behind-start, start-cast, start-is}
 use Rattle.blocks.proofs.search.behind.Statement.{statement}
 use Rattle.blocks.proofs.search.behind.Tie as tie
 

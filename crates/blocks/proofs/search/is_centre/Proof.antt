@@ -1,4 +1,4 @@
-use Rattle.blocks.proofs.Laws.SearchReady.{centre-is}
+use Rattle.blocks.proofs.Laws.Search.Ready.{centre-is}
 use Rattle.blocks.proofs.search.is_centre.Statement.{statement}
 use Rattle.blocks.proofs.search.is_centre.Tie as tie
 

@@ -1,5 +1,5 @@
 use native.Mathlib.Omega.{arith}
-use Rattle.blocks.proofs.Laws.SearchReady.{enough-fits}
+use Rattle.blocks.proofs.Laws.Search.Ready.{enough-fits}
 use borrow.Author.Needs.{needs}
 use Rattle.blocks.proofs.search.is_enough.Statement.{statement}
 use Rattle.blocks.proofs.search.is_enough.Tie as tie

@@ -1,6 +1,6 @@
 use mir.Syntax.{w32}
-use Rattle.rows.proofs.Laws.Signed.{back, fit}
-use Rattle.blocks.proofs.Laws.SearchReady.{answer-found, answer-none}
+use Rattle.rows.proofs.Laws.Numbers.Signed.{back, fit}
+use Rattle.blocks.proofs.Laws.Search.Ready.{answer-found, answer-none}
 use Rattle.blocks.proofs.search.offset_of.Statement.{statement}
 use Rattle.blocks.proofs.search.offset_of.Tie as tie
 

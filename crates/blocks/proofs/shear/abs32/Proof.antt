@@ -2,7 +2,7 @@ use borrow.Author.Needs.{needs}
 use mathlib.Core.Path.{_≡_}
 use native.Mathlib.Omega.{arith}
 use lib.IntN.{natAbs}
-use Rattle.rows.proofs.Laws.Signed.{back32, abs-mag, reading}
+use Rattle.rows.proofs.Laws.Numbers.Signed.{back32, abs-mag, reading}
 use Rattle.blocks.proofs.shear.abs32.Statement.{statement}
 use Rattle.blocks.proofs.shear.abs32.Tie as tie
 

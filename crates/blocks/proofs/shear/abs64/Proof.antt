@@ -6,7 +6,7 @@ use lib.Signed.{mag, ltZ}
 use mathlib.Core.Bool.{true}
 use mir.Syntax.{w64}
 use mir.Val.{SFits}
-use Rattle.rows.proofs.Laws.Signed.{back, flip, below, above, abs-mag}
+use Rattle.rows.proofs.Laws.Numbers.Signed.{back, flip, below, above, abs-mag}
 use Rattle.blocks.proofs.shear.abs64.Statement.{statement}
 use Rattle.blocks.proofs.shear.abs64.Tie as tie
 

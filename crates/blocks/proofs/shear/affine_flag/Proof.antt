@@ -6,7 +6,7 @@ use lib.IntN.{natAbs, pos}
 use mir.Syntax.{w32}
 use mir.Val.{toZ, boolByte}
 use Rattle.rows.specs.Shear.{affineOf}
-use Rattle.rows.proofs.Laws.Signed.{back16, abs-mag, reading}
+use Rattle.rows.proofs.Laws.Numbers.Signed.{back16, abs-mag, reading}
 use Rattle.blocks.proofs.shear.affine_flag.Statement.{statement}
 use Rattle.blocks.proofs.shear.affine_flag.Tie as tie
 

@@ -1,6 +1,6 @@
 use borrow.Author.Needs.{needs}
 use mir.Syntax.{w32}
-use Rattle.rows.proofs.Laws.Signed.{back, fit}
+use Rattle.rows.proofs.Laws.Numbers.Signed.{back, fit}
 use Rattle.blocks.specs.Shear.{recipOk}
 use Rattle.blocks.proofs.shear.check_shear.Statement.{statement}
 use Rattle.blocks.proofs.shear.check_shear.Tie as tie

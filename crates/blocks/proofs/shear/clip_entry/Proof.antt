@@ -1,6 +1,6 @@
 use mir.Syntax.{w32}
 use mir.Val.{SFits}
-use Rattle.rows.proofs.Laws.Signed.{signed, rd, back}
+use Rattle.rows.proofs.Laws.Numbers.Signed.{signed, rd, back}
 use Rattle.blocks.proofs.shear.clip_entry.Statement.{statement}
 use Rattle.blocks.proofs.shear.clip_entry.Tie as tie
 

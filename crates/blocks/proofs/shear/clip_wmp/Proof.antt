@@ -1,6 +1,6 @@
 use mir.Syntax.{w16}
 use mir.Val.{SFits}
-use Rattle.rows.proofs.Laws.Signed.{signed, rd, back}
+use Rattle.rows.proofs.Laws.Numbers.Signed.{signed, rd, back}
 use Rattle.blocks.proofs.shear.clip_wmp.Statement.{statement}
 use Rattle.blocks.proofs.shear.clip_wmp.Tie as tie
 

@@ -1,7 +1,7 @@
 use borrow.Author.Needs.{needs}
 use mathlib.Core.Path.{sym, _∙_}
-use Rattle.blocks.proofs.Laws.Refuse.{done, refused}
-use Rattle.blocks.proofs.Laws.Shears.{shear-ready}
+use Rattle.blocks.proofs.Laws.Calls.Refuse.{done, refused}
+use Rattle.blocks.proofs.Laws.Warp.Shears.{shear-ready}
 use Rattle.blocks.proofs.shear.get_shear_params.Statement.{statement}
 use Rattle.blocks.proofs.shear.get_shear_params.Tie as tie
 

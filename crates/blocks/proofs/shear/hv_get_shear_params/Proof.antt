@@ -1,7 +1,7 @@
 use borrow.Author.Needs.{needs}
 use mir.Syntax.{w32}
 use mir.Val.{SFits}
-use Rattle.rows.proofs.Laws.Signed.{back, fit}
+use Rattle.rows.proofs.Laws.Numbers.Signed.{back, fit}
 use Rattle.blocks.proofs.shear.hv_get_shear_params.Statement.{statement}
 use Rattle.blocks.proofs.shear.hv_get_shear_params.Tie as tie
 

@@ -1,5 +1,5 @@
 use borrow.Author.Needs.{needs}
-use Rattle.rows.proofs.Laws.Signed.{back}
+use Rattle.rows.proofs.Laws.Numbers.Signed.{back}
 use Rattle.blocks.proofs.shear.hv_set_affine_mv2d.Statement.{statement}
 use Rattle.blocks.proofs.shear.hv_set_affine_mv2d.Tie as tie
 

@@ -5,8 +5,8 @@ use lib.Signed.{shrZ}
 use mir.Syntax.{w16, w32, w64}
 use mir.Val.{SFits}
 use Rattle.rows.specs.Shear.{isNeg, Q}
-use Rattle.rows.proofs.Laws.Signed.{mag-add, mag-sub, mag-shr, back, back32, reading}
-use Rattle.blocks.proofs.Laws.Shears.{neg-bit, neg-small, down-fits}
+use Rattle.rows.proofs.Laws.Numbers.Signed.{mag-add, mag-sub, mag-shr, back, back32, reading}
+use Rattle.blocks.proofs.Laws.Warp.Shears.{neg-bit, neg-small, down-fits}
 use Rattle.blocks.proofs.shear.iclip_wmp.Statement.{statement}
 use Rattle.blocks.proofs.shear.iclip_wmp.Tie as tie
 

@@ -5,7 +5,7 @@ use lib.IntN.{ℤ, pos, natAbs, _+ℤ_, _-ℤ_, _*ℤ_}
 use mir.Syntax.{w32}
 use mir.Val.{SFits}
 use Rattle.rows.specs.Shear.{middle}
-use Rattle.rows.proofs.Laws.Signed.{back, fit-abs, abs-add, abs-sub, abs-times}
+use Rattle.rows.proofs.Laws.Numbers.Signed.{back, fit-abs, abs-add, abs-sub, abs-times}
 use Rattle.blocks.proofs.shear.middle_of.Statement.{statement}
 use Rattle.blocks.proofs.shear.middle_of.Tie as tie
 

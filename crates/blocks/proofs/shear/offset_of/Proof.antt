@@ -6,7 +6,7 @@ use lib.IntN.{ℤ, pos, natAbs, _-ℤ_, _*ℤ_}
 use mir.Syntax.{w32, w64}
 use mir.Val.{SFits}
 use Rattle.rows.specs.Shear.{offsetOf}
-use Rattle.rows.proofs.Laws.Signed.{back, back32, fit-abs, abs-sub, abs-mul-le, reading}
+use Rattle.rows.proofs.Laws.Numbers.Signed.{back, back32, fit-abs, abs-sub, abs-mul-le, reading}
 use Rattle.blocks.proofs.shear.offset_of.Statement.{statement}
 use Rattle.blocks.proofs.shear.offset_of.Tie as tie
 

@@ -3,7 +3,7 @@ use borrow.Author.Needs.{needs}
 use mathlib.Core.Path.{_≡_, sym}
 use native.Mathlib.Omega.{arith}
 use Prim.Native.Nat.{_*_, _-_, _^_, _%_}
-use Rattle.blocks.proofs.Laws.Shears.{Top, top-is, one-shl, few, place-few, place-many, Many, many}
+use Rattle.blocks.proofs.Laws.Warp.Shears.{Top, top-is, one-shl, few, place-few, place-many, Many, many}
 use Rattle.blocks.proofs.shear.recip_place.Statement.{statement}
 use Rattle.blocks.proofs.shear.recip_place.Tie as tie
 

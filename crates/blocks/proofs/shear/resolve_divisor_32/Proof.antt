@@ -7,11 +7,11 @@ use lib.ListN.{length, getD}
 use mir.Syntax.{w32}
 use mir.Val.{SFits}
 use Rattle.rows.specs.Shear.{recipOf, shiftOf}
-use Rattle.rows.proofs.Laws.Signed.{backn, back}
+use Rattle.rows.proofs.Laws.Numbers.Signed.{backn, back}
 use Rattle.blocks.specs.Ready.{Divides}
 use Rattle.blocks.specs.Shear.{divisorOf}
-use Rattle.blocks.proofs.Laws.Refuse.{done, refused}
-use Rattle.blocks.proofs.Laws.Shears.{div-ok, top-is, Top}
+use Rattle.blocks.proofs.Laws.Calls.Refuse.{done, refused}
+use Rattle.blocks.proofs.Laws.Warp.Shears.{div-ok, top-is, Top}
 use Rattle.blocks.proofs.shear.resolve_divisor_32.Statement.{statement}
 use Rattle.blocks.proofs.shear.resolve_divisor_32.Tie as tie
 

@@ -9,8 +9,8 @@ use mir.Syntax.{w32, w64}
 use mir.Val.{SFits, toZ}
 use Rattle.rows.specs.Numbers.{low32}
 use Rattle.rows.specs.Shear.{g}
-use Rattle.rows.proofs.Laws.Signed.{back, backn, fit}
-use Rattle.blocks.proofs.Laws.Shears.{one-shl64}
+use Rattle.rows.proofs.Laws.Numbers.Signed.{back, backn, fit}
+use Rattle.blocks.proofs.Laws.Warp.Shears.{one-shl64}
 use Rattle.blocks.proofs.shear.round_shift.Statement.{statement}
 use Rattle.blocks.proofs.shear.round_shift.Tie as tie
 

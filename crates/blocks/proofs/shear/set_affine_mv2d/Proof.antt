@@ -1,11 +1,11 @@
 use borrow.Author.Needs.{needs}
 use mathlib.Core.Path.{_≡_, refl, sym, ap, _∙_}
-use Rattle.rows.proofs.Laws.Signed.{back}
+use Rattle.rows.proofs.Laws.Numbers.Signed.{back}
 use Rattle.blocks.specs.Refuse.{lowest}
 use Rattle.blocks.specs.Shear.{affineMvTests}
 use Rattle.blocks.specs.declared.shear.WarpParams.{WarpParams}
-use Rattle.blocks.proofs.Laws.Refuse.{done, refused}
-use Rattle.blocks.proofs.Laws.Shears.{affine-mv-ready}
+use Rattle.blocks.proofs.Laws.Calls.Refuse.{done, refused}
+use Rattle.blocks.proofs.Laws.Warp.Shears.{affine-mv-ready}
 use Rattle.blocks.proofs.shear.set_affine_mv2d.Statement.{statement}
 use Rattle.blocks.proofs.shear.set_affine_mv2d.Tie as tie
 

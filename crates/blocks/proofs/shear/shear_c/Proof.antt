@@ -6,7 +6,7 @@ use lib.IntN.{ℤ, pos, natAbs, _*ℤ_}
 use mir.Syntax.{w16, w32, w64}
 use mir.Val.{SFits}
 use Rattle.rows.specs.Shear.{shearC}
-use Rattle.rows.proofs.Laws.Signed.{back, back32, abs-mul-le, mag-abs, reading}
+use Rattle.rows.proofs.Laws.Numbers.Signed.{back, back32, abs-mul-le, mag-abs, reading}
 use Rattle.blocks.proofs.shear.shear_c.Statement.{statement}
 use Rattle.blocks.proofs.shear.shear_c.Tie as tie
 

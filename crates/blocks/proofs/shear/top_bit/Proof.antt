@@ -1,5 +1,5 @@
 use native.Mathlib.Omega.{arith}
-use Rattle.blocks.proofs.Laws.Shears.{top-is}
+use Rattle.blocks.proofs.Laws.Warp.Shears.{top-is}
 use Rattle.blocks.proofs.shear.top_bit.Statement.{statement}
 use Rattle.blocks.proofs.shear.top_bit.Tie as tie
 

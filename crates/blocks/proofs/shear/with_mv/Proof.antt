@@ -7,7 +7,7 @@ use mir.Syntax.{w32}
 use mir.Val.{SFits, toZ, ofZ}
 use Rattle.rows.specs.Numbers.{at}
 use Rattle.rows.specs.Shear.{middle, entry0, entry1}
-use Rattle.rows.proofs.Laws.Signed.{back, fit, fit-abs, abs-sub}
+use Rattle.rows.proofs.Laws.Numbers.Signed.{back, fit, fit-abs, abs-sub}
 use Rattle.blocks.specs.Shear.{withMv}
 use Rattle.blocks.proofs.shear.with_mv.Statement.{statement}
 use Rattle.blocks.proofs.shear.with_mv.Tie as tie

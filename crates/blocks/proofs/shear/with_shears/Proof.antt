@@ -7,10 +7,10 @@ use mir.Syntax.{w16, w32}
 use mir.Val.{SFits, toZ, ofZ}
 use Rattle.rows.specs.Numbers.{at}
 use Rattle.rows.specs.Shear.{recipPlace, recipOf, shiftOf, shearA, shearB}
-use Rattle.rows.proofs.Laws.Signed.{back, backs, fit, fit-abs}
+use Rattle.rows.proofs.Laws.Numbers.Signed.{back, backs, fit, fit-abs}
 use Rattle.blocks.specs.Shear.{divisorOf, sheared}
 use Rattle.blocks.specs.declared.shear.Divisor.{Divisor}
-use Rattle.blocks.proofs.Laws.Shears.{top-is, div-y, div-shift}
+use Rattle.blocks.proofs.Laws.Warp.Shears.{top-is, div-y, div-shift}
 use Rattle.blocks.proofs.shear.with_shears.Statement.{statement}
 use Rattle.blocks.proofs.shear.with_shears.Tie as tie
 

@@ -6,9 +6,9 @@ use mir.Syntax.{w16}
 use borrow.Author.Needs.{needs}
 use Rattle.rows.specs.Numbers.{at, half, low16, minus16}
 use Rattle.rows.specs.Subpel.{tapped}
-use Rattle.rows.proofs.Laws.Signed.{backn}
-use Rattle.blocks.proofs.Laws.Rows.{Filled, filled-none, filled-more, block-loop}
-use Rattle.blocks.proofs.Laws.SubpelLines.{Turn, turn}
+use Rattle.rows.proofs.Laws.Numbers.Signed.{backn}
+use Rattle.blocks.proofs.Laws.Loops.Rows.{Filled, filled-none, filled-more, block-loop}
+use Rattle.blocks.proofs.Laws.Subpel.Lines.{Turn, turn}
 use Rattle.blocks.proofs.subpel.mid_prep_lines.Statement.{statement}
 use Rattle.blocks.proofs.subpel.mid_prep_lines.Tie as tie
 

@@ -1,5 +1,5 @@
 use borrow.Author.Needs.{needs}
-use Rattle.rows.proofs.Laws.Signed.{back}
+use Rattle.rows.proofs.Laws.Numbers.Signed.{back}
 use Rattle.blocks.specs.Warp.{warpPlaceOk}
 use Rattle.blocks.proofs.warp.check_numbers.Statement.{statement}
 use Rattle.blocks.proofs.warp.check_numbers.Tie as tie

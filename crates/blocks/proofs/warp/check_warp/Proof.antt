@@ -2,8 +2,8 @@ use borrow.Author.Needs.{needs}
 use mathlib.Core.Path.{_≡_, sym, _∙_}
 use mir.Syntax.{w32}
 use Rattle.blocks.specs.Refuse.{lowest}
-use Rattle.blocks.proofs.Laws.WarpReady.{numberTests, numbers-ready, warp-stop, warp-go}
-use Rattle.blocks.proofs.Laws.Told.{told-back}
+use Rattle.blocks.proofs.Laws.Warp.Ready.{numberTests, numbers-ready, warp-stop, warp-go}
+use Rattle.blocks.proofs.Laws.Calls.Told.{told-back}
 use Rattle.blocks.proofs.warp.check_warp.Statement.{statement}
 use Rattle.blocks.proofs.warp.check_warp.Tie as tie
 

@@ -4,8 +4,8 @@ use native.Mathlib.Omega.{arith}
 use mir.Syntax.{w32}
 use mir.Val.{SFits}
 use Rattle.rows.specs.Warp.{filterNo, isThere}
-use Rattle.rows.proofs.Laws.Signed.{back, above, abs-mag}
-use Rattle.blocks.proofs.Laws.Corners.{in-below, in-above}
+use Rattle.rows.proofs.Laws.Numbers.Signed.{back, above, abs-mag}
+use Rattle.blocks.proofs.Laws.Warp.Corners.{in-below, in-above}
 use Rattle.blocks.proofs.warp.corner_there.Statement.{statement}
 use Rattle.blocks.proofs.warp.corner_there.Tie as tie
 

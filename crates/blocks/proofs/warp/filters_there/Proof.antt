@@ -1,7 +1,7 @@
 use borrow.Author.Needs.{needs}
 use mir.Syntax.{w16, w32}
 use Rattle.rows.specs.Warp.{allThere}
-use Rattle.blocks.proofs.Laws.Told.{told-back}
+use Rattle.blocks.proofs.Laws.Calls.Told.{told-back}
 use Rattle.blocks.proofs.warp.filters_there.Statement.{statement}
 use Rattle.blocks.proofs.warp.filters_there.Tie as tie
 

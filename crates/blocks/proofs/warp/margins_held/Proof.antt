@@ -4,9 +4,9 @@ use native.Mathlib.Omega.{arith}
 use Prim.Native.Nat.{_+_, _*_, _-_}
 use borrow.Author.Tests.{le-ltb}
 use lib.Dec.{leb}
-use Rattle.rows.proofs.Laws.Fill.{and-false}
+use Rattle.rows.proofs.Laws.Blocks.Fill.{and-false}
 use Rattle.blocks.specs.Refuse.{reads}
-use Rattle.blocks.proofs.Laws.Corners.{same-lt}
+use Rattle.blocks.proofs.Laws.Warp.Corners.{same-lt}
 use Rattle.blocks.proofs.warp.margins_held.Statement.{statement}
 use Rattle.blocks.proofs.warp.margins_held.Tie as tie
 

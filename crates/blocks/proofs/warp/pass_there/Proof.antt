@@ -1,7 +1,7 @@
 use borrow.Author.Needs.{needs}
 use native.Mathlib.Omega.{arith}
-use Rattle.rows.proofs.Laws.Signed.{back}
-use Rattle.blocks.proofs.Laws.Corners.{four-all}
+use Rattle.rows.proofs.Laws.Numbers.Signed.{back}
+use Rattle.blocks.proofs.Laws.Warp.Corners.{four-all}
 use Rattle.blocks.proofs.warp.pass_there.Statement.{statement}
 use Rattle.blocks.proofs.warp.pass_there.Tie as tie
 

@@ -7,9 +7,9 @@ use mir.Val.{toZ}
 use borrow.Author.Needs.{needs}
 use Rattle.rows.specs.Numbers.{at, low16, minus16}
 use Rattle.rows.specs.Warp.{warped}
-use Rattle.rows.proofs.Laws.Signed.{back, backn}
-use Rattle.blocks.proofs.Laws.Rows.{Filled, filled-none, filled-all, filled-span, row-in, block-loop}
-use Rattle.blocks.proofs.Laws.Passes.{filled-row}
+use Rattle.rows.proofs.Laws.Numbers.Signed.{back, backn}
+use Rattle.blocks.proofs.Laws.Loops.Rows.{Filled, filled-none, filled-all, filled-span, row-in, block-loop}
+use Rattle.blocks.proofs.Laws.Warp.Passes.{filled-row}
 use Rattle.blocks.proofs.warp.warp_prep_rows.Statement.{statement}
 use Rattle.blocks.proofs.warp.warp_prep_rows.Tie as tie
 

@@ -1,4 +1,4 @@
-use Rattle.rows.proofs.Laws.Signed.{signed, rd}
+use Rattle.rows.proofs.Laws.Numbers.Signed.{signed, rd}
 use Rattle.blocks.proofs.window.above64.Statement.{statement}
 use Rattle.blocks.proofs.window.above64.Tie as tie
 

@@ -1,7 +1,7 @@
 use borrow.Author.Needs.{needs}
 use mathlib.Core.Path.{sym, _∙_}
-use Rattle.rows.proofs.Laws.Signed.{back}
-use Rattle.blocks.proofs.Laws.WindowReady.{sizes-small, window-stop, window-go}
+use Rattle.rows.proofs.Laws.Numbers.Signed.{back}
+use Rattle.blocks.proofs.Laws.Window.Ready.{sizes-small, window-stop, window-go}
 use Rattle.blocks.proofs.window.check_window.Statement.{statement}
 use Rattle.blocks.proofs.window.check_window.Tie as tie
 

@@ -3,7 +3,7 @@ use native.Mathlib.Omega.{arith}
 use lib.IntN.{pos, _+ℤ_}
 use mir.Syntax.{w64}
 use mir.Val.{SFits, toZ, ofZ}
-use Rattle.rows.proofs.Laws.Signed.{back, backn, fit, fit-abs, abs-add}
+use Rattle.rows.proofs.Laws.Numbers.Signed.{back, backn, fit, fit-abs, abs-add}
 use Rattle.blocks.specs.Window.{inside}
 use Rattle.blocks.proofs.window.inside.Statement.{statement}
 use Rattle.blocks.proofs.window.inside.Tie as tie

@@ -1,7 +1,7 @@
 use mathlib.Core.Path.{refl}
 use mir.Syntax.{w64}
 use Rattle.blocks.specs.Window.{isPlanes}
-use Rattle.blocks.proofs.Laws.Told.{told-one}
+use Rattle.blocks.proofs.Laws.Calls.Told.{told-one}
 use Rattle.blocks.proofs.window.is_planes.Statement.{statement}
 use Rattle.blocks.proofs.window.is_planes.Tie as tie
 

@@ -5,10 +5,10 @@ use native.Mathlib.Omega.{arith}
 use borrow.Author.Needs.{needs}
 use mir.Syntax.{w64}
 use Rattle.rows.specs.Numbers.{up}
-use Rattle.rows.proofs.Laws.Signed.{abs-parts}
+use Rattle.rows.proofs.Laws.Numbers.Signed.{abs-parts}
 use Rattle.blocks.specs.Window.{windowAt}
-use Rattle.blocks.proofs.Laws.Told.{told-one}
-use Rattle.blocks.proofs.Laws.WindowReady.{own-at}
+use Rattle.blocks.proofs.Laws.Calls.Told.{told-one}
+use Rattle.blocks.proofs.Laws.Window.Ready.{own-at}
 use Rattle.blocks.proofs.window.locate.Statement.{statement}
 use Rattle.blocks.proofs.window.locate.Tie as tie
 

@@ -4,8 +4,8 @@ use Prim.Native.Nat.{_+_}
 use mir.Syntax.{w16}
 use mir.Val.{SFits}
 use Rattle.rows.specs.Numbers.{at}
-use Rattle.rows.proofs.Laws.Signed.{back, fit, wide16}
-use Rattle.rows.proofs.Laws.Bilinear.{mid-widened, between-is}
+use Rattle.rows.proofs.Laws.Numbers.Signed.{back, fit, wide16}
+use Rattle.rows.proofs.Laws.Filters.Bilinear.{mid-widened, between-is}
 use Rattle.rows.proofs.bilinear.between_i16.Statement.{statement}
 use Rattle.rows.proofs.bilinear.between_i16.Tie as tie
 

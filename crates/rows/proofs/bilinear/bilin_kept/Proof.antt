@@ -3,7 +3,7 @@ use native.Mathlib.Omega.{arith}
 use mir.Syntax.{w16}
 use mir.Val.{SFits}
 use Rattle.rows.specs.Bilinear.{R}
-use Rattle.rows.proofs.Laws.Signed.{back, rd}
+use Rattle.rows.proofs.Laws.Numbers.Signed.{back, rd}
 use Rattle.rows.proofs.bilinear.bilin_kept.Statement.{statement}
 use Rattle.rows.proofs.bilinear.bilin_kept.Tie as tie
 

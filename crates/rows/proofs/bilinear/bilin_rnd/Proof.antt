@@ -8,7 +8,7 @@ use mir.Syntax.{w32}
 use mir.Val.{SFits}
 use Rattle.rows.specs.Numbers.{half}
 use Rattle.rows.specs.Bilinear.{R}
-use Rattle.rows.proofs.Laws.Signed.{back, mag-add, rd}
+use Rattle.rows.proofs.Laws.Numbers.Signed.{back, mag-add, rd}
 use Rattle.rows.proofs.bilinear.bilin_rnd.Statement.{statement}
 use Rattle.rows.proofs.bilinear.bilin_rnd.Tie as tie
 

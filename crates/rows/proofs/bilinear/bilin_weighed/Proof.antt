@@ -5,8 +5,8 @@ use lib.IntN.{ℤ, pos, _+ℤ_, _*ℤ_}
 use lib.Signed.{mag}
 use mir.Syntax.{w32}
 use mir.Val.{SFits}
-use Rattle.rows.proofs.Laws.Signed.{back, backn, mag-add, mag-mul}
-use Rattle.rows.proofs.Laws.Bilinear.{weighed}
+use Rattle.rows.proofs.Laws.Numbers.Signed.{back, backn, mag-add, mag-mul}
+use Rattle.rows.proofs.Laws.Filters.Bilinear.{weighed}
 use Rattle.rows.proofs.bilinear.bilin_weighed.Statement.{statement}
 use Rattle.rows.proofs.bilinear.bilin_weighed.Tie as tie
 

@@ -4,7 +4,7 @@ use lib.IntN.{ℤ, _+ℤ_, _*ℤ_}
 use lib.Signed.{mag, shrZ}
 use mir.Syntax.{w32}
 use mir.Val.{SFits}
-use Rattle.rows.proofs.Laws.Signed.{back, mag-add, mag-mul, mag-shr, mag-abs}
+use Rattle.rows.proofs.Laws.Numbers.Signed.{back, mag-add, mag-mul, mag-shr, mag-abs}
 use Rattle.rows.proofs.blend.scaled.Statement.{statement}
 use Rattle.rows.proofs.blend.scaled.Tie as tie
 

@@ -6,7 +6,7 @@ use lib.IntN.{ℤ, _-ℤ_}
 use mir.Syntax.{w64}
 use mir.Val.{SFits, toZ, ofZ}
 use Rattle.rows.specs.Numbers.{up, clip}
-use Rattle.rows.proofs.Laws.Signed.{signed, back, fit-abs, abs-sub, rdn, clip-up, one-part, abs-parts}
+use Rattle.rows.proofs.Laws.Numbers.Signed.{signed, back, fit-abs, abs-sub, rdn, clip-up, one-part, abs-parts}
 use Rattle.rows.proofs.edge.left_of.Statement.{statement}
 use Rattle.rows.proofs.edge.left_of.Tie as tie
 

@@ -4,7 +4,7 @@ use Prim.Native.Nat.{_<_}
 use lib.IntN.{ℤ, pos, natAbs, _-ℤ_}
 use mir.Syntax.{w32}
 use mir.Val.{SFits}
-use Rattle.rows.proofs.Laws.Signed.{reading, back, back16, mag-up, mag-dn, abs-parts, fit-abs, sub-parts, one-part, turned, above}
+use Rattle.rows.proofs.Laws.Numbers.Signed.{reading, back, back16, mag-up, mag-dn, abs-parts, fit-abs, sub-parts, one-part, turned, above}
 use Rattle.rows.proofs.mask.abs_diff16.Statement.{statement}
 use Rattle.rows.proofs.mask.abs_diff16.Tie as tie
 

@@ -5,7 +5,7 @@ use mathlib.Core.Path.{_≡_, sym, ap, _∙_}
 use Prim.Native.Nat.{ℕ, _+_, _-_, _*_, _/_, _^_, _<_, _≤_, min}
 use lib.Pow.{pow-mono, pow-pos, shr-shr, shr-lt}
 use Rattle.rows.specs.Mask.{weightOf}
-use Rattle.rows.proofs.Laws.Signed.{back}
+use Rattle.rows.proofs.Laws.Numbers.Signed.{back}
 use Rattle.rows.proofs.mask.weight_px.Statement.{statement}
 use Rattle.rows.proofs.mask.weight_px.Tie as tie
 

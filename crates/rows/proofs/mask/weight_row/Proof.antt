@@ -5,8 +5,8 @@ use Prim.Native.Nat.{_-_}
 use lib.ListN.{length}
 use Rattle.rows.specs.Combine.{both}
 use Rattle.rows.specs.Mask.{weightOf}
-use Rattle.rows.proofs.Laws.Pixel.{read-both}
-use Rattle.rows.proofs.Laws.Row.{Upto, upto-none, upto-more, upto-all}
+use Rattle.rows.proofs.Laws.Pixels.Pixel.{read-both}
+use Rattle.rows.proofs.Laws.Blocks.Row.{Upto, upto-none, upto-more, upto-all}
 use Rattle.rows.proofs.mask.weight_row.Statement.{statement}
 use Rattle.rows.proofs.mask.weight_row.Tie as tie
 

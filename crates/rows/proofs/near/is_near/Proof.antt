@@ -4,8 +4,8 @@ use borrow.Author.Needs.{needs}
 use lib.IntN.{natAbs}
 use mir.Syntax.{w8}
 use Rattle.rows.specs.Numbers.{at}
-use Rattle.rows.proofs.Laws.Added.{Added, added-none, added-more, added-all}
-use Rattle.rows.proofs.Laws.Signed.{back, fit}
+use Rattle.rows.proofs.Laws.Numbers.Added.{Added, added-none, added-more, added-all}
+use Rattle.rows.proofs.Laws.Numbers.Signed.{back, fit}
 use Rattle.rows.proofs.near.is_near.Statement.{statement}
 use Rattle.rows.proofs.near.is_near.Tie as tie
 

@@ -2,8 +2,8 @@ use native.Mathlib.Omega.{arith}
 use lib.Signed.{shrZ}
 use mir.Syntax.{w16}
 use mir.Val.{SFits}
-use Rattle.rows.proofs.Laws.Signed.{back, fit-abs}
-use Rattle.rows.proofs.Laws.Near.{high-byte}
+use Rattle.rows.proofs.Laws.Numbers.Signed.{back, fit-abs}
+use Rattle.rows.proofs.Laws.Filters.Near.{high-byte}
 use Rattle.rows.proofs.near.near_high_i16.Statement.{statement}
 use Rattle.rows.proofs.near.near_high_i16.Tie as tie
 

@@ -5,9 +5,9 @@ use lib.IntN.{ℤ}
 use lib.Signed.{shrZ}
 use mir.Syntax.{w8, w16}
 use Rattle.rows.specs.Numbers.{at}
-use Rattle.rows.proofs.Laws.Signed.{back, fit}
-use Rattle.rows.proofs.Laws.Sum.{within}
-use Rattle.rows.proofs.Laws.Near.{NearSum, near-none, near-room, near-more, near-all, highs}
+use Rattle.rows.proofs.Laws.Numbers.Signed.{back, fit}
+use Rattle.rows.proofs.Laws.Numbers.Sum.{within}
+use Rattle.rows.proofs.Laws.Filters.Near.{NearSum, near-none, near-room, near-more, near-all, highs}
 use Rattle.rows.proofs.near.near_highs_i16.Statement.{statement}
 use Rattle.rows.proofs.near.near_highs_i16.Tie as tie
 

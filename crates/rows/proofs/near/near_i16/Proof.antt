@@ -3,8 +3,8 @@ use native.Mathlib.Omega.{arith}
 use mir.Syntax.{w32}
 use mir.Val.{SFits}
 use borrow.Author.Needs.{needs}
-use Rattle.rows.proofs.Laws.Signed.{back}
-use Rattle.rows.proofs.Laws.Near.{parts-fit, whole-is}
+use Rattle.rows.proofs.Laws.Numbers.Signed.{back}
+use Rattle.rows.proofs.Laws.Filters.Near.{parts-fit, whole-is}
 use Rattle.rows.proofs.near.near_i16.Statement.{statement}
 use Rattle.rows.proofs.near.near_i16.Tie as tie
 

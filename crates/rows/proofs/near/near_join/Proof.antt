@@ -5,7 +5,7 @@ use borrow.Author.Needs.{needs}
 use lib.IntN.{pos, natAbs, _+ℤ_, _*ℤ_}
 use mir.Syntax.{w32}
 use mir.Val.{SFits}
-use Rattle.rows.proofs.Laws.Signed.{back, back16, backn, abs-add, abs-mul-le, abs-mag, fit-abs, reading}
+use Rattle.rows.proofs.Laws.Numbers.Signed.{back, back16, backn, abs-add, abs-mul-le, abs-mag, fit-abs, reading}
 use Rattle.rows.proofs.near.near_join.Statement.{statement}
 use Rattle.rows.proofs.near.near_join.Tie as tie
 

@@ -2,8 +2,8 @@ use native.Mathlib.Omega.{arith}
 use mir.Syntax.{w16, w32}
 use mir.Val.{SFits}
 use borrow.Author.Needs.{needs}
-use Rattle.rows.proofs.Laws.Signed.{back}
-use Rattle.rows.proofs.Laws.Near.{joined-shr}
+use Rattle.rows.proofs.Laws.Numbers.Signed.{back}
+use Rattle.rows.proofs.Laws.Filters.Near.{joined-shr}
 use Rattle.rows.proofs.near.near_kept.Statement.{statement}
 use Rattle.rows.proofs.near.near_kept.Tie as tie
 

@@ -4,8 +4,8 @@ use lib.Signed.{shrZ}
 use mir.Syntax.{w16}
 use mir.Val.{SFits}
 use Rattle.rows.specs.Numbers.{modZ}
-use Rattle.rows.proofs.Laws.Signed.{back, fit-abs, fit}
-use Rattle.rows.proofs.Laws.Near.{high-byte, high-up, low-byte, low-is}
+use Rattle.rows.proofs.Laws.Numbers.Signed.{back, fit-abs, fit}
+use Rattle.rows.proofs.Laws.Filters.Near.{high-byte, high-up, low-byte, low-is}
 use Rattle.rows.proofs.near.near_low_i16.Statement.{statement}
 use Rattle.rows.proofs.near.near_low_i16.Tie as tie
 

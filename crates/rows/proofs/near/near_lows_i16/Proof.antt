@@ -4,9 +4,9 @@ use Prim.Native.Nat.{_+_, _*_, _-_, _≤_}
 use lib.IntN.{ℤ, pos}
 use mir.Syntax.{w8, w16}
 use Rattle.rows.specs.Numbers.{at, modZ}
-use Rattle.rows.proofs.Laws.Signed.{back, fit}
-use Rattle.rows.proofs.Laws.Sum.{within}
-use Rattle.rows.proofs.Laws.Near.{NearSum, near-none, near-room, near-more, near-all, lows}
+use Rattle.rows.proofs.Laws.Numbers.Signed.{back, fit}
+use Rattle.rows.proofs.Laws.Numbers.Sum.{within}
+use Rattle.rows.proofs.Laws.Filters.Near.{NearSum, near-none, near-room, near-more, near-all, lows}
 use Rattle.rows.proofs.near.near_lows_i16.Statement.{statement}
 use Rattle.rows.proofs.near.near_lows_i16.Tie as tie
 

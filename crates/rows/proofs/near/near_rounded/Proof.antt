@@ -4,7 +4,7 @@ use lib.IntN.{pos, _+ℤ_}
 use lib.Signed.{shrZ, mag-shr}
 use mir.Syntax.{w16}
 use mir.Val.{SFits}
-use Rattle.rows.proofs.Laws.Signed.{back, backn, abs-add, fit-abs}
+use Rattle.rows.proofs.Laws.Numbers.Signed.{back, backn, abs-add, fit-abs}
 use borrow.Author.Needs.{needs}
 use Rattle.rows.proofs.near.near_rounded.Statement.{statement}
 use Rattle.rows.proofs.near.near_rounded.Tie as tie

@@ -4,8 +4,8 @@ use Prim.Native.Nat.{_*_, _≤_}
 use lib.IntN.{natAbs, _+ℤ_, _*ℤ_}
 use mir.Syntax.{w16}
 use mir.Val.{SFits}
-use Rattle.rows.proofs.Laws.Signed.{back, abs-add, abs-mul-le, fit-abs, reading}
-use Rattle.rows.proofs.Laws.Near.{back8-16, wide8-16}
+use Rattle.rows.proofs.Laws.Numbers.Signed.{back, abs-add, abs-mul-le, fit-abs, reading}
+use Rattle.rows.proofs.Laws.Filters.Near.{back8-16, wide8-16}
 use Rattle.rows.proofs.near.near_tap.Statement.{statement}
 use Rattle.rows.proofs.near.near_tap.Tie as tie
 

@@ -1,7 +1,7 @@
 use native.Mathlib.Omega.{arith}
 use mir.Syntax.{w16}
 use mir.Val.{SFits}
-use Rattle.rows.proofs.Laws.Signed.{back, backn}
+use Rattle.rows.proofs.Laws.Numbers.Signed.{back, backn}
 use borrow.Author.Needs.{needs}
 use Rattle.rows.proofs.near.near_tap_u8.Statement.{statement}
 use Rattle.rows.proofs.near.near_tap_u8.Tie as tie

@@ -4,7 +4,7 @@ use native.Mathlib.Omega.{arith}
 use lib.IntN.{pos, natAbs, _+ℤ_, _*ℤ_}
 use mir.Syntax.{w32}
 use mir.Val.{SFits}
-use Rattle.rows.proofs.Laws.Signed.{back, back16, abs-add, abs-mul-le, fit-abs, mag-abs, reading}
+use Rattle.rows.proofs.Laws.Numbers.Signed.{back, back16, abs-add, abs-mul-le, fit-abs, mag-abs, reading}
 use Rattle.rows.proofs.near.near_whole.Statement.{statement}
 use Rattle.rows.proofs.near.near_whole.Tie as tie
 

@@ -4,7 +4,7 @@ use lib.IntN.{pos, negsuc, _-ℤ_}
 use lib.Signed.{mag}
 use mir.Syntax.{w8}
 use mir.Val.{SFits, toZ, ofZ}
-use Rattle.rows.proofs.Laws.Signed.{signed, rd, backs, fit, flip-read, below-read, abs-parts}
+use Rattle.rows.proofs.Laws.Numbers.Signed.{signed, rd, backs, fit, flip-read, below-read, abs-parts}
 use Rattle.rows.proofs.near.tap_size.Statement.{statement}
 use Rattle.rows.proofs.near.tap_size.Tie as tie
 

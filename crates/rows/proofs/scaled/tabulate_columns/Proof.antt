@@ -3,8 +3,8 @@ use mathlib.Core.Path.{refl}
 use Prim.Native.Nat.{_-_, _^_, _≤_, _<_}
 use lib.ListN.{length}
 use Rattle.rows.specs.Scaled.{position, pixelOf, sixteenth, Tabled}
-use Rattle.rows.proofs.Laws.Row.{Upto, upto-none, upto-more}
-use Rattle.rows.proofs.Laws.Scaled.{position-lt}
+use Rattle.rows.proofs.Laws.Blocks.Row.{Upto, upto-none, upto-more}
+use Rattle.rows.proofs.Laws.Filters.Scaled.{position-lt}
 use Rattle.rows.proofs.scaled.tabulate_columns.Statement.{statement}
 use Rattle.rows.proofs.scaled.tabulate_columns.Tie as tie
 

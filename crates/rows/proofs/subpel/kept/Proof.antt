@@ -2,7 +2,7 @@ use native.Mathlib.Omega.{arith}
 use mir.Syntax.{w16, w32}
 use mir.Val.{SFits}
 use borrow.Author.Needs.{needs}
-use Rattle.rows.proofs.Laws.Signed.{back}
+use Rattle.rows.proofs.Laws.Numbers.Signed.{back}
 use Rattle.rows.proofs.subpel.kept.Statement.{statement}
 use Rattle.rows.proofs.subpel.kept.Tie as tie
 

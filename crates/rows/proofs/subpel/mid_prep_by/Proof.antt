@@ -6,9 +6,9 @@ use mir.Syntax.{w16}
 use mir.Val.{toZ}
 use Rattle.rows.specs.Numbers.{low16, minus16, at}
 use Rattle.rows.specs.Subpel.{tapped}
-use Rattle.rows.proofs.Laws.Row.{Upto, upto-none, upto-all}
-use Rattle.rows.proofs.Laws.Filter.{upto-kept}
-use Rattle.rows.proofs.Laws.Signed.{back}
+use Rattle.rows.proofs.Laws.Blocks.Row.{Upto, upto-none, upto-all}
+use Rattle.rows.proofs.Laws.Filters.Loop.{upto-kept}
+use Rattle.rows.proofs.Laws.Numbers.Signed.{back}
 use Rattle.rows.proofs.subpel.mid_prep_by.Statement.{statement}
 use Rattle.rows.proofs.subpel.mid_prep_by.Tie as tie
 

@@ -1,6 +1,6 @@
 use native.Mathlib.Omega.{arith}
 use borrow.Author.Needs.{needs}
-use Rattle.rows.proofs.Laws.Near.{parts-fit, near-kept-is, kept-is}
+use Rattle.rows.proofs.Laws.Filters.Near.{parts-fit, near-kept-is, kept-is}
 use Rattle.rows.proofs.subpel.mid_prep_px.Statement.{statement}
 use Rattle.rows.proofs.subpel.mid_prep_px.Tie as tie
 

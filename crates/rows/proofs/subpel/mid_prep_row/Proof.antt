@@ -2,7 +2,7 @@ use lib.Dec.{T}
 use mathlib.Core.Path.{sym, subst}
 use native.Mathlib.Omega.{arith}
 use borrow.Author.Needs.{needs}
-use Rattle.rows.proofs.Laws.Signed.{back}
+use Rattle.rows.proofs.Laws.Numbers.Signed.{back}
 use Rattle.rows.proofs.subpel.mid_prep_row.Statement.{statement}
 use Rattle.rows.proofs.subpel.mid_prep_row.Tie as tie
 

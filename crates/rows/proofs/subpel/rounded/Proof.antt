@@ -4,7 +4,7 @@ use lib.IntN.{pos, _+ℤ_}
 use lib.Signed.{shrZ, mag-shr}
 use mir.Syntax.{w32}
 use mir.Val.{SFits}
-use Rattle.rows.proofs.Laws.Signed.{back, backn, mag-add}
+use Rattle.rows.proofs.Laws.Numbers.Signed.{back, backn, mag-add}
 use borrow.Author.Needs.{needs}
 use Rattle.rows.proofs.subpel.rounded.Statement.{statement}
 use Rattle.rows.proofs.subpel.rounded.Tie as tie

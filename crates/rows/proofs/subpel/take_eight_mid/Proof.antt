@@ -4,8 +4,8 @@ use lib.IntN.{pos}
 use lib.ListN.{length}
 use mir.Syntax.{w16}
 use Rattle.rows.specs.Numbers.{at}
-use Rattle.rows.proofs.Laws.Row.{Upto, upto-none, upto-more, upto-all}
-use Rattle.rows.proofs.Laws.Signed.{back, fit}
+use Rattle.rows.proofs.Laws.Blocks.Row.{Upto, upto-none, upto-more, upto-all}
+use Rattle.rows.proofs.Laws.Numbers.Signed.{back, fit}
 use Rattle.rows.proofs.subpel.take_eight_mid.Statement.{statement}
 use Rattle.rows.proofs.subpel.take_eight_mid.Tie as tie
 

@@ -4,7 +4,7 @@ use lib.IntN.{_+ℤ_, _*ℤ_}
 use lib.Signed.{mag}
 use mir.Syntax.{w32}
 use mir.Val.{SFits}
-use Rattle.rows.proofs.Laws.Signed.{back, back8, mag-add, mag-mul, abs-mag, reading}
+use Rattle.rows.proofs.Laws.Numbers.Signed.{back, back8, mag-add, mag-mul, abs-mag, reading}
 use Rattle.rows.proofs.subpel.tap.Statement.{statement}
 use Rattle.rows.proofs.subpel.tap.Tie as tie
 

@@ -1,7 +1,7 @@
 use native.Mathlib.Omega.{arith}
 use mir.Syntax.{w32}
 use mir.Val.{SFits}
-use Rattle.rows.proofs.Laws.Signed.{back, back16, abs-mag, reading}
+use Rattle.rows.proofs.Laws.Numbers.Signed.{back, back16, abs-mag, reading}
 use Rattle.rows.proofs.subpel.tap_i16.Statement.{statement}
 use Rattle.rows.proofs.subpel.tap_i16.Tie as tie
 

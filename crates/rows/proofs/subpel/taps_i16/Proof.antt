@@ -4,9 +4,9 @@ use lib.IntN.{_*ℤ_}
 use mir.Syntax.{w8, w16}
 use Rattle.rows.specs.Numbers.{at}
 use Rattle.rows.specs.Subpel.{S}
-use Rattle.rows.proofs.Laws.Signed.{back, fit}
-use Rattle.rows.proofs.Laws.Sum.{Summed, summed-none, summed-mag, summed-more, within}
-use Rattle.rows.proofs.Laws.Filter.{summed-eight}
+use Rattle.rows.proofs.Laws.Numbers.Signed.{back, fit}
+use Rattle.rows.proofs.Laws.Numbers.Sum.{Summed, summed-none, summed-mag, summed-more, within}
+use Rattle.rows.proofs.Laws.Filters.Loop.{summed-eight}
 use Rattle.rows.proofs.subpel.taps_i16.Statement.{statement}
 use Rattle.rows.proofs.subpel.taps_i16.Tie as tie
 

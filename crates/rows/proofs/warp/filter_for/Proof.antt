@@ -9,8 +9,8 @@ use lib.Signed.{nonNeg}
 use mir.Syntax.{w32}
 use mir.Val.{SFits, toZ, ofZ}
 use Rattle.rows.specs.Warp.{filterNo}
-use Rattle.rows.proofs.Laws.Signed.{back}
-use Rattle.rows.proofs.Laws.Warp.{in-place, lent-filter}
+use Rattle.rows.proofs.Laws.Numbers.Signed.{back}
+use Rattle.rows.proofs.Laws.Filters.Warp.{in-place, lent-filter}
 use Rattle.rows.proofs.warp.filter_for.Statement.{statement}
 use Rattle.rows.proofs.warp.filter_for.Tie as tie
 

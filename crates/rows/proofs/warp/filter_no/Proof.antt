@@ -8,7 +8,7 @@ use lib.Signed.{shrZ}
 use mir.Syntax.{w32}
 use mir.Val.{SFits, toZ, ofZ}
 use Rattle.rows.specs.Warp.{filterNo}
-use Rattle.rows.proofs.Laws.Signed.{back, backn, back16, fit-abs, abs-add, abs-mul-le, abs-mag, mag-abs, mag-add, mag-shr, reading}
+use Rattle.rows.proofs.Laws.Numbers.Signed.{back, backn, back16, fit-abs, abs-add, abs-mul-le, abs-mag, mag-abs, mag-add, mag-shr, reading}
 use Rattle.rows.proofs.warp.filter_no.Statement.{statement}
 use Rattle.rows.proofs.warp.filter_no.Tie as tie
 

@@ -5,8 +5,8 @@ use Rattle.rows.specs.Numbers.{at, clip}
 use Rattle.rows.specs.Bilinear.{R, bilinAt}
 use lib.ListN.{length}
 use borrow.Author.Needs.{needs}
-use Rattle.blocks.proofs.Laws.Rows.{Filled, filled-none, block-loop}
-use Rattle.blocks.proofs.Laws.BilinReady.{Turn, turn}
+use Rattle.blocks.proofs.Laws.Loops.Rows.{Filled, filled-none, block-loop}
+use Rattle.blocks.proofs.Laws.Bilinear.Ready.{Turn, turn}
 use Rattle.blocks.proofs.bytes.bilinear.mid_bilin_rows.Statement.{statement}
 use Rattle.blocks.proofs.bytes.bilinear.mid_bilin_rows.Tie as tie
 

@@ -8,9 +8,9 @@ use lib.ListN.{length}
 use mir.Syntax.{w16}
 use mir.Val.{toZ}
 use borrow.Author.Needs.{needs}
-use Rattle.rows.proofs.Laws.Signed.{back}
-use Rattle.blocks.proofs.Laws.Rows.{Filled, filled-none, filled-all, block-loop}
-use Rattle.blocks.proofs.Laws.BilinReady.{Turn, turn}
+use Rattle.rows.proofs.Laws.Numbers.Signed.{back}
+use Rattle.blocks.proofs.Laws.Loops.Rows.{Filled, filled-none, filled-all, block-loop}
+use Rattle.blocks.proofs.Laws.Bilinear.Ready.{Turn, turn}
 use Rattle.blocks.proofs.bytes.bilinear.prep_bilin_axis.Statement.{statement}
 use Rattle.blocks.proofs.bytes.bilinear.prep_bilin_axis.Tie as tie
 

@@ -7,8 +7,8 @@ use Rattle.rows.specs.Numbers.{px, clip}
 use Rattle.rows.specs.Bilinear.{R, bilinAt}
 use lib.ListN.{length}
 use borrow.Author.Needs.{needs}
-use Rattle.blocks.proofs.Laws.Rows.{Filled, filled-none, block-loop}
-use Rattle.blocks.proofs.Laws.BilinReady.{Turn, turn}
+use Rattle.blocks.proofs.Laws.Loops.Rows.{Filled, filled-none, block-loop}
+use Rattle.blocks.proofs.Laws.Bilinear.Ready.{Turn, turn}
 use Rattle.blocks.proofs.bytes.bilinear.put_bilin_axis.Statement.{statement}
 use Rattle.blocks.proofs.bytes.bilinear.put_bilin_axis.Tie as tie
 

@@ -4,7 +4,7 @@ use lib.ListN.{length}
 use borrow.Author.Needs.{needs}
 use Rattle.blocks.specs.Refuse.{lowest}
 use Rattle.blocks.specs.Blend.{blendShape}
-use Rattle.blocks.proofs.Laws.BlendReady.{blend-ready, Searched, blend-refused, blend-above, blend-rows, blend-done}
+use Rattle.blocks.proofs.Laws.Blend.Ready.{blend-ready, Searched, blend-refused, blend-above, blend-rows, blend-done}
 use Rattle.blocks.proofs.bytes.blend.hv_blend_8bpc.Statement.{statement}
 use Rattle.blocks.proofs.bytes.blend.hv_blend_8bpc.Tie as tie
 

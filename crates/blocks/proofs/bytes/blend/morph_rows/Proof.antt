@@ -7,9 +7,9 @@ use mir.Val.{toZ, ofZ}
 use borrow.Author.Needs.{needs}
 use Rattle.rows.specs.Places.{pixel}
 use Rattle.rows.specs.Combine.{morph}
-use Rattle.rows.proofs.Laws.Signed.{back}
-use Rattle.blocks.proofs.Laws.Rows.{Filled, filled-none, filled-all, row-in}
-use Rattle.blocks.proofs.Laws.InPlace.{filled-over}
+use Rattle.rows.proofs.Laws.Numbers.Signed.{back}
+use Rattle.blocks.proofs.Laws.Loops.Rows.{Filled, filled-none, filled-all, row-in}
+use Rattle.blocks.proofs.Laws.Loops.InPlace.{filled-over}
 use Rattle.blocks.proofs.bytes.blend.morph_rows.Statement.{statement}
 use Rattle.blocks.proofs.bytes.blend.morph_rows.Tie as tie
 

@@ -1,8 +1,8 @@
 use borrow.Author.Needs.{needs}
 use mathlib.Core.Path.{refl}
-use Rattle.rows.proofs.Laws.Signed.{back}
+use Rattle.rows.proofs.Laws.Numbers.Signed.{back}
 use Rattle.blocks.specs.bytes.Depth.{depthOk}
-use Rattle.blocks.proofs.Laws.Orders.{kind-passed, order-passed, prep-passed}
+use Rattle.blocks.proofs.Laws.Order.Run.{kind-passed, order-passed, prep-passed}
 use Rattle.blocks.proofs.bytes.calls.hv_order_prep_8bpc.Statement.{statement}
 use Rattle.blocks.proofs.bytes.calls.hv_order_prep_8bpc.Tie as tie
 

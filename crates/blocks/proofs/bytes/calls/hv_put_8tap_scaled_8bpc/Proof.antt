@@ -1,5 +1,5 @@
 use borrow.Author.Needs.{needs}
-use Rattle.rows.proofs.Laws.Signed.{back}
+use Rattle.rows.proofs.Laws.Numbers.Signed.{back}
 use Rattle.blocks.specs.bytes.Depth.{depthOk}
 use Rattle.blocks.proofs.bytes.calls.hv_put_8tap_scaled_8bpc.Statement.{statement}
 use Rattle.blocks.proofs.bytes.calls.hv_put_8tap_scaled_8bpc.Tie as tie

@@ -4,14 +4,14 @@ use lib.IntN.{ℤ}
 use lib.ListN.{length}
 use borrow.Author.Needs.{needs}
 use Rattle.rows.specs.Numbers.{up}
-use Rattle.rows.proofs.Laws.Signed.{back}
+use Rattle.rows.proofs.Laws.Numbers.Signed.{back}
 use Rattle.blocks.specs.Refuse.{lowest}
 use Rattle.blocks.specs.bytes.Depth.{depthOk}
 use Rattle.blocks.specs.Ready.{numbersOf}
 use Rattle.blocks.specs.Combine.{wAvgTests}
-use Rattle.blocks.proofs.Laws.Refuse.{done, refused}
+use Rattle.blocks.proofs.Laws.Calls.Refuse.{done, refused}
 use Rattle.blocks.proofs.Laws.bytes.Deep.{deep-bits, deep-bias, deep-max}
-use Rattle.blocks.proofs.Laws.CombineReady.{w-avg-ready}
+use Rattle.blocks.proofs.Laws.Combine.Ready.{w-avg-ready}
 use Rattle.blocks.proofs.bytes.combine.w_avg_at.Statement.{statement}
 use Rattle.blocks.proofs.bytes.combine.w_avg_at.Tie as tie
 

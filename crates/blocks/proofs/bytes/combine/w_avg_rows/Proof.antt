@@ -7,8 +7,8 @@ use lib.IntN.{ℤ, pos, _-ℤ_}
 use mir.Syntax.{w32}
 use mir.Val.{SFits}
 use Rattle.rows.specs.Numbers.{up, dn}
-use Rattle.rows.proofs.Laws.Signed.{back, mag-sub}
-use Rattle.blocks.proofs.Laws.CombineBlocks.{weight-above, weight-below, above-fill, below-fill}
+use Rattle.rows.proofs.Laws.Numbers.Signed.{back, mag-sub}
+use Rattle.blocks.proofs.Laws.Combine.Calls.{weight-above, weight-below, above-fill, below-fill}
 use Rattle.blocks.proofs.bytes.combine.w_avg_rows.Statement.{statement}
 use Rattle.blocks.proofs.bytes.combine.w_avg_rows.Tie as tie
 

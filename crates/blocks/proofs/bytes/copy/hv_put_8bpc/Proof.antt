@@ -1,8 +1,8 @@
 -- Made from crates/blocks/proofs/words/copy/hv_put_16bpc/Proof.antt by tools/sets: change that.
 use mathlib.Core.Path.{sym, _∙_}
 use borrow.Author.Needs.{needs}
-use Rattle.blocks.proofs.Laws.Refuse.{done, refused}
-use Rattle.blocks.proofs.Laws.CopyReady.{put-ready}
+use Rattle.blocks.proofs.Laws.Calls.Refuse.{done, refused}
+use Rattle.blocks.proofs.Laws.Copy.Ready.{put-ready}
 use Rattle.blocks.proofs.bytes.copy.hv_put_8bpc.Statement.{statement}
 use Rattle.blocks.proofs.bytes.copy.hv_put_8bpc.Tie as tie
 

@@ -1,9 +1,9 @@
 -- Made from crates/blocks/proofs/words/edge/hv_emu_edge_16bpc/Proof.antt by tools/sets: change that.
 use mathlib.Core.Path.{sym, _∙_}
 use borrow.Author.Needs.{needs}
-use Rattle.rows.proofs.Laws.Signed.{back}
-use Rattle.blocks.proofs.Laws.Refuse.{done, refused}
-use Rattle.blocks.proofs.Laws.EdgeReady.{edge-ready}
+use Rattle.rows.proofs.Laws.Numbers.Signed.{back}
+use Rattle.blocks.proofs.Laws.Calls.Refuse.{done, refused}
+use Rattle.blocks.proofs.Laws.Edge.Ready.{edge-ready}
 use Rattle.blocks.proofs.bytes.edge.hv_emu_edge_8bpc.Statement.{statement}
 use Rattle.blocks.proofs.bytes.edge.hv_emu_edge_8bpc.Tie as tie
 

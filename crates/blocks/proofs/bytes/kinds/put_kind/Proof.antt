@@ -6,8 +6,8 @@ use Rattle.rows.specs.Places.{fill}
 use Rattle.rows.specs.Copy.{put}
 use Rattle.blocks.specs.Window.{before}
 use Rattle.blocks.specs.Order.{putRule}
-use Rattle.blocks.proofs.Laws.KindsReady.{copy-ready, subpel-ready, bilin-ready, warp-ready}
-use Rattle.blocks.proofs.Laws.KindsReady.{bilin-passed, warp-size, from-window, no-margin}
+use Rattle.blocks.proofs.Laws.Order.Kinds.{copy-ready, subpel-ready, bilin-ready, warp-ready}
+use Rattle.blocks.proofs.Laws.Order.Kinds.{bilin-passed, warp-size, from-window, no-margin}
 use Rattle.blocks.proofs.bytes.kinds.put_kind.Statement.{statement}
 use Rattle.blocks.proofs.bytes.kinds.put_kind.Tie as tie
 

@@ -5,8 +5,8 @@ use lib.ListN.{length, drop}
 use borrow.Author.Needs.{needs}
 use mathlib.Core.List.{_++_}
 use mathlib.Core.Path.{_≡_, refl, sym}
-use Rattle.blocks.proofs.Laws.Rows.{Filled, filled-none, filled-more, filled-all, Turn, turn, row-in}
-use Rattle.blocks.proofs.Laws.Weighed.{weigh, mixedBy, mixed, Front, front, front-span, weighed}
+use Rattle.blocks.proofs.Laws.Loops.Rows.{Filled, filled-none, filled-more, filled-all, Turn, turn, row-in}
+use Rattle.blocks.proofs.Laws.Mask.Weighed.{weigh, mixedBy, mixed, Front, front, front-span, weighed}
 use Rattle.blocks.proofs.bytes.mask.weighed_rows.Statement.{statement}
 use Rattle.blocks.proofs.bytes.mask.weighed_rows.Tie as tie
 

@@ -4,12 +4,12 @@ use mathlib.Core.Path.{_≡_, sym, ap, _∙_}
 use mathlib.Core.Bool.{true}
 use mir.Syntax.{w32}
 use Rattle.rows.specs.Numbers.{up}
-use Rattle.rows.proofs.Laws.Signed.{back}
+use Rattle.rows.proofs.Laws.Numbers.Signed.{back}
 use Rattle.blocks.specs.bytes.Depth.{depthOk}
 use Rattle.blocks.specs.Order.{kindOf}
 use Rattle.blocks.proofs.Laws.bytes.Deep.{deep-bits, deep-bias, deep-max}
-use Rattle.blocks.proofs.Laws.Told.{passed}
-use Rattle.blocks.proofs.Laws.Orders.{part-number, ordered, ordered-deep, order-part, order-rows, put-done, put-refused, order-passed, put-passed}
+use Rattle.blocks.proofs.Laws.Calls.Told.{passed}
+use Rattle.blocks.proofs.Laws.Order.Run.{part-number, ordered, ordered-deep, order-part, order-rows, put-done, put-refused, order-passed, put-passed}
 use Rattle.blocks.proofs.bytes.predict.order_put_at.Statement.{statement}
 use Rattle.blocks.proofs.bytes.predict.order_put_at.Tie as tie
 

@@ -6,9 +6,9 @@ use mir.Syntax.{w64}
 use Rattle.blocks.specs.Refuse.{lowest}
 use Rattle.blocks.specs.Window.{areaOf}
 use Rattle.blocks.specs.Order.{kindNumber, orderTests}
-use Rattle.blocks.proofs.Laws.Told.{told-one}
-use Rattle.blocks.proofs.Laws.WindowReady.{Accepted, accepted-small, accepted-ready}
-use Rattle.blocks.proofs.Laws.Orders.{order-refused, order-accepted, order-fetched}
+use Rattle.blocks.proofs.Laws.Calls.Told.{told-one}
+use Rattle.blocks.proofs.Laws.Window.Ready.{Accepted, accepted-small, accepted-ready}
+use Rattle.blocks.proofs.Laws.Order.Run.{order-refused, order-accepted, order-fetched}
 use Rattle.blocks.proofs.bytes.predict.order_window.Statement.{statement}
 use Rattle.blocks.proofs.bytes.predict.order_window.Tie as tie
 

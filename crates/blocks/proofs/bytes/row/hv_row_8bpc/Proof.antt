@@ -1,7 +1,7 @@
 -- Made from crates/blocks/proofs/words/row/hv_row_16bpc/Proof.antt by tools/sets: change that.
 use borrow.Author.Needs.{needs}
-use Rattle.rows.proofs.Laws.Signed.{back}
-use Rattle.blocks.proofs.Laws.WindowReady.{part-answer}
+use Rattle.rows.proofs.Laws.Numbers.Signed.{back}
+use Rattle.blocks.proofs.Laws.Window.Ready.{part-answer}
 use Rattle.blocks.proofs.bytes.row.hv_row_8bpc.Statement.{statement}
 use Rattle.blocks.proofs.bytes.row.hv_row_8bpc.Tie as tie
 

@@ -4,15 +4,15 @@ use mathlib.Core.Bool.{true}
 use native.Mathlib.Omega.{arith}
 use lib.ListN.{length}
 use borrow.Author.Needs.{needs}
-use Rattle.rows.proofs.Laws.Signed.{back}
+use Rattle.rows.proofs.Laws.Numbers.Signed.{back}
 use Rattle.blocks.specs.Refuse.{lowest}
 use Rattle.blocks.specs.bytes.Depth.{depthOk}
 use Rattle.blocks.specs.Subpel.{subpelOk}
 use Rattle.blocks.specs.Scaled.{scaledTypeOk, scaledTests, scaledPlan}
 use Rattle.blocks.proofs.Laws.bytes.Deep.{deep-bits, deep-bias}
-use Rattle.blocks.proofs.Laws.Refuse.{done, refused}
-use Rattle.blocks.proofs.Laws.ScaledReady.{ScaledMet, scaled-ready, taps-met}
-use Rattle.blocks.proofs.Laws.ScaledRule.{prep-planned}
+use Rattle.blocks.proofs.Laws.Calls.Refuse.{done, refused}
+use Rattle.blocks.proofs.Laws.Scaled.Ready.{ScaledMet, scaled-ready, taps-met}
+use Rattle.blocks.proofs.Laws.Scaled.Rule.{prep-planned}
 use Rattle.blocks.proofs.bytes.scaled.prep_8tap_scaled_at.Statement.{statement}
 use Rattle.blocks.proofs.bytes.scaled.prep_8tap_scaled_at.Tie as tie
 

@@ -6,14 +6,14 @@ use lib.IntN.{pos}
 use lib.ListN.{length}
 use borrow.Author.Needs.{needs}
 use Rattle.rows.specs.Numbers.{up}
-use Rattle.rows.proofs.Laws.Signed.{back}
+use Rattle.rows.proofs.Laws.Numbers.Signed.{back}
 use Rattle.blocks.specs.Refuse.{lowest}
 use Rattle.blocks.specs.bytes.Depth.{depthOk}
 use Rattle.blocks.specs.Scaled.{scaledTests, scaledPlan}
 use Rattle.blocks.proofs.Laws.bytes.Deep.{deep-bits, deep-max}
-use Rattle.blocks.proofs.Laws.Refuse.{done, refused}
-use Rattle.blocks.proofs.Laws.ScaledReady.{ScaledMet, scaled-ready, even-bits, pairs-met}
-use Rattle.blocks.proofs.Laws.ScaledRule.{put-paired}
+use Rattle.blocks.proofs.Laws.Calls.Refuse.{done, refused}
+use Rattle.blocks.proofs.Laws.Scaled.Ready.{ScaledMet, scaled-ready, even-bits, pairs-met}
+use Rattle.blocks.proofs.Laws.Scaled.Rule.{put-paired}
 use Rattle.blocks.proofs.bytes.scaled.put_bilin_scaled_at.Statement.{statement}
 use Rattle.blocks.proofs.bytes.scaled.put_bilin_scaled_at.Tie as tie
 

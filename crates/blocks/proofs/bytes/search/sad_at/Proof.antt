@@ -1,7 +1,7 @@
 -- Made from crates/blocks/proofs/words/search/sad_at/Proof.antt by tools/sets: change that.
 use borrow.Author.Needs.{needs}
-use Rattle.rows.proofs.Laws.Signed.{back}
-use Rattle.blocks.proofs.Laws.SearchReady.{offset-blocks, offset-sad}
+use Rattle.rows.proofs.Laws.Numbers.Signed.{back}
+use Rattle.blocks.proofs.Laws.Search.Ready.{offset-blocks, offset-sad}
 use Rattle.blocks.proofs.bytes.search.sad_at.Statement.{statement}
 use Rattle.blocks.proofs.bytes.search.sad_at.Tie as tie
 

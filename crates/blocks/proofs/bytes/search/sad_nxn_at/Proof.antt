@@ -1,10 +1,10 @@
 -- Made from crates/blocks/proofs/words/search/hv_sad_nxn_16bpc/Proof.antt by tools/sets: change that.
 use borrow.Author.Needs.{needs}
 use mathlib.Core.Path.{sym, _∙_}
-use Rattle.rows.proofs.Laws.Signed.{back}
-use Rattle.blocks.proofs.Laws.Refuse.{refused}
+use Rattle.rows.proofs.Laws.Numbers.Signed.{back}
+use Rattle.blocks.proofs.Laws.Calls.Refuse.{refused}
 use Rattle.blocks.proofs.Laws.bytes.Deep.{deep-limits}
-use Rattle.blocks.proofs.Laws.SearchReady.{sads-ready, sad-blocks, sad-done}
+use Rattle.blocks.proofs.Laws.Search.Ready.{sads-ready, sad-blocks, sad-done}
 use Rattle.blocks.proofs.bytes.search.sad_nxn_at.Statement.{statement}
 use Rattle.blocks.proofs.bytes.search.sad_nxn_at.Tie as tie
 

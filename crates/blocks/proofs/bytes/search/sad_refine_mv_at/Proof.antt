@@ -2,10 +2,10 @@
 use borrow.Author.Needs.{needs}
 use mathlib.Core.Path.{sym, _∙_}
 use mir.Syntax.{w32}
-use Rattle.rows.proofs.Laws.Signed.{back, fit}
-use Rattle.blocks.proofs.Laws.Refuse.{refused}
+use Rattle.rows.proofs.Laws.Numbers.Signed.{back, fit}
+use Rattle.blocks.proofs.Laws.Calls.Refuse.{refused}
 use Rattle.blocks.proofs.Laws.bytes.Deep.{deep-limits}
-use Rattle.blocks.proofs.Laws.SearchReady.{sads-ready, refine-ready, refine-done}
+use Rattle.blocks.proofs.Laws.Search.Ready.{sads-ready, refine-ready, refine-done}
 use Rattle.blocks.proofs.bytes.search.sad_refine_mv_at.Statement.{statement}
 use Rattle.blocks.proofs.bytes.search.sad_refine_mv_at.Tie as tie
 

@@ -3,8 +3,8 @@ use Prim.Native.Nat.{_+_, _-_, _*_, _/_, _≤_}
 use native.Mathlib.Omega.{arith}
 use lib.ListN.{length}
 use Rattle.rows.specs.Search.{rowApart}
-use Rattle.rows.proofs.Laws.Added.{Added, added-none, added-more, added-all}
-use Rattle.blocks.proofs.Laws.SearchReady.{rows-of, from, row-apart, sad-shifted}
+use Rattle.rows.proofs.Laws.Numbers.Added.{Added, added-none, added-more, added-all}
+use Rattle.blocks.proofs.Laws.Search.Ready.{rows-of, from, row-apart, sad-shifted}
 use Rattle.blocks.proofs.bytes.search.sad_sum.Statement.{statement}
 use Rattle.blocks.proofs.bytes.search.sad_sum.Tie as tie
 

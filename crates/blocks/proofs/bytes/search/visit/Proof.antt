@@ -6,8 +6,8 @@ use lib.Dec.{eqb}
 use lib.IntN.{natAbs}
 use Rattle.rows.specs.Places.{pixel}
 use Rattle.rows.specs.Search.{Offset, sadAt}
-use Rattle.rows.proofs.Laws.Signed.{back}
-use Rattle.blocks.proofs.Laws.SearchReady.{visit-centre, visit-other}
+use Rattle.rows.proofs.Laws.Numbers.Signed.{back}
+use Rattle.blocks.proofs.Laws.Search.Ready.{visit-centre, visit-other}
 use Rattle.blocks.proofs.bytes.search.visit.Statement.{statement}
 use Rattle.blocks.proofs.bytes.search.visit.Tie as tie
 

@@ -5,8 +5,8 @@ use mir.Syntax.{w32}
 use mir.Val.{toZ, ofZ}
 use Rattle.rows.specs.Places.{pixel}
 use Rattle.rows.specs.Search.{Offset, sadAt, visit}
-use Rattle.rows.proofs.Laws.Signed.{back}
-use Rattle.blocks.proofs.Laws.SearchReady.{five}
+use Rattle.rows.proofs.Laws.Numbers.Signed.{back}
+use Rattle.blocks.proofs.Laws.Search.Ready.{five}
 use Rattle.blocks.proofs.bytes.search.visit_row.Statement.{statement}
 use Rattle.blocks.proofs.bytes.search.visit_row.Tie as tie
 

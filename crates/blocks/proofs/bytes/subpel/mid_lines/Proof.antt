@@ -5,8 +5,8 @@ use lib.ListN.{length}
 use borrow.Author.Needs.{needs}
 use Rattle.rows.specs.Numbers.{at, half, clip}
 use Rattle.rows.specs.Subpel.{tapped}
-use Rattle.blocks.proofs.Laws.Rows.{Filled, filled-none, filled-more, block-loop}
-use Rattle.blocks.proofs.Laws.SubpelLines.{Turn, turn}
+use Rattle.blocks.proofs.Laws.Loops.Rows.{Filled, filled-none, filled-more, block-loop}
+use Rattle.blocks.proofs.Laws.Subpel.Lines.{Turn, turn}
 use Rattle.blocks.proofs.bytes.subpel.mid_lines.Statement.{statement}
 use Rattle.blocks.proofs.bytes.subpel.mid_lines.Tie as tie
 

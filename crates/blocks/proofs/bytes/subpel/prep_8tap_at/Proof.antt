@@ -2,13 +2,13 @@
 use mathlib.Core.Path.{_≡_, sym, _∙_}
 use lib.ListN.{length}
 use borrow.Author.Needs.{needs}
-use Rattle.rows.proofs.Laws.Signed.{back}
+use Rattle.rows.proofs.Laws.Numbers.Signed.{back}
 use Rattle.blocks.specs.Refuse.{lowest}
 use Rattle.blocks.specs.bytes.Depth.{depthOk}
 use Rattle.blocks.specs.Subpel.{subpelTests}
 use Rattle.blocks.proofs.Laws.bytes.Deep.{deep-bits, deep-bias}
-use Rattle.blocks.proofs.Laws.Refuse.{done, refused}
-use Rattle.blocks.proofs.Laws.SubpelReady.{subpel-ready}
+use Rattle.blocks.proofs.Laws.Calls.Refuse.{done, refused}
+use Rattle.blocks.proofs.Laws.Subpel.Ready.{subpel-ready}
 use Rattle.blocks.proofs.bytes.subpel.prep_8tap_at.Statement.{statement}
 use Rattle.blocks.proofs.bytes.subpel.prep_8tap_at.Tie as tie
 

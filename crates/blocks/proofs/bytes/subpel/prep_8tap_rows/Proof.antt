@@ -2,7 +2,7 @@
 use mathlib.Core.Path.{refl, _∙_}
 use native.Mathlib.Omega.{arith}
 use borrow.Author.Needs.{needs}
-use Rattle.blocks.proofs.Laws.SubpelCases.{Planned, bits-in, one-ready, first-ready, second-ready, prep-block, prep-two}
+use Rattle.blocks.proofs.Laws.Subpel.Cases.{Planned, bits-in, one-ready, first-ready, second-ready, prep-block, prep-two}
 use Rattle.blocks.proofs.bytes.subpel.prep_8tap_rows.Statement.{statement}
 use Rattle.blocks.proofs.bytes.subpel.prep_8tap_rows.Tie as tie
 

@@ -1,9 +1,9 @@
 -- Made from crates/blocks/proofs/words/subpel/put_line_row/Proof.antt by tools/sets: change that.
 use mathlib.Core.Path.{_∙_}
-use Rattle.rows.proofs.Laws.Places.{row-same}
+use Rattle.rows.proofs.Laws.Blocks.Places.{row-same}
 use borrow.Author.Needs.{needs}
 use native.Mathlib.Omega.{arith}
-use Rattle.blocks.proofs.Laws.SubpelLines.{put-none, put-some}
+use Rattle.blocks.proofs.Laws.Subpel.Lines.{put-none, put-some}
 use Rattle.blocks.proofs.bytes.subpel.put_line_row.Statement.{statement}
 use Rattle.blocks.proofs.bytes.subpel.put_line_row.Tie as tie
 

@@ -2,13 +2,13 @@
 use mathlib.Core.Path.{_≡_, sym, _∙_}
 use borrow.Author.Needs.{needs}
 use lib.ListN.{length}
-use Rattle.rows.proofs.Laws.Signed.{back}
+use Rattle.rows.proofs.Laws.Numbers.Signed.{back}
 use Rattle.blocks.specs.Refuse.{lowest}
 use Rattle.blocks.specs.bytes.Depth.{depthOk}
 use Rattle.blocks.specs.Warp.{warpTests}
 use Rattle.blocks.proofs.Laws.bytes.Deep.{deep-bits, deep-bias}
-use Rattle.blocks.proofs.Laws.Refuse.{done, refused}
-use Rattle.blocks.proofs.Laws.WarpReady.{warp-ready}
+use Rattle.blocks.proofs.Laws.Calls.Refuse.{done, refused}
+use Rattle.blocks.proofs.Laws.Warp.Ready.{warp-ready}
 use Rattle.blocks.proofs.bytes.warp.warp_affine_8x8t_at.Statement.{statement}
 use Rattle.blocks.proofs.bytes.warp.warp_affine_8x8t_at.Tie as tie
 

@@ -5,9 +5,9 @@ use lib.IntN.{pos}
 use mir.Syntax.{w16, w32}
 use mir.Val.{toZ}
 use borrow.Author.Needs.{needs}
-use Rattle.rows.proofs.Laws.Signed.{back}
-use Rattle.blocks.proofs.Laws.Rows.{Filled, Turn, filled-none, filled-all, block-loop}
-use Rattle.blocks.proofs.Laws.Passes.{first, column-part, column-more}
+use Rattle.rows.proofs.Laws.Numbers.Signed.{back}
+use Rattle.blocks.proofs.Laws.Loops.Rows.{Filled, Turn, filled-none, filled-all, block-loop}
+use Rattle.blocks.proofs.Laws.Warp.Passes.{first, column-part, column-more}
 use Rattle.blocks.proofs.bytes.warp.warp_mid.Statement.{statement}
 use Rattle.blocks.proofs.bytes.warp.warp_mid.Tie as tie
 

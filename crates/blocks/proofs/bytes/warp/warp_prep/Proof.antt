@@ -3,8 +3,8 @@ use borrow.Author.Needs.{needs}
 use mathlib.Core.Path.{refl, _∙_}
 use mir.Syntax.{w16, w32}
 use native.Mathlib.Omega.{arith}
-use Rattle.blocks.proofs.Laws.Passes.{taps-in, prep-second}
-use Rattle.blocks.proofs.Laws.Told.{told-back}
+use Rattle.blocks.proofs.Laws.Warp.Passes.{taps-in, prep-second}
+use Rattle.blocks.proofs.Laws.Calls.Told.{told-back}
 use Rattle.blocks.proofs.bytes.warp.warp_prep.Statement.{statement}
 use Rattle.blocks.proofs.bytes.warp.warp_prep.Tie as tie
 

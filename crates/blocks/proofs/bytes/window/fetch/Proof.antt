@@ -1,6 +1,6 @@
 -- Made from crates/blocks/proofs/words/window/fetch/Proof.antt by tools/sets: change that.
 use borrow.Author.Needs.{needs}
-use Rattle.blocks.proofs.Laws.WindowReady.{area-filled, area-kept}
+use Rattle.blocks.proofs.Laws.Window.Ready.{area-filled, area-kept}
 use Rattle.blocks.proofs.bytes.window.fetch.Statement.{statement}
 use Rattle.blocks.proofs.bytes.window.fetch.Tie as tie
 

@@ -1,13 +1,13 @@
 use mathlib.Core.Path.{_≡_, sym, _∙_}
 use lib.ListN.{length}
 use borrow.Author.Needs.{needs}
-use Rattle.rows.proofs.Laws.Signed.{back}
+use Rattle.rows.proofs.Laws.Numbers.Signed.{back}
 use Rattle.blocks.specs.Refuse.{lowest}
 use Rattle.blocks.specs.words.Depth.{depthOk}
 use Rattle.blocks.specs.Bilinear.{bilinTests}
-use Rattle.blocks.proofs.Laws.Refuse.{done, refused}
+use Rattle.blocks.proofs.Laws.Calls.Refuse.{done, refused}
 use Rattle.blocks.proofs.Laws.words.Deep.{deep-bits, deep-max}
-use Rattle.blocks.proofs.Laws.BilinReady.{bilin-ready}
+use Rattle.blocks.proofs.Laws.Bilinear.Ready.{bilin-ready}
 use Rattle.blocks.proofs.words.bilinear.hv_put_bilin_16bpc.Statement.{statement}
 use Rattle.blocks.proofs.words.bilinear.hv_put_bilin_16bpc.Tie as tie
 

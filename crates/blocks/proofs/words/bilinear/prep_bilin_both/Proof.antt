@@ -4,9 +4,9 @@ use native.Mathlib.Omega.{arith}
 use borrow.Author.Needs.{needs}
 use mir.Syntax.{w16}
 use mir.Val.{toZ}
-use Rattle.rows.proofs.Laws.Signed.{backn}
-use Rattle.blocks.proofs.Laws.BilinReady.{first, second}
-use Rattle.blocks.proofs.Laws.BilinRule.{prep-twice}
+use Rattle.rows.proofs.Laws.Numbers.Signed.{backn}
+use Rattle.blocks.proofs.Laws.Bilinear.Ready.{first, second}
+use Rattle.blocks.proofs.Laws.Bilinear.Rule.{prep-twice}
 use Rattle.blocks.proofs.words.bilinear.prep_bilin_both.Statement.{statement}
 use Rattle.blocks.proofs.words.bilinear.prep_bilin_both.Tie as tie
 

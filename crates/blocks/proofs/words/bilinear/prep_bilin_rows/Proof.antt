@@ -4,9 +4,9 @@ use native.Mathlib.Omega.{arith}
 use borrow.Author.Needs.{needs}
 use mir.Syntax.{w16}
 use mir.Val.{toZ}
-use Rattle.rows.proofs.Laws.Signed.{backn}
-use Rattle.blocks.proofs.Laws.BilinReady.{copied, across, downward}
-use Rattle.blocks.proofs.Laws.BilinRule.{prep-copied, prep-across, prep-downward}
+use Rattle.rows.proofs.Laws.Numbers.Signed.{backn}
+use Rattle.blocks.proofs.Laws.Bilinear.Ready.{copied, across, downward}
+use Rattle.blocks.proofs.Laws.Bilinear.Rule.{prep-copied, prep-across, prep-downward}
 use Rattle.blocks.proofs.words.bilinear.prep_bilin_rows.Statement.{statement}
 use Rattle.blocks.proofs.words.bilinear.prep_bilin_rows.Tie as tie
 

@@ -1,8 +1,8 @@
 use mathlib.Core.Path.{_≡_, _∙_}
 use native.Mathlib.Omega.{arith}
 use borrow.Author.Needs.{needs}
-use Rattle.blocks.proofs.Laws.BilinReady.{first, second}
-use Rattle.blocks.proofs.Laws.BilinRule.{put-twice}
+use Rattle.blocks.proofs.Laws.Bilinear.Ready.{first, second}
+use Rattle.blocks.proofs.Laws.Bilinear.Rule.{put-twice}
 use Rattle.blocks.proofs.words.bilinear.put_bilin_both.Statement.{statement}
 use Rattle.blocks.proofs.words.bilinear.put_bilin_both.Tie as tie
 

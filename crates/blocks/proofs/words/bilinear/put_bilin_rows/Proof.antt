@@ -1,9 +1,9 @@
 use mathlib.Core.Path.{_∙_}
 use native.Mathlib.Omega.{arith}
 use borrow.Author.Needs.{needs}
-use Rattle.rows.proofs.Laws.Warp.{half-of}
-use Rattle.blocks.proofs.Laws.BilinReady.{copied, across, downward, halves-small}
-use Rattle.blocks.proofs.Laws.BilinRule.{put-copied, put-across, put-downward}
+use Rattle.rows.proofs.Laws.Filters.Warp.{half-of}
+use Rattle.blocks.proofs.Laws.Bilinear.Ready.{copied, across, downward, halves-small}
+use Rattle.blocks.proofs.Laws.Bilinear.Rule.{put-copied, put-across, put-downward}
 use Rattle.blocks.proofs.words.bilinear.put_bilin_rows.Statement.{statement}
 use Rattle.blocks.proofs.words.bilinear.put_bilin_rows.Tie as tie
 

@@ -4,9 +4,9 @@ use lib.ListN.{length}
 use borrow.Author.Needs.{needs}
 use Rattle.rows.specs.Places.{pixel}
 use Rattle.rows.specs.Combine.{blend}
-use Rattle.blocks.proofs.Laws.Rows.{Filled, filled-none, filled-span, row-in, block-loop}
-use Rattle.blocks.proofs.Laws.InPlace.{filled-over}
-use Rattle.blocks.proofs.Laws.Above.{at-most-row}
+use Rattle.blocks.proofs.Laws.Loops.Rows.{Filled, filled-none, filled-span, row-in, block-loop}
+use Rattle.blocks.proofs.Laws.Loops.InPlace.{filled-over}
+use Rattle.blocks.proofs.Laws.Blend.Above.{at-most-row}
 use Rattle.blocks.proofs.words.blend.blend_rows.Statement.{statement}
 use Rattle.blocks.proofs.words.blend.blend_rows.Tie as tie
 

@@ -3,7 +3,7 @@ use lib.ListN.{length}
 use borrow.Author.Needs.{needs}
 use Rattle.blocks.specs.Refuse.{lowest}
 use Rattle.blocks.specs.Blend.{blendShape}
-use Rattle.blocks.proofs.Laws.BlendReady.{blend-ready, Searched, blend-refused, blend-above, blend-rows, blend-done}
+use Rattle.blocks.proofs.Laws.Blend.Ready.{blend-ready, Searched, blend-refused, blend-above, blend-rows, blend-done}
 use Rattle.blocks.proofs.words.blend.hv_blend_16bpc.Statement.{statement}
 use Rattle.blocks.proofs.words.blend.hv_blend_16bpc.Tie as tie
 

@@ -4,8 +4,8 @@ use lib.ListN.{length}
 use borrow.Author.Needs.{needs}
 use Rattle.rows.specs.Places.{pixel}
 use Rattle.rows.specs.Combine.{masked, both}
-use Rattle.rows.proofs.Laws.Places.{row-fits}
-use Rattle.blocks.proofs.Laws.Rows.{Filled, filled-none, Turn, turn, row-in, block-loop}
+use Rattle.rows.proofs.Laws.Blocks.Places.{row-fits}
+use Rattle.blocks.proofs.Laws.Loops.Rows.{Filled, filled-none, Turn, turn, row-in, block-loop}
 use Rattle.blocks.proofs.words.combine.mask_rows.Statement.{statement}
 use Rattle.blocks.proofs.words.combine.mask_rows.Tie as tie
 

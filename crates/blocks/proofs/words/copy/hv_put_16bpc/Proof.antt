@@ -1,7 +1,7 @@
 use mathlib.Core.Path.{sym, _∙_}
 use borrow.Author.Needs.{needs}
-use Rattle.blocks.proofs.Laws.Refuse.{done, refused}
-use Rattle.blocks.proofs.Laws.CopyReady.{put-ready}
+use Rattle.blocks.proofs.Laws.Calls.Refuse.{done, refused}
+use Rattle.blocks.proofs.Laws.Copy.Ready.{put-ready}
 use Rattle.blocks.proofs.words.copy.hv_put_16bpc.Statement.{statement}
 use Rattle.blocks.proofs.words.copy.hv_put_16bpc.Tie as tie
 

@@ -5,7 +5,7 @@ use lib.ListN.{length}
 use borrow.Author.Needs.{needs}
 use Rattle.rows.specs.Places.{pixel}
 use Rattle.rows.specs.Copy.{prep}
-use Rattle.blocks.proofs.Laws.Rows.{Filled, filled-none, filled-more, Turn, turn, row-in, block-loop}
+use Rattle.blocks.proofs.Laws.Loops.Rows.{Filled, filled-none, filled-more, Turn, turn, row-in, block-loop}
 use Rattle.blocks.proofs.words.copy.prep_rows.Statement.{statement}
 use Rattle.blocks.proofs.words.copy.prep_rows.Tie as tie
 

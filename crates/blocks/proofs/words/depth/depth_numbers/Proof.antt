@@ -1,7 +1,7 @@
 use borrow.Author.Needs.{needs}
 use mathlib.Core.Path.{_≡_, ap, _∙_}
 use Rattle.rows.specs.Numbers.{up}
-use Rattle.rows.proofs.Laws.Signed.{back}
+use Rattle.rows.proofs.Laws.Numbers.Signed.{back}
 use Rattle.blocks.proofs.Laws.words.Deep.{deep-high}
 use Rattle.blocks.proofs.words.depth.depth_numbers.Statement.{statement}
 use Rattle.blocks.proofs.words.depth.depth_numbers.Tie as tie

@@ -1,5 +1,5 @@
 use borrow.Author.Needs.{needs}
-use Rattle.rows.proofs.Laws.Signed.{back}
+use Rattle.rows.proofs.Laws.Numbers.Signed.{back}
 use Rattle.blocks.specs.words.Depth.{depthOk}
 use Rattle.blocks.proofs.words.depth.depth_ok.Statement.{statement}
 use Rattle.blocks.proofs.words.depth.depth_ok.Tie as tie

@@ -4,9 +4,9 @@ use native.Mathlib.Omega.{arith}
 use lib.ListN.{length}
 use mir.Syntax.{w64}
 use Rattle.rows.specs.Edge.{edge}
-use Rattle.blocks.proofs.Laws.Rows.{Filled, filled-none, filled-more, filled-all, filled-span, row-in}
-use Rattle.blocks.proofs.Laws.EdgeReady.{turn, row-is}
-use Rattle.blocks.proofs.Laws.Told.{told-one}
+use Rattle.blocks.proofs.Laws.Loops.Rows.{Filled, filled-none, filled-more, filled-all, filled-span, row-in}
+use Rattle.blocks.proofs.Laws.Edge.Ready.{turn, row-is}
+use Rattle.blocks.proofs.Laws.Calls.Told.{told-one}
 use Rattle.blocks.proofs.words.edge.edge_rows.Statement.{statement}
 use Rattle.blocks.proofs.words.edge.edge_rows.Tie as tie
 

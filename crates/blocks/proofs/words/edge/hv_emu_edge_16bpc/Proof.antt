@@ -1,8 +1,8 @@
 use mathlib.Core.Path.{sym, _∙_}
 use borrow.Author.Needs.{needs}
-use Rattle.rows.proofs.Laws.Signed.{back}
-use Rattle.blocks.proofs.Laws.Refuse.{done, refused}
-use Rattle.blocks.proofs.Laws.EdgeReady.{edge-ready}
+use Rattle.rows.proofs.Laws.Numbers.Signed.{back}
+use Rattle.blocks.proofs.Laws.Calls.Refuse.{done, refused}
+use Rattle.blocks.proofs.Laws.Edge.Ready.{edge-ready}
 use Rattle.blocks.proofs.words.edge.hv_emu_edge_16bpc.Statement.{statement}
 use Rattle.blocks.proofs.words.edge.hv_emu_edge_16bpc.Tie as tie
 

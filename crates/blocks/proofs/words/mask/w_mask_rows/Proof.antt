@@ -1,8 +1,8 @@
 use mathlib.Core.Path.{_∙_}
 use native.Mathlib.Omega.{arith}
 use borrow.Author.Needs.{needs}
-use Rattle.blocks.proofs.Laws.MaskReady.{each-met}
-use Rattle.blocks.proofs.Laws.Weighed.{weigh, mixedBy, Kept, kept, kept-room}
+use Rattle.blocks.proofs.Laws.Mask.Ready.{each-met}
+use Rattle.blocks.proofs.Laws.Mask.Weighed.{weigh, mixedBy, Kept, kept, kept-room}
 use Rattle.blocks.proofs.words.mask.w_mask_rows.Statement.{statement}
 use Rattle.blocks.proofs.words.mask.w_mask_rows.Tie as tie
 

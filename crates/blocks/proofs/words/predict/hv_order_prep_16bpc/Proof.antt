@@ -3,12 +3,12 @@ use mathlib.Core.Path.{_≡_, sym, ap, _∙_}
 use mathlib.Core.Bool.{true}
 use mir.Syntax.{w32}
 use Rattle.rows.specs.Numbers.{up}
-use Rattle.rows.proofs.Laws.Signed.{back}
+use Rattle.rows.proofs.Laws.Numbers.Signed.{back}
 use Rattle.blocks.specs.words.Depth.{depthOk}
 use Rattle.blocks.specs.Order.{kindOf}
 use Rattle.blocks.proofs.Laws.words.Deep.{deep-bits, deep-bias}
-use Rattle.blocks.proofs.Laws.Told.{passed}
-use Rattle.blocks.proofs.Laws.Orders.{part-number, ordered, ordered-deep, order-part, order-rows, prep-done, prep-refused, order-passed, prep-passed}
+use Rattle.blocks.proofs.Laws.Calls.Told.{passed}
+use Rattle.blocks.proofs.Laws.Order.Run.{part-number, ordered, ordered-deep, order-part, order-rows, prep-done, prep-refused, order-passed, prep-passed}
 use Rattle.blocks.proofs.words.predict.hv_order_prep_16bpc.Statement.{statement}
 use Rattle.blocks.proofs.words.predict.hv_order_prep_16bpc.Tie as tie
 

@@ -1,6 +1,6 @@
 use borrow.Author.Needs.{needs}
-use Rattle.rows.proofs.Laws.Signed.{back}
-use Rattle.blocks.proofs.Laws.WindowReady.{part-answer}
+use Rattle.rows.proofs.Laws.Numbers.Signed.{back}
+use Rattle.blocks.proofs.Laws.Window.Ready.{part-answer}
 use Rattle.blocks.proofs.words.row.hv_row_16bpc.Statement.{statement}
 use Rattle.blocks.proofs.words.row.hv_row_16bpc.Tie as tie
 

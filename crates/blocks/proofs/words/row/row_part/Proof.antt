@@ -2,9 +2,9 @@ use borrow.Author.Needs.{needs}
 use mathlib.Core.Path.{_≡_, ap, _∙_}
 use mathlib.Core.List.{[]}
 use lib.ListN.{length}
-use Rattle.rows.proofs.Laws.Signed.{back}
+use Rattle.rows.proofs.Laws.Numbers.Signed.{back}
 use Rattle.blocks.specs.Window.{rowAt, partOf}
-use Rattle.blocks.proofs.Laws.WindowRows.{row-in-plane}
+use Rattle.blocks.proofs.Laws.Window.Rows.{row-in-plane}
 use Rattle.blocks.specs.declared.window.Part.{Part}
 use Rattle.blocks.proofs.words.row.row_part.Statement.{statement}
 use Rattle.blocks.proofs.words.row.row_part.Tie as tie

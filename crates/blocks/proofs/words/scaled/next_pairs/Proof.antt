@@ -5,9 +5,9 @@ use lib.ListN.{length}
 use native.Mathlib.Omega.{arith}
 use borrow.Author.Needs.{needs}
 use Rattle.rows.specs.Places.{span}
-use Rattle.rows.proofs.Laws.Places.{span-length}
+use Rattle.rows.proofs.Laws.Blocks.Places.{span-length}
 use Rattle.blocks.specs.Scaled.{LastTwo, pairLineOf}
-use Rattle.blocks.proofs.Laws.ScaledPairs.{two-more, pair-start, pairs-fetched, tabled-line}
+use Rattle.blocks.proofs.Laws.Scaled.Pairs.{two-more, pair-start, pairs-fetched, tabled-line}
 use Rattle.blocks.proofs.words.scaled.next_pairs.Statement.{statement}
 use Rattle.blocks.proofs.words.scaled.next_pairs.Tie as tie
 

@@ -5,7 +5,7 @@ use Prim.Native.Nat.{ℕ, _+_, _-_, _*_, _%_, _≤_, _<_}
 use lib.ListN.{length, getD}
 use Rattle.rows.specs.Scaled.{position, Fetched}
 use Rattle.blocks.specs.Scaled.{lineOf, LastEight}
-use Rattle.blocks.proofs.Laws.ScaledRows.{eight-order, eight-more}
+use Rattle.blocks.proofs.Laws.Scaled.Rows.{eight-order, eight-more}
 use Rattle.blocks.proofs.words.scaled.next_rows.Statement.{statement}
 use Rattle.blocks.proofs.words.scaled.next_rows.Tie as tie
 

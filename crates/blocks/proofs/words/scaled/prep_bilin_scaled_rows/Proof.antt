@@ -8,9 +8,9 @@ use mir.Syntax.{w16}
 use mir.Val.{toZ}
 use Rattle.rows.specs.Numbers.{low16, minus16}
 use Rattle.rows.specs.Bilinear.{R}
-use Rattle.rows.proofs.Laws.Signed.{backn}
-use Rattle.blocks.proofs.Laws.Rows.{filled-all}
-use Rattle.blocks.proofs.Laws.ScaledPairs.{PairLoop, pair-none, PairTurn, pair-turn, pair-more, parity-small}
+use Rattle.rows.proofs.Laws.Numbers.Signed.{backn}
+use Rattle.blocks.proofs.Laws.Loops.Rows.{filled-all}
+use Rattle.blocks.proofs.Laws.Scaled.Pairs.{PairLoop, pair-none, PairTurn, pair-turn, pair-more, parity-small}
 use Rattle.blocks.proofs.words.scaled.prep_bilin_scaled_rows.Statement.{statement}
 use Rattle.blocks.proofs.words.scaled.prep_bilin_scaled_rows.Tie as tie
 

@@ -4,12 +4,12 @@ use native.Mathlib.Omega.{arith}
 use Prim.Native.Nat.{_+_, _-_, _*_, _≤_, _<_, _^_}
 use lib.ListN.{length}
 use Rattle.rows.specs.Scaled.{position, pixelOf, sixteenth, inFamily, putDown}
-use Rattle.rows.proofs.Laws.Places.{row-same}
-use Rattle.rows.proofs.Laws.Scaled.{position-lt}
+use Rattle.rows.proofs.Laws.Blocks.Places.{row-same}
+use Rattle.rows.proofs.Laws.Filters.Scaled.{position-lt}
 use Rattle.blocks.specs.Scaled.{lineOf, LastEight}
-use Rattle.blocks.proofs.Laws.Rows.{Filled, filled-none, filled-more, filled-all, Turn, turn}
-use Rattle.blocks.proofs.Laws.ScaledRows.{eight-none, eight-turned, eight-at}
-use Rattle.blocks.proofs.Laws.ScaledLines.{put-down-same, row-on, row-last, filtered-less}
+use Rattle.blocks.proofs.Laws.Loops.Rows.{Filled, filled-none, filled-more, filled-all, Turn, turn}
+use Rattle.blocks.proofs.Laws.Scaled.Rows.{eight-none, eight-turned, eight-at}
+use Rattle.blocks.proofs.Laws.Scaled.Lines.{put-down-same, row-on, row-last, filtered-less}
 use Rattle.blocks.proofs.words.scaled.put_8tap_scaled_rows.Statement.{statement}
 use Rattle.blocks.proofs.words.scaled.put_8tap_scaled_rows.Tie as tie
 

@@ -5,8 +5,8 @@ use native.Mathlib.Omega.{arith}
 use borrow.Author.Needs.{needs}
 use Rattle.rows.specs.Numbers.{clip}
 use Rattle.rows.specs.Bilinear.{R}
-use Rattle.blocks.proofs.Laws.Rows.{filled-all}
-use Rattle.blocks.proofs.Laws.ScaledPairs.{PairLoop, pair-none, PairTurn, pair-turn, pair-more, parity-small}
+use Rattle.blocks.proofs.Laws.Loops.Rows.{filled-all}
+use Rattle.blocks.proofs.Laws.Scaled.Pairs.{PairLoop, pair-none, PairTurn, pair-turn, pair-more, parity-small}
 use Rattle.blocks.proofs.words.scaled.put_bilin_scaled_rows.Statement.{statement}
 use Rattle.blocks.proofs.words.scaled.put_bilin_scaled_rows.Tie as tie
 

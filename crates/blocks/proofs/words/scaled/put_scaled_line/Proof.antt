@@ -4,7 +4,7 @@ use native.Mathlib.Omega.{arith}
 use Prim.Native.Nat.{_≤_, _<_}
 use lib.Dec.{T}
 use lib.ListN.{getD}
-use Rattle.blocks.proofs.Laws.ScaledLines.{turned-lt, put-line-whole, put-line-by}
+use Rattle.blocks.proofs.Laws.Scaled.Lines.{turned-lt, put-line-whole, put-line-by}
 use Rattle.blocks.proofs.words.scaled.put_scaled_line.Statement.{statement}
 use Rattle.blocks.proofs.words.scaled.put_scaled_line.Tie as tie
 

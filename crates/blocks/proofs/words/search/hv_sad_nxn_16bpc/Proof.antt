@@ -1,9 +1,9 @@
 use borrow.Author.Needs.{needs}
 use mathlib.Core.Path.{sym, _∙_}
-use Rattle.rows.proofs.Laws.Signed.{back}
-use Rattle.blocks.proofs.Laws.Refuse.{refused}
+use Rattle.rows.proofs.Laws.Numbers.Signed.{back}
+use Rattle.blocks.proofs.Laws.Calls.Refuse.{refused}
 use Rattle.blocks.proofs.Laws.words.Deep.{deep-limits}
-use Rattle.blocks.proofs.Laws.SearchReady.{sads-ready, sad-blocks, sad-done}
+use Rattle.blocks.proofs.Laws.Search.Ready.{sads-ready, sad-blocks, sad-done}
 use Rattle.blocks.proofs.words.search.hv_sad_nxn_16bpc.Statement.{statement}
 use Rattle.blocks.proofs.words.search.hv_sad_nxn_16bpc.Tie as tie
 

@@ -1,6 +1,6 @@
 use borrow.Author.Needs.{needs}
-use Rattle.rows.proofs.Laws.Signed.{back}
-use Rattle.blocks.proofs.Laws.SearchReady.{offset-blocks, offset-sad}
+use Rattle.rows.proofs.Laws.Numbers.Signed.{back}
+use Rattle.blocks.proofs.Laws.Search.Ready.{offset-blocks, offset-sad}
 use Rattle.blocks.proofs.words.search.sad_at.Statement.{statement}
 use Rattle.blocks.proofs.words.search.sad_at.Tie as tie
 

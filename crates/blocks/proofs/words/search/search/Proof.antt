@@ -2,7 +2,7 @@ use borrow.Author.Needs.{needs}
 use Prim.Native.Nat.{ℕ}
 use Rattle.rows.specs.Places.{pixel}
 use Rattle.rows.specs.Search as spec
-use Rattle.blocks.proofs.Laws.SearchReady.{five}
+use Rattle.blocks.proofs.Laws.Search.Ready.{five}
 use Rattle.blocks.proofs.words.search.search.Statement.{statement}
 use Rattle.blocks.proofs.words.search.search.Tie as tie
 

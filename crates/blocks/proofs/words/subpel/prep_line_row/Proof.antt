@@ -1,11 +1,11 @@
 use mathlib.Core.Path.{_∙_}
-use Rattle.rows.proofs.Laws.Places.{row-same}
+use Rattle.rows.proofs.Laws.Blocks.Places.{row-same}
 use lib.IntN.{pos}
 use borrow.Author.Needs.{needs}
 use native.Mathlib.Omega.{arith}
 use mir.Syntax.{w16}
-use Rattle.rows.proofs.Laws.Signed.{backn}
-use Rattle.blocks.proofs.Laws.SubpelLines.{prep-none, prep-some}
+use Rattle.rows.proofs.Laws.Numbers.Signed.{backn}
+use Rattle.blocks.proofs.Laws.Subpel.Lines.{prep-none, prep-some}
 use Rattle.blocks.proofs.words.subpel.prep_line_row.Statement.{statement}
 use Rattle.blocks.proofs.words.subpel.prep_line_row.Tie as tie
 

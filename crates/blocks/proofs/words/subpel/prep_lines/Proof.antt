@@ -4,8 +4,8 @@ use lib.ListN.{length}
 use lib.IntN.{pos}
 use borrow.Author.Needs.{needs}
 use Rattle.blocks.specs.Subpel.{prepLine, along}
-use Rattle.blocks.proofs.Laws.Rows.{Filled, filled-none, filled-more, block-loop}
-use Rattle.blocks.proofs.Laws.SubpelLines.{Turn, turn}
+use Rattle.blocks.proofs.Laws.Loops.Rows.{Filled, filled-none, filled-more, block-loop}
+use Rattle.blocks.proofs.Laws.Subpel.Lines.{Turn, turn}
 use Rattle.blocks.proofs.words.subpel.prep_lines.Statement.{statement}
 use Rattle.blocks.proofs.words.subpel.prep_lines.Tie as tie
 

@@ -1,7 +1,7 @@
 use mathlib.Core.Path.{refl, _∙_}
 use native.Mathlib.Omega.{arith}
 use borrow.Author.Needs.{needs}
-use Rattle.blocks.proofs.Laws.SubpelCases.{Planned, bits-in, one-ready, first-ready, second-ready, put-block, put-two}
+use Rattle.blocks.proofs.Laws.Subpel.Cases.{Planned, bits-in, one-ready, first-ready, second-ready, put-block, put-two}
 use Rattle.blocks.proofs.words.subpel.put_8tap_rows.Statement.{statement}
 use Rattle.blocks.proofs.words.subpel.put_8tap_rows.Tie as tie
 

@@ -3,8 +3,8 @@ use Prim.Native.Nat.{_-_}
 use lib.ListN.{length}
 use borrow.Author.Needs.{needs}
 use Rattle.blocks.specs.Subpel.{putLine, along}
-use Rattle.blocks.proofs.Laws.Rows.{Filled, filled-none, block-loop}
-use Rattle.blocks.proofs.Laws.SubpelLines.{Turn, turn}
+use Rattle.blocks.proofs.Laws.Loops.Rows.{Filled, filled-none, block-loop}
+use Rattle.blocks.proofs.Laws.Subpel.Lines.{Turn, turn}
 use Rattle.blocks.proofs.words.subpel.put_lines.Statement.{statement}
 use Rattle.blocks.proofs.words.subpel.put_lines.Tie as tie
 

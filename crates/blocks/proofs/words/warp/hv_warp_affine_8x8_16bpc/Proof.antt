@@ -1,13 +1,13 @@
 use mathlib.Core.Path.{_≡_, sym, _∙_}
 use borrow.Author.Needs.{needs}
 use lib.ListN.{length}
-use Rattle.rows.proofs.Laws.Signed.{back}
+use Rattle.rows.proofs.Laws.Numbers.Signed.{back}
 use Rattle.blocks.specs.Refuse.{lowest}
 use Rattle.blocks.specs.words.Depth.{depthOk}
 use Rattle.blocks.specs.Warp.{warpTests}
 use Rattle.blocks.proofs.Laws.words.Deep.{deep-bits, deep-max}
-use Rattle.blocks.proofs.Laws.Refuse.{done, refused}
-use Rattle.blocks.proofs.Laws.WarpReady.{warp-ready}
+use Rattle.blocks.proofs.Laws.Calls.Refuse.{done, refused}
+use Rattle.blocks.proofs.Laws.Warp.Ready.{warp-ready}
 use Rattle.blocks.proofs.words.warp.hv_warp_affine_8x8_16bpc.Statement.{statement}
 use Rattle.blocks.proofs.words.warp.hv_warp_affine_8x8_16bpc.Tie as tie
 

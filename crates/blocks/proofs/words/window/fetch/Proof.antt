@@ -1,5 +1,5 @@
 use borrow.Author.Needs.{needs}
-use Rattle.blocks.proofs.Laws.WindowReady.{area-filled, area-kept}
+use Rattle.blocks.proofs.Laws.Window.Ready.{area-filled, area-kept}
 use Rattle.blocks.proofs.words.window.fetch.Statement.{statement}
 use Rattle.blocks.proofs.words.window.fetch.Tie as tie
 

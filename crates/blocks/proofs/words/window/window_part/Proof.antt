@@ -1,9 +1,9 @@
 use borrow.Author.Needs.{needs}
 use mathlib.Core.Path.{_≡_, ap, _∙_}
 use lib.ListN.{length}
-use Rattle.rows.proofs.Laws.Signed.{back}
+use Rattle.rows.proofs.Laws.Numbers.Signed.{back}
 use Rattle.blocks.specs.Window.{windowOf, partOf}
-use Rattle.blocks.proofs.Laws.Window.{window-in}
+use Rattle.blocks.proofs.Laws.Window.Holds.{window-in}
 use Rattle.blocks.specs.declared.window.Part.{Part}
 use Rattle.blocks.proofs.words.window.window_part.Statement.{statement}
 use Rattle.blocks.proofs.words.window.window_part.Tie as tie

@@ -5,7 +5,7 @@ use lib.IntN.{pos}
 use lib.ListN.{getD}
 use mir.Syntax.{w32}
 use mir.Val.{toZ}
-use Rattle.rows.proofs.Laws.Bilinear.{Widened, pixel-widened, between-is}
+use Rattle.rows.proofs.Laws.Filters.Bilinear.{Widened, pixel-widened, between-is}
 use Rattle.rows.proofs.bytes.between.between_u8.Statement.{statement}
 use Rattle.rows.proofs.bytes.between.between_u8.Tie as tie
 

@@ -3,8 +3,8 @@ use native.Mathlib.Omega.{arith}
 use mir.Syntax.{w16, w32}
 use mir.Val.{SFits}
 use Rattle.rows.specs.Bilinear.{R}
-use Rattle.rows.proofs.Laws.Bilinear.{half-small}
-use Rattle.rows.proofs.Laws.Signed.{back, rd}
+use Rattle.rows.proofs.Laws.Filters.Bilinear.{half-small}
+use Rattle.rows.proofs.Laws.Numbers.Signed.{back, rd}
 use Rattle.rows.proofs.bytes.between.prep_between.Statement.{statement}
 use Rattle.rows.proofs.bytes.between.prep_between.Tie as tie
 

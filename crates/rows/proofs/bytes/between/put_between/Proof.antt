@@ -2,7 +2,7 @@ use borrow.Author.Needs.{needs}
 use native.Mathlib.Omega.{arith}
 use mir.Syntax.{w32}
 use mir.Val.{SFits}
-use Rattle.rows.proofs.Laws.Signed.{back, rd}
+use Rattle.rows.proofs.Laws.Numbers.Signed.{back, rd}
 use Rattle.rows.proofs.bytes.between.put_between.Statement.{statement}
 use Rattle.rows.proofs.bytes.between.put_between.Tie as tie
 

@@ -6,8 +6,8 @@ use lib.ListN.{length}
 use lib.Signed.{shrZ}
 use Rattle.rows.specs.Numbers.{clip, px}
 use Rattle.rows.specs.Bilinear.{R, bilinAt}
-use Rattle.rows.proofs.Laws.Row.{Upto, upto-none, upto-more, upto-all}
-use Rattle.rows.proofs.Laws.Bilinear.{put-at}
+use Rattle.rows.proofs.Laws.Blocks.Row.{Upto, upto-none, upto-more, upto-all}
+use Rattle.rows.proofs.Laws.Filters.Bilinear.{put-at}
 use Rattle.rows.proofs.bytes.bilinear.put_bilin_row.Statement.{statement}
 use Rattle.rows.proofs.bytes.bilinear.put_bilin_row.Tie as tie
 

@@ -5,8 +5,8 @@ use lib.ListN.{length, getD}
 use mir.Syntax.{w32}
 use mir.Val.{toZ}
 use Rattle.rows.specs.Combine.{morph}
-use Rattle.rows.proofs.Laws.Over.{Over, over-none, over-here, over-more, over-all}
-use Rattle.rows.proofs.Laws.Signed.{back}
+use Rattle.rows.proofs.Laws.Blocks.Over.{Over, over-none, over-here, over-more, over-all}
+use Rattle.rows.proofs.Laws.Numbers.Signed.{back}
 use Rattle.rows.proofs.bytes.blend.morph_row.Statement.{statement}
 use Rattle.rows.proofs.bytes.blend.morph_row.Tie as tie
 

@@ -5,8 +5,8 @@ use mathlib.Core.Path.{_∙_}
 use Prim.Native.Nat.{_-_}
 use lib.ListN.{length}
 use Rattle.rows.specs.Combine.{avg, both}
-use Rattle.rows.proofs.Laws.Pixel.{read-both}
-use Rattle.rows.proofs.Laws.Row.{Upto, upto-more, row-loop}
+use Rattle.rows.proofs.Laws.Pixels.Pixel.{read-both}
+use Rattle.rows.proofs.Laws.Blocks.Row.{Upto, upto-more, row-loop}
 use Rattle.rows.proofs.bytes.combine.avg_row.Statement.{statement}
 use Rattle.rows.proofs.bytes.combine.avg_row.Tie as tie
 

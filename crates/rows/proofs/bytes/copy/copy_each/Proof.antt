@@ -1,7 +1,7 @@
 -- Made from crates/rows/proofs/words/copy/copy_each/Proof.antt by tools/sets: change that.
 use Prim.Native.Nat.{_+_, _-_}
 use lib.ListN.{length, getD}
-use Rattle.rows.proofs.Laws.Row.{Upto, row-loop}
+use Rattle.rows.proofs.Laws.Blocks.Row.{Upto, row-loop}
 use Rattle.rows.proofs.bytes.copy.copy_each.Statement.{statement}
 use Rattle.rows.proofs.bytes.copy.copy_each.Tie as tie
 

@@ -3,7 +3,7 @@ use mathlib.Core.Path.{refl}
 use Prim.Native.Nat.{_+_, _-_}
 use native.Mathlib.Omega.{arith}
 use lib.ListN.{length, getD}
-use Rattle.rows.proofs.Laws.Row.{Upto, upto-none, upto-more, upto-through}
+use Rattle.rows.proofs.Laws.Blocks.Row.{Upto, upto-none, upto-more, upto-through}
 use Rattle.rows.proofs.bytes.copy.copy_whole.Statement.{statement}
 use Rattle.rows.proofs.bytes.copy.copy_whole.Tie as tie
 

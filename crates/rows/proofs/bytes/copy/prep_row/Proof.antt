@@ -7,8 +7,8 @@ use lib.ListN.{length, getD}
 use mir.Syntax.{w16}
 use mir.Val.{SFits}
 use Rattle.rows.specs.Copy.{prep}
-use Rattle.rows.proofs.Laws.Signed.{back}
-use Rattle.rows.proofs.Laws.Row.{Upto, upto-none, upto-more, upto-all}
+use Rattle.rows.proofs.Laws.Numbers.Signed.{back}
+use Rattle.rows.proofs.Laws.Blocks.Row.{Upto, upto-none, upto-more, upto-all}
 use Rattle.rows.proofs.bytes.copy.prep_row.Statement.{statement}
 use Rattle.rows.proofs.bytes.copy.prep_row.Tie as tie
 

@@ -7,9 +7,9 @@ use lib.ListN.{length, getD}
 use mir.Syntax.{w16}
 use mir.Val.{SFits}
 use Rattle.rows.specs.Scaled.{position, sixteenth, inFamily, scaledMid, eightAt}
-use Rattle.rows.proofs.Laws.Part.{PartUpto, part-none, part-more, part-all}
-use Rattle.rows.proofs.Laws.Scaled.{position-lt}
-use Rattle.rows.proofs.Laws.Signed.{back}
+use Rattle.rows.proofs.Laws.Blocks.Part.{PartUpto, part-none, part-more, part-all}
+use Rattle.rows.proofs.Laws.Filters.Scaled.{position-lt}
+use Rattle.rows.proofs.Laws.Numbers.Signed.{back}
 use Rattle.rows.proofs.bytes.scaled.scaled_row.Statement.{statement}
 use Rattle.rows.proofs.bytes.scaled.scaled_row.Tie as tie
 

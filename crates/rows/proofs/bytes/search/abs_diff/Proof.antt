@@ -6,7 +6,7 @@ use Prim.Native.Nat.{_<_}
 use lib.IntN.{ℤ, pos, natAbs, _-ℤ_}
 use mir.Syntax.{w32}
 use mir.Val.{SFits, toZ}
-use Rattle.rows.proofs.Laws.Signed.{back, backn, abs-parts, fit-abs, sub-parts, one-part, turned, above}
+use Rattle.rows.proofs.Laws.Numbers.Signed.{back, backn, abs-parts, fit-abs, sub-parts, one-part, turned, above}
 use Rattle.rows.proofs.bytes.search.abs_diff.Statement.{statement}
 use Rattle.rows.proofs.bytes.search.abs_diff.Tie as tie
 

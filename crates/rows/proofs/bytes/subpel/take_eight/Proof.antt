@@ -3,7 +3,7 @@ use mathlib.Core.Path.{refl}
 use Prim.Native.Nat.{_-_}
 use native.Mathlib.Omega.{arith}
 use lib.ListN.{length, getD}
-use Rattle.rows.proofs.Laws.Row.{Upto, upto-none, upto-more, upto-all}
+use Rattle.rows.proofs.Laws.Blocks.Row.{Upto, upto-none, upto-more, upto-all}
 use Rattle.rows.proofs.bytes.subpel.take_eight.Statement.{statement}
 use Rattle.rows.proofs.bytes.subpel.take_eight.Tie as tie
 

@@ -6,8 +6,8 @@ use mir.Syntax.{w32}
 use mir.Val.{SFits}
 use Rattle.rows.specs.Numbers.{clip, px}
 use Rattle.rows.specs.Subpel.{tapped}
-use Rattle.rows.proofs.Laws.Row.{Upto, upto-none, upto-more, upto-all}
-use Rattle.rows.proofs.Laws.Signed.{back}
+use Rattle.rows.proofs.Laws.Blocks.Row.{Upto, upto-none, upto-more, upto-all}
+use Rattle.rows.proofs.Laws.Numbers.Signed.{back}
 use Rattle.rows.proofs.bytes.subpel.tap_by.Statement.{statement}
 use Rattle.rows.proofs.bytes.subpel.tap_by.Tie as tie
 

@@ -3,7 +3,7 @@ use lib.Dec.{T}
 use mathlib.Core.Path.{sym, subst}
 use native.Mathlib.Omega.{arith}
 use borrow.Author.Needs.{needs}
-use Rattle.rows.proofs.Laws.Near.{row-copied}
+use Rattle.rows.proofs.Laws.Filters.Near.{row-copied}
 use Rattle.rows.proofs.bytes.subpel.tap_row.Statement.{statement}
 use Rattle.rows.proofs.bytes.subpel.tap_row.Tie as tie
 

@@ -3,8 +3,8 @@ use mir.Syntax.{w16}
 use mir.Val.{SFits}
 use borrow.Author.Needs.{needs}
 use Rattle.rows.specs.Subpel.{tapped}
-use Rattle.rows.proofs.Laws.Near.{rounded-is}
-use Rattle.rows.proofs.Laws.Signed.{back, back16, reading}
+use Rattle.rows.proofs.Laws.Filters.Near.{rounded-is}
+use Rattle.rows.proofs.Laws.Numbers.Signed.{back, back16, reading}
 use Rattle.rows.proofs.bytes.sums.rounded_taps.Statement.{statement}
 use Rattle.rows.proofs.bytes.sums.rounded_taps.Tie as tie
 

@@ -2,7 +2,7 @@ use borrow.Author.Needs.{needs}
 use native.Mathlib.Omega.{arith}
 use Prim.Native.Nat.{_+_, _-_, _*_, _≤_}
 use lib.IntN.{pos}
-use Rattle.rows.proofs.Laws.Bilinear.{weighed, bytes-le}
+use Rattle.rows.proofs.Laws.Filters.Bilinear.{weighed, bytes-le}
 use Rattle.rows.proofs.words.between.bilin_bytes.Statement.{statement}
 use Rattle.rows.proofs.words.between.bilin_bytes.Tie as tie
 

@@ -3,8 +3,8 @@ use native.Mathlib.Omega.{arith}
 use mir.Syntax.{w16}
 use mir.Val.{SFits}
 use Rattle.rows.specs.Bilinear.{R}
-use Rattle.rows.proofs.Laws.Signed.{back, backn}
-use Rattle.rows.proofs.Laws.Bilinear.{sum-joined, half-small}
+use Rattle.rows.proofs.Laws.Numbers.Signed.{back, backn}
+use Rattle.rows.proofs.Laws.Filters.Bilinear.{sum-joined, half-small}
 use Rattle.rows.proofs.words.between.prep_between.Statement.{statement}
 use Rattle.rows.proofs.words.between.prep_between.Tie as tie
 

@@ -1,6 +1,6 @@
 use borrow.Author.Needs.{needs}
 use native.Mathlib.Omega.{arith}
-use Rattle.rows.proofs.Laws.Bilinear.{sum-joined}
+use Rattle.rows.proofs.Laws.Filters.Bilinear.{sum-joined}
 use Rattle.rows.proofs.words.between.put_between.Statement.{statement}
 use Rattle.rows.proofs.words.between.put_between.Tie as tie
 

@@ -2,7 +2,7 @@ use native.Mathlib.Omega.{arith}
 use Prim.Native.Nat.{_+_, _-_}
 use lib.ListN.{length, getD}
 use Rattle.rows.specs.Combine.{blend}
-use Rattle.rows.proofs.Laws.Over.{Over, over-none, over-here, over-more, over-all}
+use Rattle.rows.proofs.Laws.Blocks.Over.{Over, over-none, over-here, over-more, over-all}
 use Rattle.rows.proofs.words.blend.blend_row.Statement.{statement}
 use Rattle.rows.proofs.words.blend.blend_row.Tie as tie
 

@@ -3,7 +3,7 @@ use native.Mathlib.Omega.{arith}
 use mir.Syntax.{w32}
 use mir.Val.{SFits}
 use Rattle.rows.specs.Combine.{morph}
-use Rattle.rows.proofs.Laws.Signed.{back, backn}
+use Rattle.rows.proofs.Laws.Numbers.Signed.{back, backn}
 use Rattle.rows.proofs.words.blend.morph_px.Statement.{statement}
 use Rattle.rows.proofs.words.blend.morph_px.Tie as tie
 

@@ -4,8 +4,8 @@ use mathlib.Core.Path.{_∙_}
 use Prim.Native.Nat.{_+_, _-_}
 use lib.ListN.{length, getD}
 use Rattle.rows.specs.Combine.{masked, both}
-use Rattle.rows.proofs.Laws.Pixel.{read-both}
-use Rattle.rows.proofs.Laws.Row.{Upto, upto-none, upto-more, upto-all}
+use Rattle.rows.proofs.Laws.Pixels.Pixel.{read-both}
+use Rattle.rows.proofs.Laws.Blocks.Row.{Upto, upto-none, upto-more, upto-all}
 use Rattle.rows.proofs.words.combine.mask_row.Statement.{statement}
 use Rattle.rows.proofs.words.combine.mask_row.Tie as tie
 

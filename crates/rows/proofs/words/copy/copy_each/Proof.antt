@@ -1,6 +1,6 @@
 use Prim.Native.Nat.{_+_, _-_}
 use lib.ListN.{length, getD}
-use Rattle.rows.proofs.Laws.Row.{Upto, row-loop}
+use Rattle.rows.proofs.Laws.Blocks.Row.{Upto, row-loop}
 use Rattle.rows.proofs.words.copy.copy_each.Statement.{statement}
 use Rattle.rows.proofs.words.copy.copy_each.Tie as tie
 

@@ -4,8 +4,8 @@ use Prim.Native.Nat.{ℕ}
 use native.Mathlib.Omega.{arith}
 use lib.Seq.{length-take-le}
 use mir.Syntax.{w64}
-use Rattle.rows.proofs.Laws.Signed.{back, backn}
-use Rattle.rows.proofs.Laws.Edge.{Parts, parts, middle-in, middle-held, last-in, edge-row}
+use Rattle.rows.proofs.Laws.Numbers.Signed.{back, backn}
+use Rattle.rows.proofs.Laws.Pixels.Edge.{Parts, parts, middle-in, middle-held, last-in, edge-row}
 use Rattle.rows.proofs.words.edge.edge_row.Statement.{statement}
 use Rattle.rows.proofs.words.edge.edge_row.Tie as tie
 

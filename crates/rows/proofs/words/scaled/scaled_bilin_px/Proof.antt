@@ -6,9 +6,9 @@ use lib.ListN.{getD}
 use mir.Syntax.{w16, w32}
 use mir.Val.{SFits, toZ}
 use Rattle.rows.specs.Bilinear.{R}
-use Rattle.rows.proofs.Laws.Signed.{back, rd}
-use Rattle.rows.proofs.Laws.Low.{low16-again}
-use Rattle.rows.proofs.Laws.Bilinear.{Widened, pixel-widened, between-is, half-small}
+use Rattle.rows.proofs.Laws.Numbers.Signed.{back, rd}
+use Rattle.rows.proofs.Laws.Numbers.Low.{low16-again}
+use Rattle.rows.proofs.Laws.Filters.Bilinear.{Widened, pixel-widened, between-is, half-small}
 use Rattle.rows.proofs.words.scaled.scaled_bilin_px.Statement.{statement}
 use Rattle.rows.proofs.words.scaled.scaled_bilin_px.Tie as tie
 

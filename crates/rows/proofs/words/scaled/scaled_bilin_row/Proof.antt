@@ -4,8 +4,8 @@ use mathlib.Core.Path.{_≡_, _∙_}
 use lib.ListN.{length}
 use Rattle.rows.specs.Places.{span}
 use Rattle.rows.specs.Scaled.{PairsFetched}
-use Rattle.rows.proofs.Laws.Places.{span-length}
-use Rattle.rows.proofs.Laws.Scaled.{part-row}
+use Rattle.rows.proofs.Laws.Blocks.Places.{span-length}
+use Rattle.rows.proofs.Laws.Filters.Scaled.{part-row}
 use Rattle.rows.proofs.words.scaled.scaled_bilin_row.Statement.{statement}
 use Rattle.rows.proofs.words.scaled.scaled_bilin_row.Tie as tie
 

@@ -4,9 +4,9 @@ use mathlib.Core.Path.{_∙_}
 use lib.IntN.{pos}
 use mir.Syntax.{w16}
 use mir.Val.{SFits}
-use Rattle.rows.proofs.Laws.Signed.{back, fit}
-use Rattle.rows.proofs.Laws.Near.{kept-is}
-use Rattle.rows.proofs.Laws.Scaled.{family-lent, mid-by, mid-whole}
+use Rattle.rows.proofs.Laws.Numbers.Signed.{back, fit}
+use Rattle.rows.proofs.Laws.Filters.Near.{kept-is}
+use Rattle.rows.proofs.Laws.Filters.Scaled.{family-lent, mid-by, mid-whole}
 use Rattle.rows.proofs.words.scaled.scaled_px.Statement.{statement}
 use Rattle.rows.proofs.words.scaled.scaled_px.Tie as tie
 

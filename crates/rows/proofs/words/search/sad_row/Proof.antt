@@ -1,7 +1,7 @@
 use Prim.Native.Nat.{_+_, _-_}
 use native.Mathlib.Omega.{arith}
 use Rattle.rows.specs.Numbers.{px, apart}
-use Rattle.rows.proofs.Laws.Added.{Added, added-none, added-more, added-all}
+use Rattle.rows.proofs.Laws.Numbers.Added.{Added, added-none, added-more, added-all}
 use Rattle.rows.proofs.words.search.sad_row.Statement.{statement}
 use Rattle.rows.proofs.words.search.sad_row.Tie as tie
 

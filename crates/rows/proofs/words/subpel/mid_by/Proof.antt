@@ -6,8 +6,8 @@ use mir.Val.{SFits}
 use borrow.Author.Needs.{needs}
 use Rattle.rows.specs.Numbers.{clip, at}
 use Rattle.rows.specs.Subpel.{tapped}
-use Rattle.rows.proofs.Laws.Row.{Upto, upto-none, upto-more, upto-all}
-use Rattle.rows.proofs.Laws.Signed.{back}
+use Rattle.rows.proofs.Laws.Blocks.Row.{Upto, upto-none, upto-more, upto-all}
+use Rattle.rows.proofs.Laws.Numbers.Signed.{back}
 use Rattle.rows.proofs.words.subpel.mid_by.Statement.{statement}
 use Rattle.rows.proofs.words.subpel.mid_by.Tie as tie
 

@@ -3,8 +3,8 @@ use lib.IntN.{pos}
 use mathlib.Core.Path.{sym, subst}
 use native.Mathlib.Omega.{arith}
 use borrow.Author.Needs.{needs}
-use Rattle.rows.proofs.Laws.Near.{row-copied}
-use Rattle.rows.proofs.Laws.Signed.{back}
+use Rattle.rows.proofs.Laws.Filters.Near.{row-copied}
+use Rattle.rows.proofs.Laws.Numbers.Signed.{back}
 use Rattle.rows.proofs.words.subpel.tap_mid_row.Statement.{statement}
 use Rattle.rows.proofs.words.subpel.tap_mid_row.Tie as tie
 

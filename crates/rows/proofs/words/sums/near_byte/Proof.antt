@@ -1,7 +1,7 @@
 use native.Mathlib.Omega.{arith}
 use mir.Syntax.{w16}
 use mir.Val.{SFits}
-use Rattle.rows.proofs.Laws.Signed.{back}
+use Rattle.rows.proofs.Laws.Numbers.Signed.{back}
 use Rattle.rows.proofs.words.sums.near_byte.Statement.{statement}
 use Rattle.rows.proofs.words.sums.near_byte.Tie as tie
 

@@ -4,9 +4,9 @@ use Prim.Native.Nat.{_+_, _*_, _-_, _≤_}
 use mir.Syntax.{w8}
 use Rattle.rows.specs.Numbers.{px}
 use Rattle.rows.specs.Subpel.{byteOf}
-use Rattle.rows.proofs.Laws.Signed.{fit}
-use Rattle.rows.proofs.Laws.Sum.{within}
-use Rattle.rows.proofs.Laws.Near.{NearSum, near-none, near-room, near-more, near-all}
+use Rattle.rows.proofs.Laws.Numbers.Signed.{fit}
+use Rattle.rows.proofs.Laws.Numbers.Sum.{within}
+use Rattle.rows.proofs.Laws.Filters.Near.{NearSum, near-none, near-room, near-more, near-all}
 use Rattle.rows.proofs.words.sums.near_bytes.Statement.{statement}
 use Rattle.rows.proofs.words.sums.near_bytes.Tie as tie
 

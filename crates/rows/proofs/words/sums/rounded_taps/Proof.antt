@@ -1,6 +1,6 @@
 use native.Mathlib.Omega.{arith}
 use borrow.Author.Needs.{needs}
-use Rattle.rows.proofs.Laws.Near.{rounded-is}
+use Rattle.rows.proofs.Laws.Filters.Near.{rounded-is}
 use Rattle.rows.proofs.words.sums.rounded_taps.Statement.{statement}
 use Rattle.rows.proofs.words.sums.rounded_taps.Tie as tie
 

@@ -1,7 +1,7 @@
 use native.Mathlib.Omega.{arith}
 use mir.Syntax.{w32}
 use mir.Val.{SFits}
-use Rattle.rows.proofs.Laws.Signed.{back, backn, rd, rdn}
+use Rattle.rows.proofs.Laws.Numbers.Signed.{back, backn, rd, rdn}
 use borrow.Author.Needs.{needs}
 use Rattle.rows.proofs.words.sums.tap_pixel.Statement.{statement}
 use Rattle.rows.proofs.words.sums.tap_pixel.Tie as tie

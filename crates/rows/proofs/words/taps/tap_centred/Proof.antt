@@ -3,8 +3,8 @@ use borrow.Author.Needs.{needs}
 use lib.IntN.{pos, _-ℤ_}
 use mir.Syntax.{w16, w32}
 use mir.Val.{SFits}
-use Rattle.rows.proofs.Laws.Signed.{back, backn, wide16, reading}
-use Rattle.rows.proofs.Laws.Centred.{centred-fits}
+use Rattle.rows.proofs.Laws.Numbers.Signed.{back, backn, wide16, reading}
+use Rattle.rows.proofs.Laws.Filters.Centred.{centred-fits}
 use Rattle.rows.proofs.words.taps.tap_centred.Statement.{statement}
 use Rattle.rows.proofs.words.taps.tap_centred.Tie as tie
 

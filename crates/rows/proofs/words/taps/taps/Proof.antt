@@ -3,9 +3,9 @@ use Prim.Native.Nat.{_+_, _*_, _-_, _^_, _≤_}
 use lib.IntN.{pos, _-ℤ_, _*ℤ_}
 use mir.Syntax.{w8}
 use Rattle.rows.specs.Numbers.{at, px}
-use Rattle.rows.proofs.Laws.Signed.{back, fit}
-use Rattle.rows.proofs.Laws.Sum.{Summed, summed-none, summed-mag, summed-more, within}
-use Rattle.rows.proofs.Laws.Centred.{product-fits, whole-fits, centred-whole}
+use Rattle.rows.proofs.Laws.Numbers.Signed.{back, fit}
+use Rattle.rows.proofs.Laws.Numbers.Sum.{Summed, summed-none, summed-mag, summed-more, within}
+use Rattle.rows.proofs.Laws.Filters.Centred.{product-fits, whole-fits, centred-whole}
 use Rattle.rows.proofs.words.taps.taps.Statement.{statement}
 use Rattle.rows.proofs.words.taps.taps.Tie as tie
 

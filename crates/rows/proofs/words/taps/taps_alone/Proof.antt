@@ -4,8 +4,8 @@ use mathlib.Core.Path.{_≡_, refl}
 use mir.Syntax.{w8, w32}
 use mir.Val.{SFits, toZ}
 use Rattle.rows.specs.Numbers.{at}
-use Rattle.rows.proofs.Laws.Signed.{back8, fit, mag-add, reading}
-use Rattle.rows.proofs.Laws.Sum.{Summed, summed-none, summed-mag, summed-more, summed-is}
+use Rattle.rows.proofs.Laws.Numbers.Signed.{back8, fit, mag-add, reading}
+use Rattle.rows.proofs.Laws.Numbers.Sum.{Summed, summed-none, summed-mag, summed-more, summed-is}
 use Rattle.rows.proofs.words.taps.taps_alone.Statement.{statement}
 use Rattle.rows.proofs.words.taps.taps_alone.Tie as tie
 

@@ -7,10 +7,10 @@ use mir.Syntax.{w16, w32}
 use mir.Val.{SFits, toZ}
 use Rattle.rows.specs.Numbers.{px, low16}
 use Rattle.rows.specs.Warp.{warped}
-use Rattle.rows.proofs.Laws.Signed.{back}
-use Rattle.rows.proofs.Laws.Row.{Upto, upto-all}
-use Rattle.rows.proofs.Laws.Filter.{upto-kept}
-use Rattle.rows.proofs.Laws.Warp.{tap-row, upto-start, length-filter, warp-kept-is}
+use Rattle.rows.proofs.Laws.Numbers.Signed.{back}
+use Rattle.rows.proofs.Laws.Blocks.Row.{Upto, upto-all}
+use Rattle.rows.proofs.Laws.Filters.Loop.{upto-kept}
+use Rattle.rows.proofs.Laws.Filters.Warp.{tap-row, upto-start, length-filter, warp-kept-is}
 use Rattle.rows.proofs.words.warp.warp_column.Statement.{statement}
 use Rattle.rows.proofs.words.warp.warp_column.Tie as tie
 

@@ -5,9 +5,9 @@ use mir.Syntax.{w16, w32}
 use mir.Val.{SFits, toZ}
 use Rattle.rows.specs.Numbers.{at, clip, low16}
 use Rattle.rows.specs.Warp.{warped}
-use Rattle.rows.proofs.Laws.Signed.{back, back16, reading}
-use Rattle.rows.proofs.Laws.Row.{Upto, upto-more, upto-all}
-use Rattle.rows.proofs.Laws.Warp.{upto-start, length-filter, warp-kept-is}
+use Rattle.rows.proofs.Laws.Numbers.Signed.{back, back16, reading}
+use Rattle.rows.proofs.Laws.Blocks.Row.{Upto, upto-more, upto-all}
+use Rattle.rows.proofs.Laws.Filters.Warp.{upto-start, length-filter, warp-kept-is}
 use Rattle.rows.proofs.words.warp.warp_put_row.Statement.{statement}
 use Rattle.rows.proofs.words.warp.warp_put_row.Tie as tie
 

@@ -1,0 +1,4 @@
+-- Bilinear.
+pub mod Ready
+pub mod Answers
+pub mod Rule

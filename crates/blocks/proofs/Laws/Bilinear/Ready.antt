@@ -1,0 +1,119 @@
+-- Bilinear blocks: what the number tells, and what each case's rows rely on. Assumes nothing.
+use mathlib.Core.Path.{_≡_, sym, _∙_}
+use mathlib.Core.Bool.{Bool, true}
+use mathlib.Core.List.{List}
+use Prim.Native.Nat.{ℕ, zero, suc, _+_, _-_, _*_, _^_, _≤_, _<_, min}
+use native.Mathlib.Omega.{arith}
+use borrow.Author.Tests.{le-leb, lt-leb, le-ltb, lt-ltb}
+use lib.IntN.{ℤ, pos}
+use lib.ListN.{length}
+use lib.Signed.{leZ}
+use Rattle.rows.specs.Numbers.{up, half}
+use Rattle.rows.specs.Places.{span}
+use Rattle.rows.proofs.Laws.Blocks.Places.{by-lt, row-fits}
+use Rattle.rows.proofs.Laws.Blocks.Fill.{and-true}
+use Rattle.rows.proofs.Laws.Numbers.Signed.{le-yes, one-part}
+use Rattle.blocks.specs.Refuse.{lowest, holds, reads}
+use Rattle.blocks.specs.Subpel.{on, sixteenthOk}
+use Rattle.blocks.specs.Bilinear.{bilinTests}
+use Rattle.blocks.specs.Ready.{Block, Rows, Pairs, Bilin}
+use Rattle.blocks.proofs.Laws.Calls.Refuse.{all-met, stride-met, holds-met}
+use Rattle.blocks.proofs.Laws.Calls.Ready.{block-met, rows-met}
+use Rattle.blocks.proofs.Laws.Loops.Rows.{Filled, filled-span, row-in}
+
+-- ---- the number
+
+-- from place 0 on, a block with x columns and y rows more is read where the buffer holds as many rows of that length
+pub reads-holds : (l s : ℕ) {w h : ℕ} (x y : ℕ) → Block w h → holds l s (w + x) (h + y) ≡ reads l 0 s w h 0 x 0 y
+unfolding holds reads
+reads-holds l s {w} {h} x y b =
+    let e : h + y - 1 ≡ h - 1 + y = omega (arith, b) in
+    rw (e, le-leb (0 * s + 0) 0 (omega arith)) (by-lt (0 + (h - 1 + y) * s + (w - 1 + x)) l
+    (λ p. le-leb ((h - 1 + y) * s + (w + x)) l (omega (arith, b)) ∙ sym (lt-ltb (0 + (h - 1 + y) * s + (w - 1 + x)) l p))
+    λ p. lt-leb ((h - 1 + y) * s + (w + x)) l (omega (arith, b)) ∙ sym (le-ltb (0 + (h - 1 + y) * s + (w - 1 + x)) l p))
+
+pub sixteenth-met : (f : ℤ) → sixteenthOk f ≡ true → up f ≤ 15
+unfolding sixteenthOk
+sixteenth-met f e =
+    let p = and-true (leZ (pos 0) f) (leZ f (pos 15)) e in
+    omega (arith, le-yes (pos 0) f (p .0), le-yes f (pos 15) (p .1), one-part f)
+
+pub bilin-ready : (deep : Bool) (dl ds sl ss w h : ℕ) (mx my : ℤ) → lowest (bilinTests deep dl ds sl ss w h mx my) ≡ 0
+    → (deep ≡ true) × Bilin dl ds sl ss w h (up mx) (up my)
+bilin-ready deep dl ds sl ss w h mx my e =
+    let m = all-met (bilinTests deep dl ds sl ss w h mx my) e in
+    let t = m .1 .1 in let n = t .1 .1 in let r = n .1 .1 .1 in
+    let b = block-met w h (m .0) (m .1 .0) in let s = stride-met w ss (t .1 .0) in
+    let q : Bilin dl ds sl ss w h (up mx) (up my) = record {
+      block = b;
+      dst = rows-met dl ds w h (t .0) (r .1 .0);
+      wide = s .0;
+      most = s .1;
+      fits = holds-met sl ss (w + on mx) (h + on my) (reads-holds sl ss (on mx) (on my) b ∙ r .0);
+      f15 = sixteenth-met mx (n .1 .0);
+      g15 = sixteenth-met my (n .1 .1 .0);
+    } in
+    (n .0, q)
+
+-- ---- a pass over rows
+
+-- in a turn at row y, the row is within the written buffer, its pairs within the read one, and the part lent is as long as the row
+module _ {A : Type 0} where
+  pub record Turn (d : List A) (ds sl ss step w y : ℕ) : Type 0 where
+    pub dst : y * ds + w ≤ length d
+    pub src : y * ss + (w + step) ≤ sl
+    pub long : length (span d (y * ds) (y * ds + w)) ≡ w
+
+  pub turn : (z : A) {ds sl ss step w h f n y : ℕ} {p : ℕ → ℕ → A} {d₀ d : List A}
+      → Pairs (length d₀) ds sl ss step w h f n → Filled ds w p d₀ h y d → y < h → Turn d ds sl ss step w y
+  turn z {ds} {sl} {ss} {step} {w} {h} {f} {n} {y} {p} {d₀} {d} r q lt =
+      record { dst = omega (arith, row-in y (r .dst) lt, q); src = row-fits sl ss (w + step) h y (r .src) lt; long = filled-span z q (r .dst) lt }
+
+-- ---- what the rows of each case rely on
+module _ {dl ds sl ss w h f g : ℕ} (p : Bilin dl ds sl ss w h f g) where
+  -- the source, by the two numbers of places that are read past the block
+  reads-of : (x y : ℕ) → min f 1 ≡ x → min g 1 ≡ y → (h + y - 1) * ss + (w + x) ≤ sl
+  reads-of x y a b = rw (← a, ← b) (p .fits)
+
+  pub copied : f ≡ 0 → g ≡ 0 → Block w h × Rows dl ds w h × Rows sl ss w h
+  copied a b =
+      let e : h + 0 - 1 ≡ h - 1 = omega arith in
+      let r = rw e at (reads-of 0 0 (omega arith) (omega arith)) in
+      (p .block, p .dst, record { wide = p .wide; most = p .most; fits = omega arith })
+
+  module _ (n : ℕ) (n8 : n ≤ 8) where
+    pub across : 0 < f → g ≡ 0 → Pairs dl ds sl ss 1 w h f n
+    across a b =
+        let e : h + 0 - 1 ≡ h - 1 = omega arith in
+        record { w1 = p .block .w1; dst = p .dst; src = rw e at (reads-of 1 0 (omega arith) (omega arith)); f15 = p .f15; n8 = n8 }
+
+    pub downward : f ≡ 0 → 0 < g → Pairs dl ds sl ss ss w h g n
+    downward a b =
+        let e : h + 1 - 1 ≡ h - 1 + 1 = omega (arith, p .block) in
+        let r = rw e at (reads-of 0 1 (omega arith) (omega arith)) in
+        record { w1 = p .block .w1; dst = p .dst; src = omega arith; f15 = p .g15; n8 = n8 }
+
+    -- both: the first pass into ml intermediates, and the second from there
+    module _ (ml : ℕ) (room : 4160 ≤ ml) where
+      pub first : 0 < f → 0 < g → Pairs ml 64 sl ss 1 w (h + 1) f n
+      first a b =
+          let r = reads-of 1 1 (omega arith) (omega arith) in
+          record {
+            w1 = p .block .w1;
+            dst = record { wide = p .block .w64; most = omega arith; fits = omega (arith, p .block) };
+            src = r;
+            f15 = p .f15;
+            n8 = n8;
+          }
+
+      pub second : Pairs dl ds ml 64 64 w h g n
+      second = record { w1 = p .block .w1; dst = p .dst; src = omega (arith, p .block); f15 = p .g15; n8 = n8 }
+
+-- what put adds for its two shifts is below what they shift out, 2^(4-B) x 2^B
+pub halves-small : (B : ℕ) → B ≤ 4 → half (4 - B) + half B * 2 ^ (4 - B) ≤ 15
+halves-small zero b = omega arith
+halves-small (suc zero) b = omega arith
+halves-small (suc (suc zero)) b = omega arith
+halves-small (suc (suc (suc zero))) b = omega arith
+halves-small (suc (suc (suc (suc zero)))) b = omega arith
+halves-small (suc (suc (suc (suc (suc B))))) b = absurd (omega arith)

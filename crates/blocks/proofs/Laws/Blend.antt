@@ -1,0 +1,4 @@
+-- blend and morph.
+pub mod Above
+pub mod Ready
+pub mod Answers

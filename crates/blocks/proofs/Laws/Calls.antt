@@ -1,0 +1,7 @@
+-- Calls: refusals, their order, limits, answers.
+pub mod Refuse
+pub mod InOrder
+pub mod Limits
+pub mod Answer
+pub mod Ready
+pub mod Told

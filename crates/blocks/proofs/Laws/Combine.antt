@@ -1,0 +1,4 @@
+-- avg, w_avg and mask.
+pub mod Ready
+pub mod Answers
+pub mod Calls

@@ -1,0 +1,3 @@
+-- put and prep.
+pub mod Ready
+pub mod Answers

@@ -1,0 +1,28 @@
+-- put and prep: what number 0 gives to their rows. Assumes nothing.
+use mathlib.Core.Path.{_≡_}
+use mathlib.Core.Bool.{Bool, true}
+use Prim.Native.Nat.{ℕ}
+use Rattle.blocks.specs.Refuse.{lowest}
+use Rattle.blocks.specs.Ready.{Block, Rows}
+use Rattle.blocks.specs.Copy.{putTests, prepTests}
+use Rattle.blocks.proofs.Laws.Calls.Refuse.{all-met}
+use Rattle.blocks.proofs.Laws.Calls.Ready.{block-met, rows-met}
+
+pub put-ready : (dl ds sl ss w h : ℕ) → lowest (putTests dl ds sl ss w h) ≡ 0 → Block w h × Rows dl ds w h × Rows sl ss w h
+put-ready dl ds sl ss w h e =
+    let m = all-met (putTests dl ds sl ss w h) e in
+    let t = m .1 .1 in (
+      block-met w h (m .0) (m .1 .0),
+      rows-met dl ds w h (t .0) (t .1 .1 .1 .0),
+      rows-met sl ss w h (t .1 .0) (t .1 .1 .0),
+    )
+
+pub prep-ready : (deep : Bool) (tl ts sl ss w h : ℕ) → lowest (prepTests deep tl ts sl ss w h) ≡ 0
+    → (deep ≡ true) × (Block w h × Rows tl ts w h × Rows sl ss w h)
+prep-ready deep tl ts sl ss w h e =
+    let m = all-met (prepTests deep tl ts sl ss w h) e in
+    let t = m .1 .1 in
+    let u = t .1 .1 in (
+      u .0,
+      (block-met w h (m .0) (m .1 .0), rows-met tl ts w h (t .0) (u .1 .1 .0), rows-met sl ss w h (t .1 .0) (u .1 .0)),
+    )

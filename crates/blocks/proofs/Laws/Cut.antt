@@ -1,0 +1,6 @@
+-- Demand 3: a block cut into rectangles.
+pub mod Local
+pub mod Calls
+pub mod Demand
+pub mod Runs
+pub mod Holds

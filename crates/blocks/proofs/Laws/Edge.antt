@@ -1,0 +1,3 @@
+-- emu_edge.
+pub mod Ready
+pub mod Answers

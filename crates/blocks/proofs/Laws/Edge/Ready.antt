@@ -1,0 +1,97 @@
+-- `emu_edge`: what its number 0 gives, and its rows. Assumes nothing.
+use mathlib.Core.Path.{_≡_, refl, sym, ap, _∙_}
+use mathlib.Core.Bool.{Bool, true, false, _&&_}
+use mathlib.Core.List.{List}
+use Prim.Native.Nat.{ℕ, suc, _+_, _-_, _*_, _^_, _≤_, _<_}
+use native.Mathlib.Omega.{arith}
+use borrow.Author.Tests.{leb-true}
+use lib.Dec.{leb, leb·suc-suc}
+use lib.IntN.{ℤ, pos, negsuc, natAbs, _+ℤ_, _-ℤ_}
+use lib.Signed.{leZ}
+use lib.ListN.{getD}
+use mir.Syntax.{w64}
+use mir.Val.{SFits, toZ, ofZ}
+use Rattle.rows.specs.Numbers.{clip, near}
+use Rattle.rows.specs.Places.{rowOf}
+use Rattle.rows.specs.Edge.{endless, edge}
+use Rattle.rows.proofs.Laws.Numbers.Signed.{back, backn, fit-abs, abs-add, sub-parts, eq-of, clip-up}
+use Rattle.blocks.specs.Refuse.{lowest}
+use Rattle.blocks.specs.Ready.{Fetch}
+use Rattle.blocks.specs.declared.frame.Area.{Area}
+use Rattle.blocks.specs.Edge.{placeOk, edgeTests}
+use Rattle.blocks.proofs.Laws.Calls.Refuse.{all-met, size-met}
+use Rattle.blocks.proofs.Laws.Calls.Ready.{rows-met}
+use Rattle.blocks.proofs.Laws.Loops.Rows.{row-in}
+
+-- ---- positions
+and-of-true : (a : Bool) → a && true ≡ a
+and-of-true true = refl
+and-of-true false = refl
+
+-- from -(m + 1) to m + 1 is within m + 1 of 0
+pub near-both : (m : ℕ) (z : ℤ) → leZ (negsuc m) z && leZ z (pos (suc m)) ≡ near (suc m) z
+near-both m (pos n) = refl
+near-both m (negsuc n) = and-of-true (leb n m) ∙ sym (leb·suc-suc n m)
+
+pub place-met : (x : ℤ) → placeOk x ≡ true → natAbs x ≤ 2 ^ 30
+unfolding placeOk
+place-met x e = leb-true (natAbs x) (2 ^ 30) e
+
+-- ---- what the rows rely on, also of a window that starts up to 3 before a position
+pub edge-ready : (bw bh iw ih : ℕ) (x y : ℤ) (dl ds pl ps : ℕ) → lowest (edgeTests bw bh iw ih x y dl ds pl ps) ≡ 0
+    → Fetch (record { ww = bw; wh = bh; iw = iw; ih = ih; left = x; top = y }) dl ds pl ps
+edge-ready bw bh iw ih x y dl ds pl ps e =
+    let m = all-met (edgeTests bw bh iw ih x y dl ds pl ps) e in
+    let a = size-met 128 bw (m .0) in
+    let b = size-met 128 bh (m .1 .0) in
+    let p = m .1 .1 in
+    let c = size-met 16384 iw (p .0) in
+    let d = size-met 16384 ih (p .1 .0) in
+    let t = p .1 .1 in
+    let n = t .1 .1 in
+    record {
+      area = record {
+        ww1 = a .0;
+        ww128 = a .1;
+        wh1 = b .0;
+        wh128 = b .1;
+        iw1 = c .0;
+        iw14 = c .1;
+        ih1 = d .0;
+        ih14 = d .1;
+        left = omega (arith, place-met x (n .0));
+        top = omega (arith, place-met y (n .1 .0));
+      };
+      dst = rows-met dl ds bw bh (t .0) (n .1 .1 .1 .0);
+      plane = rows-met pl ps iw ih (t .1 .0) (n .1 .1 .0);
+    }
+
+-- ---- a turn at row j
+-- y + j, as the machine has it
+pub record Below (y : ℤ) (j : ℕ) : Type 0 where
+  pub fits : SFits w64 (toZ w64 (ofZ w64 y) +ℤ toZ w64 j)
+  pub is : toZ w64 (ofZ w64 (toZ w64 (ofZ w64 y) +ℤ toZ w64 j)) -ℤ pos 0 ≡ y +ℤ pos j
+  pub near : natAbs (toZ w64 (ofZ w64 (toZ w64 (ofZ w64 y) +ℤ toZ w64 j))) ≤ 2 ^ 31
+
+less-none : (z : ℤ) → z -ℤ pos 0 ≡ z
+less-none z = eq-of _ _ (omega (arith, sub-parts z (pos 0)))
+
+pub below : {y : ℤ} {j : ℕ} → SFits w64 y → natAbs y ≤ 2 ^ 30 + 3 → j < 128 → Below y j
+below {y} {j} f n b =
+    let e : toZ w64 (ofZ w64 y) +ℤ toZ w64 j ≡ y +ℤ pos j = rw (back f, backn w64 j (omega arith)) refl in
+    let k : natAbs (y +ℤ pos j) ≤ 2 ^ 31 = omega (arith, abs-add y (pos j)) in
+    let g : SFits w64 (y +ℤ pos j) = fit-abs w64 (y +ℤ pos j) (omega arith) in
+    record { fits = rw e g; is = rw (e, back g) (less-none (y +ℤ pos j)); near = rw (e, back g) k }
+
+pub clip-below : (ih : ℕ) (z : ℤ) → 1 ≤ ih → clip (ih - 1) z < ih
+clip-below ih z h = omega (arith, clip-up (ih - 1) z)
+
+-- row j is within the block's buffer, row k within the plane
+pub turn : {a : Area} {dl ds pl ps j k : ℕ} → Fetch a dl ds pl ps → j < a .wh → k < a .ih → (j * ds + a .ww ≤ dl) × (k * ps + a .iw ≤ pl)
+turn {j} {k} f a b = (row-in j (f .dst) a, row-in k (f .plane) b)
+
+-- the plane's row k, from column x on, is the picture's row j
+pub row-is : (plane : List ℕ) (ps iw ih : ℕ) (x y : ℤ) (j n : ℕ) {k : ℕ} {r : List ℕ} → k ≡ clip (ih - 1) (y +ℤ pos j)
+    → r ≡ rowOf n (λ i. getD plane (k * ps + clip (iw - 1) (x +ℤ pos i)) 0) → r ≡ rowOf n (λ i. edge plane ps iw ih x y i j)
+unfolding edge endless
+row-is plane ps iw ih x y j n e q = q ∙ ap (λ (m : ℕ). rowOf n (λ i. getD plane (m * ps + clip (iw - 1) (x +ℤ pos i)) 0)) e

@@ -1,0 +1,4 @@
+-- Loops over the rows of a block.
+pub mod Rows
+pub mod Gapless
+pub mod InPlace

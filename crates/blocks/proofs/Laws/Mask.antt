@@ -1,0 +1,4 @@
+-- w_mask.
+pub mod Weighed
+pub mod Ready
+pub mod Answers

@@ -1,0 +1,5 @@
+-- Prediction orders.
+pub mod Kinds
+pub mod Ready
+pub mod Run
+pub mod Answers

@@ -1,0 +1,3 @@
+-- sad_nxn and sad_refine_mv.
+pub mod Ready
+pub mod Answers

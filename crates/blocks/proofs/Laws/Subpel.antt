@@ -1,0 +1,6 @@
+-- 8-tap.
+pub mod Choice
+pub mod Ready
+pub mod Lines
+pub mod Cases
+pub mod Answers

@@ -1,0 +1,54 @@
+-- 8-tap: the rows of a block by one filter at most, and the turns of the loops over them. Assumes nothing.
+use mathlib.Core.Path.{_≡_, refl, ap}
+use mathlib.Core.List.{List}
+use Prim.Native.Nat.{ℕ, zero, suc, _+_, _-_, _*_, _≤_, _<_}
+use native.Mathlib.Omega.{arith}
+use lib.IntN.{ℤ, pos}
+use lib.ListN.{length, getD}
+use Rattle.rows.specs.Numbers.{half, clip, low16, minus16}
+use Rattle.rows.specs.Places.{rowOf, span}
+use Rattle.rows.specs.Copy.{put, prep}
+use Rattle.rows.specs.Subpel.{tapped}
+use Rattle.rows.proofs.Laws.Blocks.Places.{row-same, row-fits}
+use Rattle.blocks.specs.Ready.{Lines}
+use Rattle.blocks.specs.Subpel.{putLine, prepLine}
+use Rattle.blocks.proofs.Laws.Loops.Rows.{Filled, filled-span, row-in}
+
+-- ---- in a turn at row y of a loop, the row is within both buffers, and the part lent is as long as the row
+module _ {A : Type 0} where
+  pub record Turn (d : List A) (ds sl o s step w y : ℕ) : Type 0 where
+    pub dst : y * ds + w ≤ length d
+    pub src : o + y * s + w + 7 * step ≤ sl
+    pub long : length (span d (y * ds) (y * ds + w)) ≡ w
+
+  pub turn : (z : A) {ds sl o s step w h y : ℕ} {f : ℕ → ℕ → A} {d₀ d : List A} → Lines (length d₀) ds sl o s step w h → Filled ds w f d₀ h y d → y < h
+      → Turn d ds sl o s step w y
+  turn z {ds} {sl} {o} {s} {step} {w} {h} {y} {f} {d₀} {d} p g lt =
+      record {
+        dst = omega (arith, row-in y (p .dst) lt, g);
+        src = omega (arith, row-fits sl s (o + w + 7 * step) h y (omega (arith, p .src)) lt);
+        long = filled-span z g (p .dst) lt;
+      }
+
+-- ---- a row, with a filter and without
+module _ (n : ℕ) (src : List ℕ) (o step : ℕ) (f : List ℤ) where
+  pub put-none : (M r k : ℕ) → step ≡ 0
+      → rowOf n (λ i. put (getD src (o + i) 0)) ≡ rowOf n (λ i. putLine M f r k step (λ t. getD src (o + i + t * step) 0))
+  unfolding putLine
+  put-none M r k e = rw e (row-same 0 n _ _ λ i b. ap (λ (p : ℕ). getD src p 0) (omega arith))
+
+  pub prep-none : (B P k : ℕ) → step ≡ 0
+      → rowOf n (λ i. prep B P (getD src (o + i) 0)) ≡ rowOf n (λ i. prepLine B P f k step (λ t. getD src (o + i + t * step) 0))
+  unfolding prepLine
+  prep-none B P k e = rw e (row-same (pos 0) n _ _ λ i b. ap (λ (p : ℕ). prep B P (getD src p 0)) (omega arith))
+
+pub put-some : (M : ℕ) (f : List ℤ) (r n step : ℕ) (x : ℕ → ℕ) → 0 < step → clip M (tapped f r n (λ t. pos (x t))) ≡ putLine M f r n step x
+unfolding putLine
+put-some M f r n zero x h = absurd (omega arith)
+put-some M f r n (suc s) x h = refl
+
+pub prep-some : (B P : ℕ) (f : List ℤ) (n step : ℕ) (x : ℕ → ℕ) → 0 < step
+    → minus16 (low16 (tapped f (half n) n (λ t. pos (x t)))) (pos P) ≡ prepLine B P f n step x
+unfolding prepLine
+prep-some B P f n zero x h = absurd (omega arith)
+prep-some B P f n (suc s) x h = refl

@@ -1,0 +1,74 @@
+-- Warp's two passes: a whole row more in a block, the columns of the first pass, and the second pass over the first. Assumes nothing.
+use mathlib.Core.Path.{_≡_, sym, ap, _∙_}
+use mathlib.Core.List.{List}
+use Prim.Native.Nat.{ℕ, _+_, _-_, _*_, _≤_, _<_}
+use native.Mathlib.Omega.{arith}
+use lib.IntN.{ℤ, pos}
+use lib.ListN.{length, getD}
+use Rattle.rows.specs.Numbers.{at, px, clip, low16, minus16}
+use Rattle.rows.specs.Places.{rowOf, splice, fill, around}
+use Rattle.rows.specs.Warp.{warped, warpMid, warpPut, warpPrep}
+use Rattle.rows.proofs.Laws.Blocks.Fill.{fill-in, fill-same}
+use Rattle.rows.proofs.Laws.Filters.Taps.{tapped-same}
+use Rattle.blocks.specs.Ready.{Rows, Margins}
+use Rattle.blocks.proofs.Laws.Loops.Rows.{Filled, Turn, turn, filled-more, filled-span}
+
+-- a row kernel of w columns left row y as the picture has it
+pub filled-row : {A : Type 0} (z : A) {s w : ℕ} {f : ℕ → ℕ → A} {d₀ : List A} {h y : ℕ} {d : List A} (r : List A) → Filled s w f d₀ h y d
+    → 1 ≤ w → Rows (length d₀) s w h → y < h → r ≡ rowOf w (λ i. f i y) → Filled s w f d₀ h (y + 1) (splice d (y * s) (y * s + w) r)
+filled-row z {f = f} {y = y} r p w1 b lt e = filled-more z r p w1 b lt (e ∙ ap (λ (n : ℕ). rowOf n (λ i. f i y)) (sym (filled-span z p b lt)))
+
+-- ---- the first pass: eight columns of fifteen, without gaps, of which x are written
+-- what it writes at row r of column i; the first tap of the first stands at place o
+abbrev pub first : (B : ℕ) → List ℤ → (m a b : ℤ) → List ℕ → (o s : ℕ) → ℕ → ℕ → ℤ
+first B table m a b src o s r i = low16 (warped table m a b (7 - B) r i (λ u. px src (o + i + r * s + u)))
+
+module _ {f : ℕ → ℕ → ℤ} {mid₀ mid : List ℤ} {x : ℕ} (p : Filled 15 15 f mid₀ 8 x mid) (long : length mid₀ ≡ 120) (lt : x < 8) where
+  columns : Rows (length mid₀) 15 15 8
+  columns = record { wide = omega arith; most = omega arith; fits = omega arith }
+
+  -- in a turn, column x has its part
+  pub column-part : Turn 15 15 x mid
+  column-part = turn (pos 0) p columns lt
+
+  pub column-more : (r : List ℤ) → r ≡ rowOf 15 (λ i. f i x) → Filled 15 15 f mid₀ 8 (x + 1) (splice mid (x * 15) (x * 15 + 15) r)
+  column-more r e = filled-row (pos 0) r p (omega arith) columns lt e
+
+-- the first tap of a block with its margins, and the rows from there on
+pub taps-in : {l off s : ℕ} → Margins l off s → off - (3 * s + 3) + 14 * s + 15 ≤ l
+taps-in p = omega (arith, p)
+
+-- ---- the second pass over the first
+warped-same : (table : List ℤ) (m a b : ℤ) (n r c : ℕ) (x y : ℕ → ℤ) → ((t : ℕ) → t < 8 → x t ≡ y t) → warped table m a b n r c x ≡ warped table m a b n r c y
+unfolding warped
+warped-same table m a b n r c x y e = tapped-same _ _ n x y e
+
+module _ (B : ℕ) (table : List ℤ) (mx a b : ℤ) (src : List ℕ) (off s : ℕ) (low : 3 * s + 3 ≤ off) where
+  first-is : (i j v : ℕ) → first B table mx a b src (off - (3 * s + 3)) s (j + v) i ≡ warpMid B table mx a b i j (around 3 src off s i j) v
+  unfolding warpMid around
+  first-is i j v = ap low16 (warped-same table mx a b (7 - B) (j + v) i _ _ λ u h. ap (λ (k : ℕ). pos (getD src k 0)) (omega arith))
+
+  module _ (mid₀ mid : List ℤ) (long : length mid₀ ≡ 120) (is : mid ≡ fill mid₀ 15 15 8 (first B table mx a b src (off - (3 * s + 3)) s)) where
+    mid-at : (i j v : ℕ) → i < 8 → j < 8 → v < 8 → at mid (j + i * 15 + v) ≡ warpMid B table mx a b i j (around 3 src off s i j) v
+    mid-at i j v hi hj hv =
+        let e : j + i * 15 + v ≡ i * 15 + (j + v) = omega arith in
+        ap (at mid) e
+        ∙ ap (λ (l : List ℤ). at l (i * 15 + (j + v))) is
+        ∙ fill-in (pos 0) 15 mid₀ 15 8 _ (j + v) i (omega arith) (omega arith) hi (omega arith)
+        ∙ first-is i j v
+
+    module _ (my c d : ℤ) (n i j : ℕ) (hi : i < 8) (hj : j < 8) where
+      second : warped table my c d n j i (λ v. at mid (j + i * 15 + v)) ≡ warped table my c d n j i (warpMid B table mx a b i j (around 3 src off s i j))
+      second = warped-same table my c d n j i _ _ λ v hv. mid-at i j v hi hj hv
+
+    pub put-second : (M : ℕ) (my c d : ℤ) (dst : List ℕ) (ds : ℕ) → 0 < ds
+        → fill dst ds 8 8 (λ i j. clip M (low16 (warped table my c d (7 + B) j i (λ v. at mid (j + i * 15 + v)))))
+        ≡ fill dst ds 8 8 (λ i j. warpPut M B table mx my a b c d i j (around 3 src off s i j))
+    unfolding warpPut
+    put-second M my c d dst ds h = fill-same 0 ds h dst 8 8 _ _ λ i j hi hj. ap (λ (z : ℤ). clip M (low16 z)) (second my c d (7 + B) i j hi hj)
+
+    pub prep-second : (P : ℕ) (my c d : ℤ) (tmp : List ℤ) (ts : ℕ) → 0 < ts
+        → fill tmp ts 8 8 (λ i j. minus16 (low16 (warped table my c d 7 j i (λ v. at mid (j + i * 15 + v)))) (pos P))
+        ≡ fill tmp ts 8 8 (λ i j. warpPrep B P table mx my a b c d i j (around 3 src off s i j))
+    unfolding warpPrep
+    prep-second P my c d tmp ts h = fill-same (pos 0) ts h tmp 8 8 _ _ λ i j hi hj. ap (λ (z : ℤ). minus16 (low16 z) (pos P)) (second my c d 7 i j hi hj)

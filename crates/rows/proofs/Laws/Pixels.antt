@@ -1,0 +1,4 @@
+-- Pixels: combining, clips, edges.
+pub mod Combine
+pub mod Pixel
+pub mod Edge
