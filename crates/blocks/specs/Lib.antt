@@ -2,7 +2,6 @@
 pub mod Refuse
 pub mod words
 pub mod bytes
-pub mod Ready
 pub mod Copy
 pub mod Combine
 pub mod Blend
@@ -17,3 +16,4 @@ pub mod Shear
 pub mod Window
 pub mod Order
 pub mod Cut
+pub mod inner

@@ -17,9 +17,8 @@ use Rattle.blocks.specs.Refuse.{Test, size, stride, number, table, read,
 use Rattle.blocks.specs.Edge.{placeOk}
 use Rattle.blocks.specs.Subpel.{typeOk, sixteenthOk, fractionOk, subpelOk, filterIn, put8Rule, prep8Rule}
 use Rattle.blocks.specs.Warp.{warpPlaceOk}
-use Rattle.blocks.specs.Window.{planeW, planeH, frameSizesOk, frameNamesOk, before, windowSide, areaOf, areaAt, noPart, scratchOf}
+use Rattle.blocks.specs.Window.{planeW, planeH, frameSizesOk, frameNamesOk, before, windowSide, scratchOf}
 use Rattle.blocks.specs.declared.frame.Frame.{Frame}
-use Rattle.blocks.specs.declared.window.Part.{Part}
 use Rattle.blocks.specs.declared.order.Order.{Order}
 use Rattle.blocks.specs.declared.order.Kind.{Kind}
 use Rattle.blocks.specs.declared.order.Kind.the-variants.{Copy, Subpel, Bilinear, Warp}
@@ -89,11 +88,6 @@ orderTests deep named f planeNo pl planeStride o tl el wl sl dl dstStride =
 unfoldable pub orderScratch : (r : ℕ) (f : Frame) (planeNo : ℕ) (plane : List ℕ) (planeStride : ℕ) (o : Order) → List ℕ → List ℕ
 orderScratch r f planeNo plane planeStride o scratch =
     scratchOf r f planeNo plane planeStride (kindNumber (o .kind)) (o .w) (o .h) (o .x) (o .y) 0 scratch
-
--- and the part that is read: where the tests give another number than 0, that number and zeros
-unfoldable pub orderPart : (verdict : ℕ) (f : Frame) (planeNo planeStride : ℕ) (o : Order) → Part
-orderPart verdict f planeNo planeStride o =
-    orSame verdict (areaAt (areaOf f planeNo (kindNumber (o .kind)) (o .w) (o .h) (o .x) (o .y)) 0 planeStride) (noPart verdict)
 
 -- the plane that the order reads: the frame's named plane, for ever
 abbrev pub planeOf : (f : Frame) (planeNo : ℕ) (plane : List ℕ) (planeStride : ℕ) → ℤ → ℤ → ℕ

@@ -6,14 +6,9 @@ use mathlib.Core.List.{List, [], _∷_}
 use mathlib.Core.Path.{_≡_}
 use lib.IntN.{ℤ, pos}
 use lib.ListN.{length}
-use Rattle.rows.specs.Places.{pixel, pick}
-use Rattle.rows.specs.Search.{Best, none, best, centre, sad, refine}
-use Rattle.blocks.specs.declared.search.Best as declared
+use Rattle.rows.specs.Places.{pixel}
+use Rattle.rows.specs.Search.{centre, sad, refine}
 use Rattle.blocks.specs.Refuse.{Test, size, stride, number, read, _asks_, lowest, orSame, sizeOk, blockSide, strideOk, holds}
-
--- what the code carries as the best so far: none until one is found
-unfoldable pub bestOf : declared.Best → Best
-bestOf b = pick (b .found) (best (b .sum) (record { dx = b .dx; dy = b .dy })) none
 
 -- m more columns and rows than the block are held: none for `sad_nxn`, 8 for `sad_refine_mv`; "tested whole, also where sad_nxn skips rows"
 abbrev pub sadsTests : (m : ℕ) (deep : Bool) (l0 p0Stride l1 p1Stride w h : ℕ) → List Test

@@ -1,5 +1,5 @@
 -- Frames, windows and the row helper: sides, numbers, answers, and the parts that they name. Assumes nothing.
-use Prim.Native.Nat.{ℕ, _+_, _-_, _*_, _/_}
+use Prim.Native.Nat.{ℕ, _+_, _*_, _/_}
 use lib.Dec.{leb, eqb}
 use lib.IntN.{ℤ, pos, _+ℤ_, _-ℤ_}
 use lib.ListN.{length}
@@ -13,7 +13,6 @@ use Rattle.rows.specs.Edge.{edge}
 use Rattle.blocks.specs.Refuse.{Test, size, stride, number, read, written, _asks_, lowest, orSame, sizeOk, blockSide, strideOk, partLen, holds, holdsAll}
 use Rattle.blocks.specs.Edge.{placeOk}
 use Rattle.blocks.specs.Mask.{flagsOk}
-use Rattle.blocks.specs.declared.frame.Area.{Area}
 use Rattle.blocks.specs.declared.frame.Frame.{Frame}
 use Rattle.blocks.specs.declared.window.Part.{Part}
 
@@ -59,18 +58,6 @@ windowSide kind side = before kind + side + after kind
 abbrev pub windowStart : (kind : ℕ) → ℤ → ℤ
 windowStart kind x = x -ℤ pos (before kind)
 
--- all of them, as the code carries them
-abbrev pub areaOf : (f : Frame) (planeNo kind w h : ℕ) (x y : ℤ) → Area
-areaOf f planeNo kind w h x y =
-    record {
-      ww = windowSide kind w;
-      wh = windowSide kind h;
-      iw = planeW f planeNo;
-      ih = planeH f planeNo;
-      left = windowStart kind x;
-      top = windowStart kind y;
-    }
-
 abbrev pub windowTests : (f : Frame) (planeNo pl planeStride kind w h : ℕ) (x y : ℤ) (mode sl : ℕ) → List Test
 windowTests f planeNo pl planeStride kind w h x y mode sl =
     size asks frameSizesOk f planeNo
@@ -107,11 +94,6 @@ windowAt true planeStride ww wh x y =
     record { number = 0; buffer = 1; place = up y * planeStride + up x; stride = planeStride; len = partLen planeStride ww wh }
 windowAt false planeStride ww wh x y = record { number = 0; buffer = 2; place = 0; stride = ww; len = partLen ww ww wh }
 
--- the same of an area
-abbrev pub areaAt : Area → (mode planeStride : ℕ) → Part
-areaAt a mode planeStride =
-    windowAt (isPlanes mode (a .ww) (a .wh) (a .iw) (a .ih) (a .left) (a .top)) planeStride (a .ww) (a .wh) (a .left) (a .top)
-
 -- refused: the number and zeros
 abbrev pub noPart : ℕ → Part
 noPart verdict = record { number = verdict; buffer = 0; place = 0; stride = 0; len = 0 }
@@ -127,11 +109,6 @@ windowOf f planeNo pl planeStride kind w h x y mode sl =
 unfoldable pub fetched : (planes : Bool) (plane : List ℕ) (planeStride ww wh iw ih : ℕ) (x y : ℤ) → List ℕ → List ℕ
 fetched true plane planeStride ww wh iw ih x y scratch = scratch
 fetched false plane planeStride ww wh iw ih x y scratch = fill scratch ww ww wh (edge plane planeStride iw ih x y)
-
--- the same of an area
-abbrev pub areaFetched : Area → (plane : List ℕ) (planeStride mode : ℕ) → List ℕ → List ℕ
-areaFetched a plane planeStride mode scratch =
-    fetched (isPlanes mode (a .ww) (a .wh) (a .iw) (a .ih) (a .left) (a .top)) plane planeStride (a .ww) (a .wh) (a .iw) (a .ih) (a .left) (a .top) scratch
 
 unfoldable pub scratchOf : (verdict : ℕ) (f : Frame) (planeNo : ℕ) (plane : List ℕ) (planeStride kind w h : ℕ) (x y : ℤ) (mode : ℕ) → List ℕ → List ℕ
 scratchOf verdict f planeNo plane planeStride kind w h x y mode scratch =

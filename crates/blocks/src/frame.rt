@@ -2,7 +2,8 @@
 ghost use mathlib.Core.Path.{_≡_};
 ghost use Prim.Native.Nat.{_^_, _≤_};
 ghost use lib.IntN.{natAbs};
-ghost use Rattle.blocks.specs.Window.{planeSide, planeW, planeH, frameSizesOk, frameNamesOk, before, after, windowSide, windowStart, areaOf};
+ghost use Rattle.blocks.specs.Window.{planeSide, planeW, planeH, frameSizesOk, frameNamesOk, before, after, windowSide, windowStart};
+ghost use Rattle.blocks.specs.inner.Window.{areaOf};
 use crate::mask::flags_ok;
 use crate::refuse::size_ok;
 

@@ -7,7 +7,7 @@ ghost use Rattle.rows.specs.Places.{fill};
 ghost use Rattle.rows.specs.Combine.{both};
 ghost use Rattle.rows.specs.Mask.{weightOf, maskAt};
 ghost use Rattle.blocks.specs.Refuse.{need, lowest, holds, holdsAll};
-ghost use Rattle.blocks.specs.Ready.{Depths, Weighing};
+ghost use Rattle.blocks.specs.inner.Ready.{Depths, Weighing};
 ghost use Rattle.blocks.specs.Mask.{evenOk, maskSide, flagsOk, signOk, wMaskTests};
 use crate::refuse::held;
 use crate::refuse::needed;

@@ -6,7 +6,7 @@ ghost use lib.ListN.{length};
 ghost use Rattle.rows.specs.Numbers.{at, between, clipTo, near};
 ghost use Rattle.rows.specs.Shear.{Q, topBit, recipPlace, g, shearC, shearD, affineOf, middle, offsetOf};
 ghost use Rattle.blocks.specs.Refuse.{need, lowest};
-ghost use Rattle.blocks.specs.Ready.{Divides, Entries, Moves};
+ghost use Rattle.blocks.specs.inner.Ready.{Divides, Entries, Moves};
 ghost use Rattle.blocks.specs.Shear.{divisorTests, divisorOf, entriesOk, shearTests, sheared, ShearAnswer, affineMvTests, withMv, AffineMvAnswer};
 use crate::refuse::needed;
 use rows::numbers::keep32;

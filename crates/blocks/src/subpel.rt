@@ -6,7 +6,7 @@ ghost use lib.ListN.{length};
 ghost use Rattle.rows.specs.Numbers.{at, half, low16, minus16};
 ghost use Rattle.rows.specs.Places.{fill};
 ghost use Rattle.rows.specs.Subpel.{tapped};
-ghost use Rattle.blocks.specs.Ready.{Lines};
+ghost use Rattle.blocks.specs.inner.Ready.{Lines};
 use rows::numbers::half_power;
 use rows::subpel::mid_prep_row;
 

@@ -7,7 +7,7 @@ ghost use Rattle.rows.specs.Numbers.{at, low16, minus16};
 ghost use Rattle.rows.specs.Places.{fill};
 ghost use Rattle.rows.specs.Warp.{filterNo, isThere, every, allThere, warped};
 ghost use Rattle.blocks.specs.Refuse.{need, lowest, strideOk, holds, reads, wholeFilters};
-ghost use Rattle.blocks.specs.Ready.{Rows, Pass};
+ghost use Rattle.blocks.specs.inner.Ready.{Rows, Pass};
 ghost use Rattle.blocks.specs.Warp.{warpPlaceOk, warpTests};
 use crate::refuse::held;
 use crate::refuse::needed;

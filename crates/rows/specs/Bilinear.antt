@@ -8,10 +8,6 @@ use Rattle.rows.specs.Copy.{put, prep}
 unfoldable pub bilin : ℤ → ℤ → ℕ → ℤ
 bilin a b f = pos 16 *ℤ a +ℤ pos f *ℤ (b -ℤ a)
 
--- of the numbers x at place p and a step on
-abbrev pub bilinAt : (ℕ → ℤ) → (p step : ℕ) → ℕ → ℤ
-bilinAt x p step f = bilin (x p) (x (p + step)) f
-
 -- "R(n) adds half of 2^n, nothing for n = 0, and shifts by n"
 unfoldable pub R : ℕ → ℤ → ℤ
 R n v = v +ℤ pos (half n) >> n

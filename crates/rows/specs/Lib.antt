@@ -1,8 +1,6 @@
 -- Document 01's arithmetic, in its order. A reader who believes these files and the kit can believe the contracts.
 pub mod Numbers
 pub mod Depth
-pub mod words
-pub mod bytes
 pub mod Places
 pub mod Copy
 pub mod Combine
@@ -16,3 +14,4 @@ pub mod Warp
 pub mod Shear
 pub mod Cut
 pub mod Worked
+pub mod inner

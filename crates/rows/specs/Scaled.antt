@@ -1,8 +1,7 @@
 -- E1, a reference of another size: where a pixel stands in it, and the pixel as one rule that looks up each row directly. Assumes nothing.
-use Prim.Native.Nat.{ℕ, zero, suc, _+_, _-_, _*_, _/_, _%_, _^_, _≤_, _<_, min}
+use Prim.Native.Nat.{ℕ, zero, suc, _+_, _-_, _*_, _/_, _%_, _^_, _≤_, _<_}
 use lib.IntN.{ℤ, pos, _+ℤ_}
 use mathlib.Core.List.{List}
-use mathlib.Core.Path.{_≡_}
 use lib.ListN.{getD}
 use Rattle.rows.specs.Numbers.{clip, half, low16, minus16, _>>_}
 use Rattle.rows.specs.Subpel.{Axis, whole, by, filter, tapped}
@@ -56,25 +55,6 @@ putBilinScaled M B f g q = clip M (R (4 + B) (bilin (bilinMid B f q 0) (bilinMid
 
 unfoldable pub prepBilinScaled : (B P : ℕ) → ℕ → ℕ → (ℕ → ℕ → ℕ) → ℤ
 prepBilinScaled B P f g q = minus16 (low16 (R 4 (bilin (bilinMid B f q 0) (bilinMid B f q 1) g))) (pos P)
-
--- ---- how the code goes: a row, whose column 0 is at place o of l
-
--- the eight pixels at -3 to +4 from position p
-abbrev pub eightAt : (ℕ → ℕ) → (o p : ℕ) → ℕ → ℕ
-eightAt src o p a = src (o + pixelOf p + a - 3)
-
--- the places fetched for it: the pixel's own, and those of all taps where the top four bits of its fraction aren't 0
-abbrev pub Fetched : (l o p : ℕ) → Type 0
-Fetched l o p = (3 * min (sixteenth p) 1 ≤ o + pixelOf p) × (o + pixelOf p + 4 * min (sixteenth p) 1 < l)
-
--- a start and a step within their ranges
-abbrev pub Steps : (start step : ℕ) → Type 0
-Steps start step = (start ≤ 1023) × (step ≤ 4096)
-
--- two tables that say of each of w columns which pixel it is in, counted from the row's first, and at which sixteenth
-pub record Tabled (pixels fractions : List ℕ) (w start step : ℕ) : Type 0 where
-  pub pixel : (i : ℕ) → i < w → getD pixels i 0 ≡ pixelOf (position start step i)
-  pub fraction : (i : ℕ) → i < w → getD fractions i 0 ≡ sixteenth (position start step i)
 
 -- what a row of w columns by two tables relies on: of each column the pixel and the next are within l places, and the fraction is one of 0 to 15
 pub record PairsFetched (l o : ℕ) (pixels fractions : List ℕ) (w : ℕ) : Type 0 where

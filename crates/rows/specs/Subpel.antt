@@ -1,11 +1,10 @@
 -- 8-tap: the filter of an axis, and the pixel as one rule on the pixels around a place. Assumes nothing.
-use Prim.Native.Nat.{ℕ, zero, suc, _+_, _-_, _*_, _%_, _^_, _≤_, _<_}
+use Prim.Native.Nat.{ℕ, zero, suc, _+_, _-_, _*_, _%_}
 use lib.Dec.{ltb}
-use lib.IntN.{ℤ, pos, negsuc, natAbs, _+ℤ_, _*ℤ_}
-use lib.Signed.{shrZ}
-use mathlib.Core.Bool.{Bool, true, false, cond}
+use lib.IntN.{ℤ, pos, negsuc, _+ℤ_, _*ℤ_}
+use mathlib.Core.Bool.{cond}
 use mathlib.Core.List.{List}
-use Rattle.rows.specs.Numbers.{at, clip, half, low16, minus16, modZ, sum, sumZ, _>>_}
+use Rattle.rows.specs.Numbers.{at, clip, half, low16, minus16, sumZ, _>>_}
 use Rattle.rows.specs.Places.{rowOf}
 use Rattle.rows.specs.Copy.{put, prep}
 
@@ -36,23 +35,6 @@ filterBits (negsuc t) = 7
 -- "Each filter sum is S": the taps of f times the eight numbers x 0 to x 7, which "stand at -3 to +4"
 unfoldable pub S : List ℤ → (ℕ → ℤ) → ℤ
 S f x = sumZ 8 (λ t. at f t *ℤ x t)
-
--- taps whose sizes sum to 128 at most: by them the sum of eight bytes is of sixteen bits
-abbrev pub Near : List ℤ → Type 0
-Near f = sum 8 (λ t. natAbs (at f t)) ≤ 128
-
--- the high byte of a number of sixteen bits, or the low one
-abbrev pub byteOf : Bool → ℤ → ℤ
-byteOf true x = shrZ x 256
-byteOf false x = pos (modZ x 256)
-
--- taps that are near, and rounded in sixteen bits too
-abbrev pub Short : List ℤ → (r n : ℕ) → Type 0
-Short f r n = Near f × (r ≤ 127) × (n ≤ 8)
-
--- what any sum can be rounded by
-abbrev pub Rounds : (r n : ℕ) → Type 0
-Rounds r n = (r < 2 ^ 20) × (n < 32)
 
 -- (S + r) >> n
 unfoldable pub tapped : List ℤ → (r n : ℕ) → (ℕ → ℤ) → ℤ

@@ -1,6 +1,5 @@
 -- Warp: the filter numbers, and the two passes as one rule on the pixels around a place. Assumes nothing.
-use Prim.Native.Nat.{ℕ, zero, suc, _+_, _-_, _<_}
-use mathlib.Core.Path.{_≡_}
+use Prim.Native.Nat.{ℕ, zero, suc, _+_, _-_}
 use lib.Dec.{ltb}
 use lib.IntN.{ℤ, pos, negsuc, natAbs, _+ℤ_, _*ℤ_}
 use mathlib.Core.Bool.{Bool, true, false, _&&_}
@@ -21,10 +20,6 @@ isThere n (negsuc k) = false
 unfoldable pub every : ℕ → (ℕ → Bool) → Bool
 every zero test = true
 every (suc n) test = every n test && test n
-
--- the filters of row r of a pass are
-abbrev pub RowThere : ℕ → (m a b : ℤ) → ℕ → Type 0
-RowThere n m a b r = (c : ℕ) → c < 8 → isThere n (filterNo m a b r c) ≡ true
 
 -- "one of these 184 filter numbers isn't in the table" where this fails: 15 rows of the first pass, 8 of the second, eight columns each
 unfoldable pub allThere : ℕ → (mx my a b c d : ℤ) → Bool

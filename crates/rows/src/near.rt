@@ -8,7 +8,8 @@ ghost use lib.IntN.{pos, natAbs, _+ℤ_, _*ℤ_};
 ghost use lib.ListN.{length};
 ghost use lib.Signed.{mag, shrZ};
 ghost use Rattle.rows.specs.Numbers.{at, low16, minus16, modZ, sum};
-ghost use Rattle.rows.specs.Subpel.{S, Near};
+ghost use Rattle.rows.specs.Subpel.{S};
+ghost use Rattle.rows.specs.inner.Subpel.{Near};
 use crate::numbers::keep16;
 use crate::numbers::wrapping_sub16;
 

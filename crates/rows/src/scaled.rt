@@ -2,7 +2,7 @@
 ghost use mathlib.Core.Path.{_≡_};
 ghost use Prim.Native.Nat.{_≤_};
 ghost use lib.ListN.{length};
-ghost use Rattle.rows.specs.Scaled.{Steps, Tabled};
+ghost use Rattle.rows.specs.inner.Scaled.{Steps, Tabled};
 
 // Where the columns of a row stand: the first at start, each next a step on.
 pub struct Columns {

@@ -4,7 +4,7 @@ ghost use mathlib.Core.Path.{_≡_};
 ghost use lib.ListN.{length};
 ghost use Rattle.rows.specs.Places.{fill};
 ghost use Rattle.rows.specs.Edge.{edge};
-ghost use Rattle.blocks.specs.Ready.{Fetch};
+ghost use Rattle.blocks.specs.inner.Ready.{Fetch};
 ghost use Rattle.blocks.specs.Edge.{EdgeAnswer};
 use crate::edge::check_edge;
 use crate::edge::nearest_row;

@@ -2,8 +2,9 @@
 // Windows: where a block's pixels with its margins lie, in the plane or in scratch.
 ghost use mathlib.Core.Path.{_≡_};
 ghost use lib.ListN.{length};
-ghost use Rattle.blocks.specs.Ready.{Fetch, PartIn};
-ghost use Rattle.blocks.specs.Window.{areaAt, areaFetched, windowOf, scratchOf, partOf, WindowAnswer};
+ghost use Rattle.blocks.specs.inner.Ready.{Fetch, PartIn};
+ghost use Rattle.blocks.specs.Window.{windowOf, scratchOf, partOf, WindowAnswer};
+ghost use Rattle.blocks.specs.inner.Window.{areaAt, areaFetched};
 use super::edge::edge_rows;
 use crate::frame::Area;
 use crate::frame::Frame;

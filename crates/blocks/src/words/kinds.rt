@@ -2,8 +2,8 @@
 ghost use mathlib.Core.Path.{_≡_};
 ghost use lib.ListN.{length};
 ghost use Rattle.rows.specs.Places.{fill};
-ghost use Rattle.rows.specs.words.Pixel.{BitsOk, BiasOk, MaxOk};
-ghost use Rattle.blocks.specs.Ready.{Rows, Windowed};
+ghost use Rattle.rows.specs.inner.words.Pixel.{BitsOk, BiasOk, MaxOk};
+ghost use Rattle.blocks.specs.inner.Ready.{Rows, Windowed};
 ghost use Rattle.blocks.specs.Window.{aroundPart};
 ghost use Rattle.blocks.specs.Order.{kindNumber, putRule, prepRule};
 use super::bilinear::prep_bilin_rows;

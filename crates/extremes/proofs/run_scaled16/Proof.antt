@@ -1,7 +1,8 @@
 use borrow.Author.Needs.{needs}
 use Prim.Native.Nat.{ℕ, zero, suc, _<_}
 use native.Mathlib.Omega.{arith}
-use Rattle.rows.specs.Scaled.{position, Fetched}
+use Rattle.rows.specs.Scaled.{position}
+use Rattle.rows.specs.inner.Scaled.{Fetched}
 use Rattle.extremes.proofs.run_scaled16.Statement.{statement}
 use Rattle.extremes.proofs.run_scaled16.Tie as tie
 

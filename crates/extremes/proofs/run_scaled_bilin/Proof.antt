@@ -2,7 +2,8 @@ use borrow.Author.Needs.{needs}
 use native.Mathlib.Omega.{arith}
 use mathlib.Core.List.{List}
 use Prim.Native.Nat.{ℕ, _≤_}
-use Rattle.rows.specs.Scaled.{Tabled, PairsFetched}
+use Rattle.rows.specs.Scaled.{PairsFetched}
+use Rattle.rows.specs.inner.Scaled.{Tabled}
 use Rattle.extremes.proofs.run_scaled_bilin.Statement.{statement}
 use Rattle.extremes.proofs.run_scaled_bilin.Tie as tie
 

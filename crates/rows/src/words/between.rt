@@ -5,8 +5,9 @@ ghost use lib.IntN.{pos, _+ℤ_};
 ghost use lib.ListN.{length};
 ghost use lib.Signed.{shrZ};
 ghost use Rattle.rows.specs.Numbers.{px, clip, half, low16, minus16, modZ};
-ghost use Rattle.rows.specs.Bilinear.{bilin, R, bilinAt};
-ghost use Rattle.rows.specs.words.Pixel.{MaxOk};
+ghost use Rattle.rows.specs.Bilinear.{bilin, R};
+ghost use Rattle.rows.specs.inner.Bilinear.{bilinAt};
+ghost use Rattle.rows.specs.inner.words.Pixel.{MaxOk};
 use super::pixel::Pixel;
 use crate::near::near_kept;
 

@@ -16,7 +16,7 @@ use Rattle.rows.proofs.Laws.Numbers.Signed.{le-yes, one-part}
 use Rattle.blocks.specs.Refuse.{lowest, holds, reads}
 use Rattle.blocks.specs.Subpel.{on, sixteenthOk}
 use Rattle.blocks.specs.Bilinear.{bilinTests}
-use Rattle.blocks.specs.Ready.{Block, Rows, Pairs, Bilin}
+use Rattle.blocks.specs.inner.Ready.{Block, Rows, Pairs, Bilin}
 use Rattle.blocks.proofs.Laws.Calls.Refuse.{all-met, stride-met, holds-met}
 use Rattle.blocks.proofs.Laws.Calls.Ready.{block-met, rows-met}
 use Rattle.blocks.proofs.Laws.Loops.Rows.{Filled, filled-span, row-in}

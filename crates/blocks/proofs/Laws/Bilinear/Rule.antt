@@ -9,11 +9,12 @@ use lib.Signed.{shrZ}
 use Rattle.rows.specs.Numbers.{at, px, clip, low16, minus16}
 use Rattle.rows.specs.Places.{pixel, fill, around}
 use Rattle.rows.specs.Copy.{put, prep}
-use Rattle.rows.specs.Bilinear.{bilin, bilinAt, R, along, down, bilinMid, putBilin, prepBilin}
+use Rattle.rows.specs.Bilinear.{bilin, R, along, down, bilinMid, putBilin, prepBilin}
+use Rattle.rows.specs.inner.Bilinear.{bilinAt}
 use Rattle.rows.proofs.Laws.Blocks.Fill.{fill-in, fill-same}
 use Rattle.rows.proofs.Laws.Numbers.Low.{low16-again}
 use Rattle.rows.proofs.Laws.Filters.Bilinear.{shr-none}
-use Rattle.blocks.specs.Ready.{Bilin}
+use Rattle.blocks.specs.inner.Ready.{Bilin}
 
 -- ---- the pixel rules by case
 module _ (M B : ℕ) (q : ℕ → ℕ → ℕ) where

@@ -9,7 +9,7 @@ use borrow.Author.Tests.{le-leb, lt-leb, leb-true}
 use lib.Dec.{leb}
 use lib.ListN.{getD}
 use Rattle.rows.specs.Places.{pick}
-use Rattle.rows.specs.Combine.{AtMost}
+use Rattle.rows.specs.inner.Combine.{AtMost}
 use Rattle.rows.proofs.Laws.Blocks.Places.{by-lt, row-le, col-of, row-of}
 use Rattle.blocks.specs.Blend.{firstAbove, spotAt}
 use Rattle.blocks.specs.declared.blend.Spot.{Spot}

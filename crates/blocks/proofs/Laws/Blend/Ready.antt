@@ -9,9 +9,10 @@ use borrow.Author.Tests.{le-leb, lt-leb, leb-true, ne-eqb}
 use lib.IntN.{ℤ, natAbs}
 use lib.ListN.{length}
 use Rattle.rows.specs.Places.{pixel, fill}
-use Rattle.rows.specs.Combine.{blend, AtMost}
+use Rattle.rows.specs.Combine.{blend}
+use Rattle.rows.specs.inner.Combine.{AtMost}
 use Rattle.blocks.specs.Refuse.{Test, need, lowest, orSame, sizeOk, blockSide, strideOk, holds, above64, _asks_}
-use Rattle.blocks.specs.Ready.{Block, Rows}
+use Rattle.blocks.specs.inner.Ready.{Block, Rows}
 use Rattle.blocks.specs.Blend.{firstAbove, noneAbove, blendShape, spotAt, spotOf, BlendAnswer, morphTests}
 use Rattle.blocks.specs.declared.blend.Spot.{Spot}
 use Rattle.blocks.proofs.Laws.Calls.Refuse.{all-met, later, sooner, refused}

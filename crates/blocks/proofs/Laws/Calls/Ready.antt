@@ -4,7 +4,7 @@ use mathlib.Core.Bool.{Bool, true}
 use mathlib.Core.List.{[], _∷_}
 use Prim.Native.Nat.{ℕ}
 use Rattle.blocks.specs.Refuse.{size, _asks_, need, blockSide, sizeOk, strideOk, holds}
-use Rattle.blocks.specs.Ready.{Block, Rows}
+use Rattle.blocks.specs.inner.Ready.{Block, Rows}
 use Rattle.blocks.proofs.Laws.Calls.Refuse.{all-met, later, sooner, size-met, stride-met, holds-met}
 
 pub block-met : (w h : ℕ) → sizeOk 64 w ≡ true → sizeOk 64 h ≡ true → Block w h

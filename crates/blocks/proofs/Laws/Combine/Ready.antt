@@ -8,7 +8,7 @@ use lib.IntN.{ℤ, pos, negsuc}
 use lib.Signed.{mag, leZ}
 use Rattle.rows.proofs.Laws.Blocks.Fill.{and-true}
 use Rattle.blocks.specs.Refuse.{lowest, holds}
-use Rattle.blocks.specs.Ready.{Block, Rows}
+use Rattle.blocks.specs.inner.Ready.{Block, Rows}
 use Rattle.blocks.specs.Combine.{combineTests, avgTests, wAvgTests, maskTests, weightOk}
 use Rattle.blocks.proofs.Laws.Calls.Refuse.{all-met, holds-met}
 use Rattle.blocks.proofs.Laws.Calls.Ready.{block-met, rows-met}

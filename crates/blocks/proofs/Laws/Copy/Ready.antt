@@ -3,7 +3,7 @@ use mathlib.Core.Path.{_≡_}
 use mathlib.Core.Bool.{Bool, true}
 use Prim.Native.Nat.{ℕ}
 use Rattle.blocks.specs.Refuse.{lowest}
-use Rattle.blocks.specs.Ready.{Block, Rows}
+use Rattle.blocks.specs.inner.Ready.{Block, Rows}
 use Rattle.blocks.specs.Copy.{putTests, prepTests}
 use Rattle.blocks.proofs.Laws.Calls.Refuse.{all-met}
 use Rattle.blocks.proofs.Laws.Calls.Ready.{block-met, rows-met}

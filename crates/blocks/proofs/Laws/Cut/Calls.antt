@@ -18,7 +18,7 @@ use Rattle.rows.proofs.Laws.Blocks.Fill.{length-fill, fill-in}
 use Rattle.rows.proofs.Laws.Cut.Cut.{length-lent, each-map, cut-each, fill-narrow}
 use Rattle.rows.proofs.Laws.Cut.Kernel.{around-moved, same-across, same-down}
 use Rattle.blocks.specs.Refuse.{Test}
-use Rattle.blocks.specs.Ready.{Block, Rows}
+use Rattle.blocks.specs.inner.Ready.{Block, Rows}
 use Rattle.blocks.specs.Subpel.{put8Rule, prep8Rule}
 use Rattle.blocks.specs.Window.{before}
 use Rattle.blocks.specs.Order.{kindNumber, orderTests, putRule, prepRule, aroundIn, putPicture, prepPicture, orderDst, orderTmp}

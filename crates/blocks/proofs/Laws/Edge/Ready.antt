@@ -16,7 +16,7 @@ use Rattle.rows.specs.Places.{rowOf}
 use Rattle.rows.specs.Edge.{endless, edge}
 use Rattle.rows.proofs.Laws.Numbers.Signed.{back, backn, fit-abs, abs-add, sub-parts, eq-of, clip-up}
 use Rattle.blocks.specs.Refuse.{lowest}
-use Rattle.blocks.specs.Ready.{Fetch}
+use Rattle.blocks.specs.inner.Ready.{Fetch}
 use Rattle.blocks.specs.declared.frame.Area.{Area}
 use Rattle.blocks.specs.Edge.{placeOk, edgeTests}
 use Rattle.blocks.proofs.Laws.Calls.Refuse.{all-met, size-met}

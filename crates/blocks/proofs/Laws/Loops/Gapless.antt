@@ -5,7 +5,7 @@ use Prim.Native.Nat.{ℕ, suc, _-_, _*_, _≤_}
 use native.Mathlib.Nat.{suc-mul, mul-comm, le-refl}
 use native.Mathlib.Omega.{arith}
 use Rattle.blocks.specs.Refuse.{holdsAll}
-use Rattle.blocks.specs.Ready.{Block, Rows}
+use Rattle.blocks.specs.inner.Ready.{Block, Rows}
 use Rattle.blocks.proofs.Laws.Calls.Refuse.{holds-met}
 
 pub gapless-met : (l w h : ℕ) → Block w h → holdsAll l w h ≡ true → Rows l w w h

@@ -9,7 +9,7 @@ use lib.ListN.{length, getD}
 use Rattle.rows.specs.Places.{rowOf, span, splice}
 use Rattle.rows.proofs.Laws.Blocks.Places.{span-at, row-same}
 use Rattle.rows.proofs.Laws.Blocks.Fill.{fill-out}
-use Rattle.blocks.specs.Ready.{Rows}
+use Rattle.blocks.specs.inner.Ready.{Rows}
 use Rattle.blocks.proofs.Laws.Loops.Rows.{Filled, filled-more, filled-span, row-in}
 
 module _ {A : Type 0} (z : A) where

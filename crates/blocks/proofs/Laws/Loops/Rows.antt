@@ -8,7 +8,7 @@ use lib.ListN.{length, getD}
 use Rattle.rows.specs.Places.{rowOf, span, splice, fill}
 use Rattle.rows.proofs.Laws.Blocks.Places.{length-rowOf, getD-rowOf, row-fits, span-length}
 use Rattle.rows.proofs.Laws.Blocks.Fill.{fill-none, fill-more, length-fill}
-use Rattle.blocks.specs.Ready.{Rows}
+use Rattle.blocks.specs.inner.Ready.{Rows}
 
 module _ {A : Type 0} where
   pub record Filled (s w : ℕ) (f : ℕ → ℕ → A) (d₀ : List A) (h y : ℕ) (d : List A) : Type 0 where

@@ -14,7 +14,7 @@ use Rattle.rows.specs.Mask.{maskAt}
 use Rattle.rows.proofs.Laws.Numbers.Signed.{le-yes, one-part}
 use Rattle.rows.proofs.Laws.Blocks.Fill.{and-true}
 use Rattle.blocks.specs.Refuse.{lowest}
-use Rattle.blocks.specs.Ready.{Rows, Weighing}
+use Rattle.blocks.specs.inner.Ready.{Rows, Weighing}
 use Rattle.blocks.specs.Mask.{evenOk, maskSide, flagsOk, signOk, wMaskTests}
 use Rattle.blocks.proofs.Laws.Calls.Refuse.{all-met}
 use Rattle.blocks.proofs.Laws.Calls.Ready.{block-met, rows-met}

@@ -12,7 +12,7 @@ use Rattle.rows.specs.Combine.{masked, both}
 use Rattle.rows.specs.Mask.{weightOf, pairOf, fourOf}
 use Rattle.rows.proofs.Laws.Blocks.Places.{length-rowOf, getD-rowOf, row-same}
 use Rattle.rows.proofs.Laws.Blocks.Fill.{length-fill, fill-in, fill-same}
-use Rattle.blocks.specs.Ready.{Rows}
+use Rattle.blocks.specs.inner.Ready.{Rows}
 use Rattle.blocks.proofs.Laws.Loops.Rows.{row-in}
 
 -- the weight at column i of row j, the pixel there by a weight v, and the pixel by its own

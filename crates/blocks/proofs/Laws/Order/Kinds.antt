@@ -16,7 +16,7 @@ use Rattle.blocks.specs.Subpel.{typeOk, sixteenthOk, fractionOk, filterI
 use Rattle.blocks.specs.Warp.{warpPlaceOk}
 use Rattle.blocks.specs.Window.{before, after, aroundPart}
 use Rattle.blocks.specs.Order.{kindSizeOk, motionOk, filtersOk}
-use Rattle.blocks.specs.Ready.{Block, Rows, Taps, Bilin, Warps, Windowed}
+use Rattle.blocks.specs.inner.Ready.{Block, Rows, Taps, Bilin, Warps, Windowed}
 use Rattle.blocks.specs.declared.order.Kind.{Kind}
 use Rattle.blocks.specs.declared.order.Kind.the-variants.{Copy, Subpel, Bilinear, Warp}
 use Rattle.blocks.specs.declared.filters.SubpelMotion.{SubpelMotion}

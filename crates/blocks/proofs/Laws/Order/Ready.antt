@@ -13,7 +13,7 @@ use Rattle.blocks.specs.Subpel.{subpelOk}
 use Rattle.blocks.specs.Warp.{warpPlaceOk}
 use Rattle.blocks.specs.Window.{planeW, planeH, frameSizesOk, frameNamesOk, windowSide, windowTests}
 use Rattle.blocks.specs.Order.{kindNumber, kindSizeOk, motionOk, filtersOk, orderTests}
-use Rattle.blocks.specs.Ready.{Block, Rows, Windowed}
+use Rattle.blocks.specs.inner.Ready.{Block, Rows, Windowed}
 use Rattle.blocks.proofs.Laws.Calls.Refuse.{all-met, met-all, then, later, sooner}
 use Rattle.blocks.proofs.Laws.Calls.Ready.{block-met, rows-met}
 use Rattle.blocks.proofs.Laws.Warp.Ready.{place-met}

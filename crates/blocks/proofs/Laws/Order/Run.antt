@@ -10,9 +10,11 @@ use Rattle.rows.specs.Depth.{bitsOf, biasOf, maxOf}
 use Rattle.rows.specs.Places.{fill}
 use Rattle.rows.proofs.Laws.Blocks.Fill.{fill-same}
 use Rattle.blocks.specs.Refuse.{lowest, orSame}
-use Rattle.blocks.specs.Ready.{Rows, Windowed, PartIn}
-use Rattle.blocks.specs.Window.{areaOf, windowTests, areaAt, noPart, windowOf, areaFetched, scratchOf, partOf, aroundPart}
-use Rattle.blocks.specs.Order.{kindNumber, kindOf, putRule, prepRule, putPicture, prepPicture, planeOf, orderTests, orderNumber, orderScratch, orderPart, orderDst, orderTmp, OrderPutAnswer, OrderPrepAnswer}
+use Rattle.blocks.specs.inner.Ready.{Rows, Windowed, PartIn}
+use Rattle.blocks.specs.Window.{windowTests, noPart, windowOf, scratchOf, partOf, aroundPart}
+use Rattle.blocks.specs.inner.Window.{areaOf, areaAt, areaFetched}
+use Rattle.blocks.specs.Order.{kindNumber, kindOf, putRule, prepRule, putPicture, prepPicture, planeOf, orderTests, orderNumber, orderScratch, orderDst, orderTmp, OrderPutAnswer, OrderPrepAnswer}
+use Rattle.blocks.specs.inner.Order.{orderPart}
 use Rattle.blocks.proofs.Laws.Calls.Refuse.{done, refused}
 use Rattle.blocks.proofs.Laws.Window.Ready.{no-part-of, answer-number, window-number, window-is, Accepted, accepted-scratch, scratch-kept}
 use Rattle.blocks.proofs.Laws.Window.Holds.{picked-in, Picked, picked}

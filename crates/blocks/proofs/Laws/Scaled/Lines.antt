@@ -12,13 +12,14 @@ use mir.Val.{toZ}
 use Rattle.rows.specs.Numbers.{at, up, dn, half, clip, low16, minus16, modZ, _>>_}
 use Rattle.rows.specs.Places.{rowOf}
 use Rattle.rows.specs.Subpel.{Axis, whole, by, filter, tapped}
-use Rattle.rows.specs.Bilinear.{bilin, bilinAt, R}
+use Rattle.rows.specs.Bilinear.{bilin, R}
+use Rattle.rows.specs.inner.Bilinear.{bilinAt}
 use Rattle.rows.specs.Scaled.{position, pixelOf, inFamily, putDown, prepDown}
 use Rattle.rows.proofs.Laws.Numbers.Low.{toZ-ind}
 use Rattle.rows.proofs.Laws.Blocks.Places.{getD-rowOf, row-same}
 use Rattle.rows.proofs.Laws.Numbers.Signed.{add-parts, sub-parts, times-up, times-dn, eq-of}
 use Rattle.rows.proofs.Laws.Filters.Taps.{tapped-same}
-use Rattle.blocks.specs.Scaled.{Turned, Filtered}
+use Rattle.blocks.specs.inner.Scaled.{Turned, Filtered}
 use Rattle.blocks.specs.declared.scaled.ScaledPlan.{ScaledPlan}
 use Rattle.blocks.proofs.Laws.Scaled.Rows.{taps-round}
 

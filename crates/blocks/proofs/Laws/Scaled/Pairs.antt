@@ -8,15 +8,17 @@ use lib.IntN.{ℤ, pos, _+ℤ_, _*ℤ_}
 use lib.ListN.{length, getD}
 use Rattle.rows.specs.Numbers.{at, px, low16}
 use Rattle.rows.specs.Places.{rowOf, span, splice}
-use Rattle.rows.specs.Bilinear.{R, bilin, bilinAt}
-use Rattle.rows.specs.Scaled.{position, pixelOf, sixteenth, Tabled, PairsFetched}
+use Rattle.rows.specs.Bilinear.{R, bilin}
+use Rattle.rows.specs.inner.Bilinear.{bilinAt}
+use Rattle.rows.specs.Scaled.{position, pixelOf, sixteenth, PairsFetched}
+use Rattle.rows.specs.inner.Scaled.{Tabled}
 use Rattle.rows.proofs.Laws.Filters.Bilinear.{weighed}
 use Rattle.rows.proofs.Laws.Blocks.Places.{by-lt, row-at, row-length, row-same, splice-before, splice-in, splice-after, splice-length, span-length}
 use Rattle.rows.proofs.Laws.Filters.Scaled.{position-lt}
 use Rattle.rows.proofs.Laws.Numbers.Signed.{add-parts, eq-of}
-use Rattle.blocks.specs.Ready.{Block, Rows}
+use Rattle.blocks.specs.inner.Ready.{Block, Rows}
 use Rattle.blocks.specs.declared.scaled.ScaledPlan.{ScaledPlan}
-use Rattle.blocks.specs.Scaled.{LastTwo, Paired, byParity, pairLineOf}
+use Rattle.blocks.specs.inner.Scaled.{LastTwo, Paired, byParity, pairLineOf}
 use Rattle.blocks.proofs.Laws.Loops.Rows.{Filled, filled-none, filled-more, filled-span, turn}
 use Rattle.blocks.proofs.Laws.Scaled.Rows.{parity-even, parity-odd}
 

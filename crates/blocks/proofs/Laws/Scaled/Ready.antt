@@ -10,13 +10,15 @@ use lib.Dec.{leb, eqb}
 use lib.IntN.{ℤ, pos, negsuc}
 use Rattle.rows.specs.Depth.{bitsOf}
 use Rattle.rows.specs.Numbers.{up, between}
-use Rattle.rows.specs.Scaled.{position, pixelOf, sixteenth, Steps}
+use Rattle.rows.specs.Scaled.{position, pixelOf, sixteenth}
+use Rattle.rows.specs.inner.Scaled.{Steps}
 use Rattle.rows.proofs.Laws.Blocks.Fill.{and-true}
 use Rattle.rows.proofs.Laws.Blocks.Places.{by-lt}
 use Rattle.blocks.specs.Refuse.{Test, size, stride, number, table, read, written, _asks_, lowest, sizeOk, blockSide, strideOk, holds}
-use Rattle.blocks.specs.Ready.{Block, Rows}
+use Rattle.blocks.specs.inner.Ready.{Block, Rows}
 use Rattle.blocks.specs.Subpel.{subpelOk}
-use Rattle.blocks.specs.Scaled.{startOk, stepOk, scaledTypeOk, each, columnRead, readsScaled, scaledTests, scaledPlan, Filtered, Paired}
+use Rattle.blocks.specs.Scaled.{startOk, stepOk, scaledTypeOk, each, columnRead, readsScaled, scaledTests}
+use Rattle.blocks.specs.inner.Scaled.{scaledPlan, Filtered, Paired}
 use Rattle.blocks.proofs.Laws.Calls.Refuse.{all-met, both-met, stride-met, reads-met, met-reads, reads-past}
 use Rattle.blocks.proofs.Laws.Calls.Ready.{block-met, rows-met}
 use Rattle.blocks.proofs.Laws.Subpel.Ready.{family-le}

@@ -13,7 +13,7 @@ use Rattle.rows.proofs.Laws.Blocks.Places.{by-lt, length-rowOf, getD-rowOf, row
 use Rattle.rows.proofs.Laws.Filters.Taps.{sum-same}
 use Rattle.rows.proofs.Laws.Numbers.Signed.{add-parts, eq-of}
 use Rattle.rows.specs.Scaled.{pixelOf, sixteenth}
-use Rattle.blocks.specs.Scaled.{LastEight, LastTwo, Turned, byParity}
+use Rattle.blocks.specs.inner.Scaled.{LastEight, LastTwo, Turned, byParity}
 
 -- ---- rows that stand side by side in place of rows in their order: a sum of eight goes round
 

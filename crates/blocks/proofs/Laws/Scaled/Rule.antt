@@ -12,7 +12,8 @@ use Rattle.rows.specs.Bilinear.{bilin, R, along, bilinMid}
 use Rattle.rows.specs.Scaled.{position, pixelOf, sixteenth, inFamily, scaledMid, putDown, prepDown, putScaled, prepScaled, putBilinScaled, prepBilinScaled}
 use Rattle.rows.proofs.Laws.Blocks.Fill.{fill-same}
 use Rattle.rows.proofs.Laws.Filters.Taps.{tapped-same}
-use Rattle.blocks.specs.Scaled.{scaledAxis, scaledAround, scaledPlan, lineOf, pairLineOf}
+use Rattle.blocks.specs.Scaled.{scaledAxis, scaledAround}
+use Rattle.blocks.specs.inner.Scaled.{scaledPlan, lineOf, pairLineOf}
 use Rattle.blocks.specs.declared.scaled.ScaledPlan.{ScaledPlan}
 use Rattle.blocks.proofs.Laws.Scaled.Lines.{put-down-same, prep-down-same}
 

@@ -17,9 +17,10 @@ use Rattle.rows.specs.Places.{pick, pixel}
 use Rattle.rows.specs.Search.{rowApart, sad, moved, sadAt, Offset, Best, none, best, better, visit, through, steps, search, answer, centre, refine}
 use Rattle.rows.proofs.Laws.Numbers.Signed.{back, backn, fit-abs, add-parts, sub-parts, one-part, abs-parts, nonNeg-of}
 use Rattle.blocks.specs.Refuse.{lowest, orSame}
-use Rattle.blocks.specs.Ready.{Block, Rows, Blocks, Wider}
+use Rattle.blocks.specs.inner.Ready.{Block, Rows, Blocks, Wider}
 use Rattle.blocks.specs.declared.search.Best as code
-use Rattle.blocks.specs.Search.{bestOf, sadsTests, refineTests, RefineAnswer}
+use Rattle.blocks.specs.Search.{sadsTests, refineTests, RefineAnswer}
+use Rattle.blocks.specs.inner.Search.{bestOf}
 use Rattle.blocks.proofs.Laws.Calls.Refuse.{all-met, done}
 use Rattle.blocks.proofs.Laws.Calls.Ready.{block-met, rows-met}
 

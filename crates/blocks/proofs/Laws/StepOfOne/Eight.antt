@@ -10,7 +10,8 @@ use lib.Signed.{mag, shrZ}
 use mir.Syntax.{w16}
 use Rattle.rows.specs.Numbers.{at, up, dn, clip, half, low16, minus16, sum, sumZ, _>>_}
 use Rattle.rows.specs.Copy.{prep}
-use Rattle.rows.specs.Subpel.{Axis, whole, by, S, Near, tapped, mid, put8, prep8}
+use Rattle.rows.specs.Subpel.{Axis, whole, by, S, tapped, mid, put8, prep8}
+use Rattle.rows.specs.inner.Subpel.{Near}
 use Rattle.rows.specs.Scaled.{scaledMid, putDown, prepDown, putScaled, prepScaled}
 use Rattle.rows.proofs.Laws.Numbers.Low.{low16-keeps}
 use Rattle.rows.proofs.Laws.Filters.Near.{shr-apart}

@@ -11,7 +11,8 @@ use borrow.Author.Tests.{leb-true, le-leb}
 use lib.Dec.{leb}
 use lib.IntN.{ℤ, pos, negsuc}
 use lib.ListN.{length, getD, List·getD-eq-default}
-use Rattle.rows.specs.Depth.{High, bitsOf, biasOf, maxOf}
+use Rattle.rows.specs.Depth.{bitsOf, biasOf, maxOf}
+use Rattle.rows.specs.inner.Depth.{High}
 use Rattle.rows.specs.Numbers.{up}
 use Rattle.rows.specs.Places.{around}
 use Rattle.rows.specs.Subpel.{Axis, family, axis, filterBits, put8, prep8}

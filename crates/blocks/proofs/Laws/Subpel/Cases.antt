@@ -14,8 +14,9 @@ use Rattle.rows.specs.Subpel.{Axis, whole, by, axis, filterBits, tapped, mid, p
 use Rattle.rows.proofs.Laws.Blocks.Fill.{fill-in, fill-same}
 use Rattle.rows.proofs.Laws.Filters.Taps.{tapped-same}
 use Rattle.rows.proofs.Laws.Numbers.Low.{low16-again}
-use Rattle.blocks.specs.Ready.{Block, Rows, Taps, Lines}
-use Rattle.blocks.specs.Subpel.{tapsOf, planOf, putLine, prepLine, along, put8Rule, prep8Rule}
+use Rattle.blocks.specs.inner.Ready.{Block, Rows, Taps, Lines}
+use Rattle.blocks.specs.Subpel.{put8Rule, prep8Rule}
+use Rattle.blocks.specs.inner.Subpel.{tapsOf, planOf, putLine, prepLine, along}
 use Rattle.blocks.specs.declared.filters.Plan.{Plan}
 use Rattle.blocks.proofs.Laws.Subpel.Choice.{bits-fit}
 use Rattle.blocks.proofs.Laws.Subpel.Lines.{put-some, prep-some}

@@ -8,7 +8,7 @@ use borrow.Author.Tests.{le-ltb, lt-ltb}
 use lib.IntN.{ℤ, pos, negsuc}
 use Rattle.rows.specs.Numbers.{up, dn, half}
 use Rattle.rows.specs.Subpel.{family, axis, filterBits}
-use Rattle.blocks.specs.Subpel.{axisOf, filterOf, tapsOf, byOne, planOf}
+use Rattle.blocks.specs.inner.Subpel.{axisOf, filterOf, tapsOf, byOne, planOf}
 use Rattle.blocks.specs.declared.filters.Filter.the-variants.{Off, Ext, Subpel}
 
 -- ---- the filter of an axis

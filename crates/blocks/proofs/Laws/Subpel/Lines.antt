@@ -10,8 +10,8 @@ use Rattle.rows.specs.Places.{rowOf, span}
 use Rattle.rows.specs.Copy.{put, prep}
 use Rattle.rows.specs.Subpel.{tapped}
 use Rattle.rows.proofs.Laws.Blocks.Places.{row-same, row-fits}
-use Rattle.blocks.specs.Ready.{Lines}
-use Rattle.blocks.specs.Subpel.{putLine, prepLine}
+use Rattle.blocks.specs.inner.Ready.{Lines}
+use Rattle.blocks.specs.inner.Subpel.{putLine, prepLine}
 use Rattle.blocks.proofs.Laws.Loops.Rows.{Filled, filled-span, row-in}
 
 -- ---- in a turn at row y of a loop, the row is within both buffers, and the part lent is as long as the row

@@ -13,8 +13,9 @@ use Rattle.rows.specs.Subpel.{family}
 use Rattle.rows.proofs.Laws.Blocks.Places.{by-lt}
 use Rattle.rows.proofs.Laws.Blocks.Fill.{and-true}
 use Rattle.blocks.specs.Refuse.{Test, size, stride, _asks_, lowest, sizeOk, blockSide, strideOk, reads}
-use Rattle.blocks.specs.Ready.{Block, Rows, Taps}
-use Rattle.blocks.specs.Subpel.{typeOk, sixteenthOk, fractionOk, subpelOk, filterIn, on, subpelTests, filterOf, Held}
+use Rattle.blocks.specs.inner.Ready.{Block, Rows, Taps}
+use Rattle.blocks.specs.Subpel.{typeOk, sixteenthOk, fractionOk, subpelOk, filterIn, on, subpelTests}
+use Rattle.blocks.specs.inner.Subpel.{filterOf, Held}
 use Rattle.blocks.proofs.Laws.Calls.Refuse.{all-met, stride-met}
 use Rattle.blocks.proofs.Laws.Calls.Ready.{block-met, rows-met}
 use Rattle.blocks.proofs.Laws.Subpel.Choice.{family-low, family-high}

@@ -10,7 +10,7 @@ use Rattle.rows.specs.Places.{rowOf, splice, fill, around}
 use Rattle.rows.specs.Warp.{warped, warpMid, warpPut, warpPrep}
 use Rattle.rows.proofs.Laws.Blocks.Fill.{fill-in, fill-same}
 use Rattle.rows.proofs.Laws.Filters.Taps.{tapped-same}
-use Rattle.blocks.specs.Ready.{Rows, Margins}
+use Rattle.blocks.specs.inner.Ready.{Rows, Margins}
 use Rattle.blocks.proofs.Laws.Loops.Rows.{Filled, Turn, turn, filled-more, filled-span}
 
 -- a row kernel of w columns left row y as the picture has it

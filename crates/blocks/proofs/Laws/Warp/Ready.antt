@@ -9,7 +9,7 @@ use lib.IntN.{ℤ, natAbs}
 use Rattle.rows.specs.Warp.{filterNo, isThere, every, allThere}
 use Rattle.rows.proofs.Laws.Blocks.Fill.{and-true}
 use Rattle.blocks.specs.Refuse.{Test, stride, number, table, read, written, _asks_, lowest, strideOk, holds, reads, wholeFilters}
-use Rattle.blocks.specs.Ready.{Pass, Margins, Warps}
+use Rattle.blocks.specs.inner.Ready.{Pass, Margins, Warps}
 use Rattle.blocks.specs.Warp.{warpPlaceOk, warpTests}
 use Rattle.blocks.proofs.Laws.Calls.Refuse.{all-met, later, sooner, stride-met}
 use Rattle.blocks.proofs.Laws.Calls.Ready.{rows-met}

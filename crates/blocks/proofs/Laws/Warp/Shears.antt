@@ -20,7 +20,7 @@ use Rattle.rows.proofs.Laws.Numbers.Signed.{mag-lt, mul-up, mul-dn, fit, le-yes
 use Rattle.rows.proofs.Laws.Blocks.Fill.{and-true}
 use Rattle.rows.proofs.Laws.Blocks.Places.{by-lt}
 use Rattle.blocks.specs.Refuse.{need, lowest}
-use Rattle.blocks.specs.Ready.{Divides, Entries, Moves}
+use Rattle.blocks.specs.inner.Ready.{Divides, Entries, Moves}
 use Rattle.blocks.specs.Shear.{recipOk, divisorTests, divisorOf, entriesOk, shearTests, affineMvTests}
 use Rattle.blocks.specs.declared.shear.Divisor.{Divisor}
 use Rattle.blocks.proofs.Laws.Calls.Refuse.{all-met, done}

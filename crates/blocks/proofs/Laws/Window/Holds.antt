@@ -16,8 +16,9 @@ use Rattle.rows.proofs.Laws.Numbers.Signed.{le-yes, add-parts, one-part, clip-u
 use Rattle.rows.proofs.Laws.Blocks.Places.{span-length, span-at, row-fits}
 use Rattle.rows.proofs.Laws.Blocks.Fill.{and-true, length-fill, fill-in}
 use Rattle.blocks.specs.Refuse.{lowest, orSame, partLen}
-use Rattle.blocks.specs.Ready.{Rows, Fetch, PartIn}
-use Rattle.blocks.specs.Window.{planeW, planeH, before, windowSide, windowStart, areaOf, windowTests, inside, isPlanes, ownPlane, windowAt, noPart, windowOf, fetched, scratchOf, partOf, aroundPart}
+use Rattle.blocks.specs.inner.Ready.{Rows, Fetch, PartIn}
+use Rattle.blocks.specs.Window.{planeW, planeH, before, windowSide, windowStart, windowTests, inside, isPlanes, ownPlane, windowAt, noPart, windowOf, fetched, scratchOf, partOf, aroundPart}
+use Rattle.blocks.specs.inner.Window.{areaOf}
 use Rattle.blocks.proofs.Laws.Window.Ready.{window-ready, window-number}
 use Rattle.blocks.specs.declared.frame.Area.{Area}
 use Rattle.blocks.specs.declared.frame.Frame.{Frame}

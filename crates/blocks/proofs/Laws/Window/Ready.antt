@@ -16,8 +16,9 @@ use Rattle.rows.proofs.Laws.Numbers.Signed.{abs-sub, fit-abs}
 use Rattle.rows.proofs.Laws.Blocks.Fill.{and-true}
 use Rattle.blocks.specs.Refuse.{Test, size, stride, number, read, written, _asks_, lowest, orSame, sizeOk, blockSide, strideOk, partLen, holds, holdsAll}
 use Rattle.blocks.specs.Edge.{placeOk}
-use Rattle.blocks.specs.Ready.{Fetch}
-use Rattle.blocks.specs.Window.{planeW, planeH, planeSide, frameSizesOk, frameNamesOk, eightTaps, before, after, windowSide, windowStart, windowTests, areaOf, isPlanes, ownPlane, windowAt, areaAt, noPart, windowOf, fetched, areaFetched, scratchOf, PartAnswer}
+use Rattle.blocks.specs.inner.Ready.{Fetch}
+use Rattle.blocks.specs.Window.{planeW, planeH, planeSide, frameSizesOk, frameNamesOk, eightTaps, before, after, windowSide, windowStart, windowTests, isPlanes, ownPlane, windowAt, noPart, windowOf, fetched, scratchOf, PartAnswer}
+use Rattle.blocks.specs.inner.Window.{areaOf, areaAt, areaFetched}
 use Rattle.blocks.proofs.Laws.Calls.Refuse.{all-met, later, sooner, size-met, holds-met, done, refused}
 use Rattle.blocks.proofs.Laws.Calls.Ready.{rows-met}
 use Rattle.blocks.proofs.Laws.Edge.Ready.{place-met}

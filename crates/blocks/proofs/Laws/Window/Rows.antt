@@ -12,7 +12,7 @@ use Rattle.rows.proofs.Laws.Numbers.Signed.{le-yes, lt-yes, lt-no, one-part}
 use Rattle.rows.proofs.Laws.Blocks.Fill.{and-true}
 use Rattle.rows.proofs.Laws.Blocks.Places.{row-fits}
 use Rattle.blocks.specs.Refuse.{lowest, orSame}
-use Rattle.blocks.specs.Ready.{PartIn}
+use Rattle.blocks.specs.inner.Ready.{PartIn}
 use Rattle.blocks.specs.Window.{planeW, planeH, rowTests, noPart, rowAt}
 use Rattle.blocks.proofs.Laws.Calls.Refuse.{all-met, holds-met}
 use Rattle.blocks.specs.declared.frame.Frame.{Frame}

@@ -7,9 +7,9 @@ use borrow.Author.Tests.{eqb-true}
 use lib.IntN.{ℤ}
 use Rattle.rows.specs.Numbers.{up}
 use Rattle.rows.specs.Depth.{bitsOf, biasOf, maxOf}
-use Rattle.rows.specs.bytes.Pixel.{BitsOk, BiasOk, MaxOk}
+use Rattle.rows.specs.inner.bytes.Pixel.{BitsOk, BiasOk, MaxOk}
 use Rattle.blocks.specs.bytes.Depth.{depthOk}
-use Rattle.blocks.specs.Ready.{Deep}
+use Rattle.blocks.specs.inner.Ready.{Deep}
 
 pub deep-eight : (depth : ℤ) → depthOk depth ≡ true → up depth ≡ 8
 unfolding depthOk

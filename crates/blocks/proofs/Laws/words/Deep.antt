@@ -8,11 +8,12 @@ use borrow.Author.Tests.{eqb-true}
 use lib.Dec.{eqb}
 use lib.IntN.{ℤ}
 use Rattle.rows.specs.Numbers.{up}
-use Rattle.rows.specs.Depth.{High, bitsOf, biasOf, maxOf}
-use Rattle.rows.specs.words.Pixel.{BitsOk, BiasOk, MaxOk}
+use Rattle.rows.specs.Depth.{bitsOf, biasOf, maxOf}
+use Rattle.rows.specs.inner.Depth.{High}
+use Rattle.rows.specs.inner.words.Pixel.{BitsOk, BiasOk, MaxOk}
 use Rattle.rows.proofs.Laws.Numbers.Depth.{high}
 use Rattle.blocks.specs.words.Depth.{depthOk}
-use Rattle.blocks.specs.Ready.{Deep}
+use Rattle.blocks.specs.inner.Ready.{Deep}
 
 high-of : (n : ℕ) → eqb n 10 || eqb n 12 ≡ true → High n
 high-of n e = go (eqb n 10) refl e where

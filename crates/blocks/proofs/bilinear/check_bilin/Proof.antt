@@ -2,7 +2,7 @@ use mathlib.Core.Path.{sym, _∙_}
 use native.Mathlib.Omega.{arith}
 use borrow.Author.Needs.{needs}
 use Rattle.rows.proofs.Laws.Numbers.Signed.{back}
-use Rattle.blocks.specs.Ready.{Block}
+use Rattle.blocks.specs.inner.Ready.{Block}
 use Rattle.blocks.proofs.Laws.Bilinear.Ready.{reads-holds}
 use Rattle.blocks.proofs.Laws.Calls.Ready.{sizes-stop, sizes-pass, sizes-block}
 use Rattle.blocks.proofs.bilinear.check_bilin.Statement.{statement}

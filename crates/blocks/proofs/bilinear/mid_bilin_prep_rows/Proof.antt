@@ -2,7 +2,8 @@ use native.Mathlib.Omega.{arith}
 use Prim.Native.Nat.{_+_, _-_, _*_}
 use lib.IntN.{pos}
 use Rattle.rows.specs.Numbers.{at, low16, minus16}
-use Rattle.rows.specs.Bilinear.{R, bilinAt}
+use Rattle.rows.specs.Bilinear.{R}
+use Rattle.rows.specs.inner.Bilinear.{bilinAt}
 use lib.ListN.{length}
 use mir.Syntax.{w16}
 use mir.Val.{toZ}

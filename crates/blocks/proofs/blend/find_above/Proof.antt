@@ -4,7 +4,7 @@ use Prim.Native.Nat.{_+_, _-_, _*_, _≤_}
 use mathlib.Core.Path.{_≡_, refl}
 use lib.ListN.{length}
 use borrow.Author.Needs.{needs}
-use Rattle.rows.specs.Combine.{AtMost}
+use Rattle.rows.specs.inner.Combine.{AtMost}
 use Rattle.blocks.proofs.Laws.Loops.Rows.{row-in}
 use Rattle.blocks.proofs.Laws.Blend.Above.{at-most-more, spot-found, spot-none}
 use Rattle.blocks.proofs.blend.find_above.Statement.{statement}

@@ -1,7 +1,7 @@
 use native.Mathlib.Omega.{arith}
 use Prim.Native.Nat.{_-_, _≤_}
 use borrow.Author.Needs.{needs}
-use Rattle.rows.specs.Combine.{AtMost}
+use Rattle.rows.specs.inner.Combine.{AtMost}
 use Rattle.blocks.proofs.Laws.Blend.Above.{at-most-none, at-most-more, at-most-wider}
 use Rattle.blocks.proofs.blend.largest.Statement.{statement}
 use Rattle.blocks.proofs.blend.largest.Tie as tie

@@ -5,7 +5,7 @@ use borrow.Author.Needs.{needs}
 use Rattle.rows.specs.Numbers.{up, dn}
 use Rattle.rows.specs.Subpel.{family}
 use Rattle.rows.proofs.Laws.Numbers.Signed.{signed, rd}
-use Rattle.blocks.specs.Subpel.{filterOf}
+use Rattle.blocks.specs.inner.Subpel.{filterOf}
 use Rattle.blocks.specs.declared.filters.Filter.the-variants.{Subpel}
 use Rattle.blocks.proofs.Laws.Subpel.Choice.{filter-off, filter-ext, filter-sub, family-low, family-high}
 use Rattle.blocks.proofs.filters.get_filter.Statement.{statement}

@@ -7,7 +7,8 @@ use mir.Syntax.{w32}
 use borrow.Author.Needs.{needs}
 use Rattle.rows.specs.Numbers.{up, half}
 use Rattle.rows.specs.Subpel.{axis, filterBits}
-use Rattle.blocks.specs.Subpel.{on, axisOf, filterOf, tapsOf}
+use Rattle.blocks.specs.Subpel.{on}
+use Rattle.blocks.specs.inner.Subpel.{axisOf, filterOf, tapsOf}
 use Rattle.blocks.specs.declared.filters.Filter.{Filter}
 use Rattle.blocks.proofs.Laws.Subpel.Choice.{axis-of, bits-fit, plan-none, plan-down, plan-across, plan-both}
 use Rattle.blocks.proofs.Laws.Calls.Told.{told-back}

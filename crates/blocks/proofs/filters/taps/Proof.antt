@@ -1,7 +1,7 @@
 use mathlib.Core.Path.{refl}
 use borrow.Author.Needs.{needs}
 use Rattle.rows.specs.Places.{rowOf, rowFrom}
-use Rattle.blocks.specs.Subpel.{axisOf, tapsOf}
+use Rattle.blocks.specs.inner.Subpel.{axisOf, tapsOf}
 use Rattle.blocks.proofs.filters.taps.Statement.{statement}
 use Rattle.blocks.proofs.filters.taps.Tie as tie
 

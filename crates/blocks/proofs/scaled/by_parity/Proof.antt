@@ -1,7 +1,7 @@
 use borrow.Author.Needs.{needs}
 use mathlib.Core.Path.{_≡_, refl}
 use native.Mathlib.Omega.{arith}
-use Rattle.blocks.specs.Scaled.{byParity}
+use Rattle.blocks.specs.inner.Scaled.{byParity}
 use Rattle.blocks.proofs.Laws.Scaled.Rows.{parity-even, parity-odd}
 use Rattle.blocks.proofs.scaled.by_parity.Statement.{statement}
 use Rattle.blocks.proofs.scaled.by_parity.Tie as tie

@@ -2,7 +2,7 @@ use borrow.Author.Needs.{needs}
 use mathlib.Core.Path.{_≡_, refl}
 use mir.Syntax.{w32}
 use Rattle.rows.proofs.Laws.Numbers.Signed.{back}
-use Rattle.blocks.specs.Scaled.{scaledPlan}
+use Rattle.blocks.specs.inner.Scaled.{scaledPlan}
 use Rattle.blocks.proofs.Laws.Calls.Told.{told-back}
 use Rattle.blocks.proofs.scaled.scaled_plan.Statement.{statement}
 use Rattle.blocks.proofs.scaled.scaled_plan.Tie as tie

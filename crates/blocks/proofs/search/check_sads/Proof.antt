@@ -2,7 +2,7 @@ use borrow.Author.Needs.{needs}
 use mathlib.Core.Path.{sym, _∙_}
 use native.Mathlib.Omega.{arith}
 use Rattle.blocks.specs.Refuse.{sizeOk}
-use Rattle.blocks.specs.Ready.{Block}
+use Rattle.blocks.specs.inner.Ready.{Block}
 use Rattle.blocks.proofs.Laws.Calls.Ready.{sizes-stop, sizes-pass, sizes-block}
 use Rattle.blocks.proofs.search.check_sads.Statement.{statement}
 use Rattle.blocks.proofs.search.check_sads.Tie as tie

@@ -1,5 +1,5 @@
 use Rattle.rows.proofs.Laws.Numbers.Signed.{back}
-use Rattle.blocks.specs.Search.{bestOf}
+use Rattle.blocks.specs.inner.Search.{bestOf}
 use Rattle.blocks.proofs.Laws.Search.Ready.{better-first, better-less, better-stays}
 use Rattle.blocks.proofs.search.take_better.Statement.{statement}
 use Rattle.blocks.proofs.search.take_better.Tie as tie

@@ -8,7 +8,7 @@ use mir.Syntax.{w32}
 use mir.Val.{SFits}
 use Rattle.rows.specs.Shear.{recipOf, shiftOf}
 use Rattle.rows.proofs.Laws.Numbers.Signed.{backn, back}
-use Rattle.blocks.specs.Ready.{Divides}
+use Rattle.blocks.specs.inner.Ready.{Divides}
 use Rattle.blocks.specs.Shear.{divisorOf}
 use Rattle.blocks.proofs.Laws.Calls.Refuse.{done, refused}
 use Rattle.blocks.proofs.Laws.Warp.Shears.{div-ok, top-is, Top}

@@ -2,7 +2,8 @@ use borrow.Author.Needs.{needs}
 use mathlib.Core.Path.{_≡_, sym, _∙_}
 use Rattle.rows.proofs.Laws.Numbers.Signed.{back}
 use Rattle.blocks.specs.Refuse.{lowest}
-use Rattle.blocks.specs.Window.{windowTests, windowOf, areaOf}
+use Rattle.blocks.specs.Window.{windowTests, windowOf}
+use Rattle.blocks.specs.inner.Window.{areaOf}
 use Rattle.blocks.proofs.Laws.Window.Ready.{no-part-of, Accepted, accepted-small, accepted-ready, accepted-part}
 use Rattle.blocks.proofs.window.find_window.Statement.{statement}
 use Rattle.blocks.proofs.window.find_window.Tie as tie

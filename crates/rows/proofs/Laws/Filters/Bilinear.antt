@@ -11,7 +11,8 @@ use lib.Signed.{mag, shrZ}
 use mir.Syntax.{w16, w32}
 use mir.Val.{SFits, toZ, ofZ}
 use Rattle.rows.specs.Numbers.{up, dn, px, modZ, clip, half}
-use Rattle.rows.specs.Bilinear.{bilin, bilinAt, R}
+use Rattle.rows.specs.Bilinear.{bilin, R}
+use Rattle.rows.specs.inner.Bilinear.{bilinAt}
 use Rattle.rows.proofs.Laws.Numbers.Signed.{eq-of, add-parts, sub-parts, times-up, times-dn, back, backn, back16, abs-mag}
 
 -- y is the number z, a pixel's or an intermediate's

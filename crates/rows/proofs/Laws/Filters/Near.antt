@@ -16,7 +16,8 @@ use mir.ValLaws.{toZ-ofZ}
 use mir.Facts.{sfits-widen}
 use Rattle.rows.specs.Numbers.{at, modZ, sum, sumZ, up, dn, low16, minus16}
 use Rattle.rows.specs.Places.{rowOf}
-use Rattle.rows.specs.Subpel.{S, Near, tapped}
+use Rattle.rows.specs.Subpel.{S, tapped}
+use Rattle.rows.specs.inner.Subpel.{Near}
 use Rattle.rows.proofs.Laws.Blocks.Places.{row-same, row-of, getD-rowOf}
 use Rattle.rows.proofs.Laws.Numbers.Signed.{back, abs-add, fit-abs, eq-of, add-parts, mul-up, mul-dn, mul-parts, sub-parts, mag-lt, fit}
 

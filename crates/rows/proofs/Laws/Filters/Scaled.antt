@@ -10,8 +10,10 @@ use Rattle.rows.specs.Numbers.{px, half, low16, minus16}
 use Rattle.rows.specs.Places.{span, rowOf}
 use Rattle.rows.specs.Copy.{prep}
 use Rattle.rows.specs.Subpel.{filter, tapped}
-use Rattle.rows.specs.Bilinear.{bilin, bilinAt, R}
-use Rattle.rows.specs.Scaled.{position, pixelOf, sixteenth, inFamily, scaledMid, eightAt, Steps, PairsFetched}
+use Rattle.rows.specs.Bilinear.{bilin, R}
+use Rattle.rows.specs.inner.Bilinear.{bilinAt}
+use Rattle.rows.specs.Scaled.{position, pixelOf, sixteenth, inFamily, scaledMid, PairsFetched}
+use Rattle.rows.specs.inner.Scaled.{eightAt, Steps}
 use Rattle.rows.proofs.Laws.Numbers.Low.{low16-again}
 use Rattle.rows.proofs.Laws.Blocks.Places.{span-at, row-same}
 use Rattle.rows.proofs.Laws.Filters.Taps.{tapped-same}

@@ -2,7 +2,8 @@ use native.Mathlib.Omega.{arith}
 use mathlib.Core.Path.{refl}
 use Prim.Native.Nat.{_-_, _^_, _≤_, _<_}
 use lib.ListN.{length}
-use Rattle.rows.specs.Scaled.{position, pixelOf, sixteenth, Tabled}
+use Rattle.rows.specs.Scaled.{position, pixelOf, sixteenth}
+use Rattle.rows.specs.inner.Scaled.{Tabled}
 use Rattle.rows.proofs.Laws.Blocks.Row.{Upto, upto-none, upto-more}
 use Rattle.rows.proofs.Laws.Filters.Scaled.{position-lt}
 use Rattle.rows.proofs.scaled.tabulate_columns.Statement.{statement}

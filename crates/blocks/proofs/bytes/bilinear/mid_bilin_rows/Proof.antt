@@ -2,7 +2,8 @@
 use native.Mathlib.Omega.{arith}
 use Prim.Native.Nat.{_+_, _-_, _*_}
 use Rattle.rows.specs.Numbers.{at, clip}
-use Rattle.rows.specs.Bilinear.{R, bilinAt}
+use Rattle.rows.specs.Bilinear.{R}
+use Rattle.rows.specs.inner.Bilinear.{bilinAt}
 use lib.ListN.{length}
 use borrow.Author.Needs.{needs}
 use Rattle.blocks.proofs.Laws.Loops.Rows.{Filled, filled-none, block-loop}

@@ -7,7 +7,7 @@ use Rattle.rows.specs.Numbers.{up}
 use Rattle.rows.proofs.Laws.Numbers.Signed.{back}
 use Rattle.blocks.specs.Refuse.{lowest}
 use Rattle.blocks.specs.bytes.Depth.{depthOk}
-use Rattle.blocks.specs.Ready.{numbersOf}
+use Rattle.blocks.specs.inner.Ready.{numbersOf}
 use Rattle.blocks.specs.Combine.{maskTests}
 use Rattle.blocks.proofs.Laws.Calls.Refuse.{done, refused}
 use Rattle.blocks.proofs.Laws.bytes.Deep.{deep-bits, deep-bias, deep-max}

@@ -7,7 +7,7 @@ use native.Mathlib.Omega.{arith}
 use borrow.Author.Needs.{needs}
 use Rattle.rows.specs.Places.{span}
 use Rattle.rows.proofs.Laws.Blocks.Places.{span-length}
-use Rattle.blocks.specs.Scaled.{LastTwo, pairLineOf}
+use Rattle.blocks.specs.inner.Scaled.{LastTwo, pairLineOf}
 use Rattle.blocks.proofs.Laws.Scaled.Pairs.{two-more, pair-start, pairs-fetched, tabled-line}
 use Rattle.blocks.proofs.bytes.scaled.next_pairs.Statement.{statement}
 use Rattle.blocks.proofs.bytes.scaled.next_pairs.Tie as tie

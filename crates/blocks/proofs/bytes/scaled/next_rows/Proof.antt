@@ -4,8 +4,9 @@ use mathlib.Core.Path.{_≡_, subst}
 use native.Mathlib.Omega.{arith}
 use Prim.Native.Nat.{ℕ, _+_, _-_, _*_, _%_, _≤_, _<_}
 use lib.ListN.{length, getD}
-use Rattle.rows.specs.Scaled.{position, Fetched}
-use Rattle.blocks.specs.Scaled.{lineOf, LastEight}
+use Rattle.rows.specs.Scaled.{position}
+use Rattle.rows.specs.inner.Scaled.{Fetched}
+use Rattle.blocks.specs.inner.Scaled.{lineOf, LastEight}
 use Rattle.blocks.proofs.Laws.Scaled.Rows.{eight-order, eight-more}
 use Rattle.blocks.proofs.bytes.scaled.next_rows.Statement.{statement}
 use Rattle.blocks.proofs.bytes.scaled.next_rows.Tie as tie

@@ -8,7 +8,8 @@ use Rattle.rows.proofs.Laws.Numbers.Signed.{back}
 use Rattle.blocks.specs.Refuse.{lowest}
 use Rattle.blocks.specs.bytes.Depth.{depthOk}
 use Rattle.blocks.specs.Subpel.{subpelOk}
-use Rattle.blocks.specs.Scaled.{scaledTypeOk, scaledTests, scaledPlan}
+use Rattle.blocks.specs.Scaled.{scaledTypeOk, scaledTests}
+use Rattle.blocks.specs.inner.Scaled.{scaledPlan}
 use Rattle.blocks.proofs.Laws.bytes.Deep.{deep-bits, deep-bias}
 use Rattle.blocks.proofs.Laws.Calls.Refuse.{done, refused}
 use Rattle.blocks.proofs.Laws.Scaled.Ready.{ScaledMet, scaled-ready, taps-met}

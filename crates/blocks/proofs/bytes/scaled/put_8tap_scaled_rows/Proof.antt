@@ -7,7 +7,7 @@ use lib.ListN.{length}
 use Rattle.rows.specs.Scaled.{position, pixelOf, sixteenth, inFamily, putDown}
 use Rattle.rows.proofs.Laws.Blocks.Places.{row-same}
 use Rattle.rows.proofs.Laws.Filters.Scaled.{position-lt}
-use Rattle.blocks.specs.Scaled.{lineOf, LastEight}
+use Rattle.blocks.specs.inner.Scaled.{lineOf, LastEight}
 use Rattle.blocks.proofs.Laws.Loops.Rows.{Filled, filled-none, filled-more, filled-all, Turn, turn}
 use Rattle.blocks.proofs.Laws.Scaled.Rows.{eight-none, eight-turned, eight-at}
 use Rattle.blocks.proofs.Laws.Scaled.Lines.{put-down-same, row-on, row-last, filtered-less}

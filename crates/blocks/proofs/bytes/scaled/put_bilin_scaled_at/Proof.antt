@@ -9,7 +9,8 @@ use Rattle.rows.specs.Numbers.{up}
 use Rattle.rows.proofs.Laws.Numbers.Signed.{back}
 use Rattle.blocks.specs.Refuse.{lowest}
 use Rattle.blocks.specs.bytes.Depth.{depthOk}
-use Rattle.blocks.specs.Scaled.{scaledTests, scaledPlan}
+use Rattle.blocks.specs.Scaled.{scaledTests}
+use Rattle.blocks.specs.inner.Scaled.{scaledPlan}
 use Rattle.blocks.proofs.Laws.bytes.Deep.{deep-bits, deep-max}
 use Rattle.blocks.proofs.Laws.Calls.Refuse.{done, refused}
 use Rattle.blocks.proofs.Laws.Scaled.Ready.{ScaledMet, scaled-ready, even-bits, pairs-met}

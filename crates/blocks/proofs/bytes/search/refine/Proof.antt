@@ -2,7 +2,7 @@
 use borrow.Author.Needs.{needs}
 use mathlib.Core.Path.{_∙_}
 use Rattle.rows.specs.Places.{pixel}
-use Rattle.blocks.specs.Search.{bestOf}
+use Rattle.blocks.specs.inner.Search.{bestOf}
 use Rattle.blocks.proofs.Laws.Search.Ready.{refine-explicit}
 use Rattle.blocks.proofs.bytes.search.refine.Statement.{statement}
 use Rattle.blocks.proofs.bytes.search.refine.Tie as tie

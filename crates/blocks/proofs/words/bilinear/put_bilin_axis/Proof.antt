@@ -3,7 +3,8 @@ use Prim.Native.Nat.{_+_, _-_, _*_, _^_}
 use lib.IntN.{pos, _+ℤ_}
 use lib.Signed.{shrZ}
 use Rattle.rows.specs.Numbers.{px, clip}
-use Rattle.rows.specs.Bilinear.{R, bilinAt}
+use Rattle.rows.specs.Bilinear.{R}
+use Rattle.rows.specs.inner.Bilinear.{bilinAt}
 use lib.ListN.{length}
 use borrow.Author.Needs.{needs}
 use Rattle.blocks.proofs.Laws.Loops.Rows.{Filled, filled-none, block-loop}

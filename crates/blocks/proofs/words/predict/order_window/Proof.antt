@@ -3,7 +3,7 @@ use mathlib.Core.Path.{_≡_, sym, _∙_}
 use lib.ListN.{length}
 use mir.Syntax.{w64}
 use Rattle.blocks.specs.Refuse.{lowest}
-use Rattle.blocks.specs.Window.{areaOf}
+use Rattle.blocks.specs.inner.Window.{areaOf}
 use Rattle.blocks.specs.Order.{kindNumber, orderTests}
 use Rattle.blocks.proofs.Laws.Calls.Told.{told-one}
 use Rattle.blocks.proofs.Laws.Window.Ready.{Accepted, accepted-small, accepted-ready}

@@ -2,7 +2,7 @@ use borrow.Author.Needs.{needs}
 use mathlib.Core.Path.{sym, _∙_}
 use Rattle.rows.specs.Places.{pixel}
 use Rattle.rows.specs.Search.{answer}
-use Rattle.blocks.specs.Search.{bestOf}
+use Rattle.blocks.specs.inner.Search.{bestOf}
 use Rattle.blocks.proofs.Laws.Search.Ready.{refine-at-once, refine-searched}
 use Rattle.blocks.proofs.words.search.implicit.Statement.{statement}
 use Rattle.blocks.proofs.words.search.implicit.Tie as tie

@@ -2,7 +2,7 @@ use native.Mathlib.Omega.{arith}
 use Prim.Native.Nat.{_-_}
 use lib.ListN.{length}
 use borrow.Author.Needs.{needs}
-use Rattle.blocks.specs.Subpel.{putLine, along}
+use Rattle.blocks.specs.inner.Subpel.{putLine, along}
 use Rattle.blocks.proofs.Laws.Loops.Rows.{Filled, filled-none, block-loop}
 use Rattle.blocks.proofs.Laws.Subpel.Lines.{Turn, turn}
 use Rattle.blocks.proofs.words.subpel.put_lines.Statement.{statement}

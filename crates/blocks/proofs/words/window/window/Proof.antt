@@ -3,7 +3,8 @@ use mathlib.Core.Path.{_≡_, sym, _∙_}
 use lib.ListN.{length}
 use Rattle.rows.proofs.Laws.Numbers.Signed.{back}
 use Rattle.blocks.specs.Refuse.{lowest}
-use Rattle.blocks.specs.Window.{windowTests, windowOf, areaOf}
+use Rattle.blocks.specs.Window.{windowTests, windowOf}
+use Rattle.blocks.specs.inner.Window.{areaOf}
 use Rattle.blocks.proofs.Laws.Window.Ready.{no-part-of, scratch-kept, Accepted, accepted-small, accepted-ready, accepted-part, accepted-scratch}
 use Rattle.blocks.proofs.words.window.window.Statement.{statement}
 use Rattle.blocks.proofs.words.window.window.Tie as tie

@@ -5,7 +5,8 @@ use lib.IntN.{pos, _+ℤ_}
 use lib.ListN.{length}
 use lib.Signed.{shrZ}
 use Rattle.rows.specs.Numbers.{clip, px}
-use Rattle.rows.specs.Bilinear.{R, bilinAt}
+use Rattle.rows.specs.Bilinear.{R}
+use Rattle.rows.specs.inner.Bilinear.{bilinAt}
 use Rattle.rows.proofs.Laws.Blocks.Row.{Upto, upto-none, upto-more, upto-all}
 use Rattle.rows.proofs.Laws.Filters.Bilinear.{put-at}
 use Rattle.rows.proofs.bytes.bilinear.put_bilin_row.Statement.{statement}

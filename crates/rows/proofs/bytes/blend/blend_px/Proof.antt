@@ -3,7 +3,7 @@ use borrow.Author.Needs.{needs}
 use native.Mathlib.Omega.{arith}
 use Prim.Native.Nat.{_-_, _*_, _≤_, _<_}
 use Rattle.rows.specs.Combine.{blend}
-use Rattle.rows.specs.bytes.Pixel.{pixels}
+use Rattle.rows.specs.inner.bytes.Pixel.{pixels}
 use Rattle.rows.proofs.Laws.Pixels.Pixel.{part-le, blend-lt}
 use Rattle.rows.proofs.bytes.blend.blend_px.Statement.{statement}
 use Rattle.rows.proofs.bytes.blend.blend_px.Tie as tie

@@ -6,7 +6,8 @@ use lib.IntN.{pos}
 use lib.ListN.{length, getD}
 use mir.Syntax.{w16}
 use mir.Val.{SFits}
-use Rattle.rows.specs.Scaled.{position, sixteenth, inFamily, scaledMid, eightAt}
+use Rattle.rows.specs.Scaled.{position, sixteenth, inFamily, scaledMid}
+use Rattle.rows.specs.inner.Scaled.{eightAt}
 use Rattle.rows.proofs.Laws.Blocks.Part.{PartUpto, part-none, part-more, part-all}
 use Rattle.rows.proofs.Laws.Filters.Scaled.{position-lt}
 use Rattle.rows.proofs.Laws.Numbers.Signed.{back}

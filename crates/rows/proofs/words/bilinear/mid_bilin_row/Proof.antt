@@ -5,7 +5,8 @@ use lib.ListN.{length}
 use mir.Syntax.{w32}
 use mir.Val.{SFits}
 use Rattle.rows.specs.Numbers.{clip, at}
-use Rattle.rows.specs.Bilinear.{R, bilinAt}
+use Rattle.rows.specs.Bilinear.{R}
+use Rattle.rows.specs.inner.Bilinear.{bilinAt}
 use Rattle.rows.proofs.Laws.Blocks.Row.{Upto, upto-none, upto-more, upto-all}
 use Rattle.rows.proofs.Laws.Numbers.Signed.{back}
 use Rattle.rows.proofs.words.bilinear.mid_bilin_row.Statement.{statement}

@@ -2,7 +2,7 @@ use borrow.Author.Needs.{needs}
 use native.Mathlib.Omega.{arith}
 use Prim.Native.Nat.{_-_, _*_, _≤_, _<_}
 use Rattle.rows.specs.Combine.{blend}
-use Rattle.rows.specs.words.Pixel.{pixels}
+use Rattle.rows.specs.inner.words.Pixel.{pixels}
 use Rattle.rows.proofs.Laws.Pixels.Pixel.{part-le, blend-lt}
 use Rattle.rows.proofs.words.blend.blend_px.Statement.{statement}
 use Rattle.rows.proofs.words.blend.blend_px.Tie as tie

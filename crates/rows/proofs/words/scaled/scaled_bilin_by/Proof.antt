@@ -3,7 +3,8 @@ use Prim.Native.Nat.{_-_}
 use lib.IntN.{pos}
 use lib.ListN.{length, getD}
 use Rattle.rows.specs.Numbers.{px, low16}
-use Rattle.rows.specs.Bilinear.{R, bilinAt}
+use Rattle.rows.specs.Bilinear.{R}
+use Rattle.rows.specs.inner.Bilinear.{bilinAt}
 use Rattle.rows.proofs.Laws.Blocks.Row.{Upto, upto-none, upto-all}
 use Rattle.rows.proofs.Laws.Filters.Loop.{upto-kept}
 use Rattle.rows.proofs.words.scaled.scaled_bilin_by.Statement.{statement}

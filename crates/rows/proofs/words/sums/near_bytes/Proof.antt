@@ -3,7 +3,7 @@ use native.Mathlib.Omega.{arith}
 use Prim.Native.Nat.{_+_, _*_, _-_, _≤_}
 use mir.Syntax.{w8}
 use Rattle.rows.specs.Numbers.{px}
-use Rattle.rows.specs.Subpel.{byteOf}
+use Rattle.rows.specs.inner.Subpel.{byteOf}
 use Rattle.rows.proofs.Laws.Numbers.Signed.{fit}
 use Rattle.rows.proofs.Laws.Numbers.Sum.{within}
 use Rattle.rows.proofs.Laws.Filters.Near.{NearSum, near-none, near-room, near-more, near-all}

@@ -1,4 +1,4 @@
--- What rows of bytes rely on: depth 8. Assumes nothing.
+-- What rows of bytes rely on: depth 8. Only inner contracts name this: nobody need believe it. Assumes nothing.
 use Prim.Native.Nat.{ℕ, _^_}
 use mathlib.Core.Path.{_≡_}
 

@@ -1,4 +1,4 @@
--- What rows of 16-bit pixels rely on: depths 10 and 12. Assumes nothing.
+-- What rows of 16-bit pixels rely on: depths 10 and 12. Only inner contracts name this: nobody need believe it. Assumes nothing.
 use Prim.Native.Nat.{ℕ, _^_, _<_, _≤_}
 
 -- how many pixels there are

@@ -1,13 +1,14 @@
--- What the tests tell where none refuses: what the rows of a kernel rely on. Assumes nothing.
+-- What the tests tell where none refuses: what the rows of a kernel rely on. Only inner contracts name this: nobody need believe it. Assumes nothing.
 use Prim.Native.Nat.{ℕ, _+_, _-_, _*_, _≤_, min, _^_, _<_}
 use mathlib.Core.Path.{_≡_}
 use mathlib.Core.List.{List}
 use lib.IntN.{ℤ, natAbs}
 use Rattle.rows.specs.Numbers.{at, up}
-use Rattle.rows.specs.Warp.{RowThere}
+use Rattle.rows.specs.inner.Warp.{RowThere}
 use Rattle.rows.specs.Depth.{bitsOf, biasOf, maxOf}
 use mathlib.Core.Bool.{true}
-use Rattle.blocks.specs.Subpel.{on, filterOf, Held, subpelOk}
+use Rattle.blocks.specs.Subpel.{on, subpelOk}
+use Rattle.blocks.specs.inner.Subpel.{filterOf, Held}
 use Rattle.blocks.specs.Window.{windowSide}
 use Rattle.blocks.specs.Order.{kindNumber, kindSizeOk, motionOk, filtersOk}
 use Rattle.blocks.specs.declared.frame.Area.{Area}

@@ -1,0 +1,7 @@
+-- What only the contracts of inner functions name, and no C function's: nobody need believe it.
+pub mod Ready
+pub mod Scaled
+pub mod Subpel
+pub mod Search
+pub mod Window
+pub mod Order
