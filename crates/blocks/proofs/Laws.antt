@@ -11,7 +11,7 @@ pub mod Subpel
 pub mod Bilinear
 pub mod Scaled
 pub mod StepOfOne
-pub mod Mask
+pub mod WMask
 pub mod Search
 pub mod Warp
 pub mod Cut

@@ -9,7 +9,7 @@ pub mod Edge
 pub mod Subpel
 pub mod Bilinear
 pub mod Scaled
-pub mod Mask
+pub mod WMask
 pub mod Search
 pub mod Warp
 pub mod Shear

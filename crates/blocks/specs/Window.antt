@@ -12,7 +12,7 @@ use Rattle.rows.specs.Places.{pick, span, fill, around}
 use Rattle.rows.specs.Edge.{edge}
 use Rattle.blocks.specs.Refuse.{Test, size, stride, number, read, written, _asks_, lowest, orSame, sizeOk, blockSide, strideOk, partLen, holds, holdsAll}
 use Rattle.blocks.specs.Edge.{placeOk}
-use Rattle.blocks.specs.Mask.{flagsOk}
+use Rattle.blocks.specs.WMask.{flagsOk}
 use Rattle.blocks.specs.declared.frame.Frame.{Frame}
 use Rattle.blocks.specs.declared.window.Part.{Part}
 

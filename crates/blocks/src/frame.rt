@@ -4,8 +4,8 @@ ghost use Prim.Native.Nat.{_^_, _≤_};
 ghost use lib.IntN.{natAbs};
 ghost use Rattle.blocks.specs.Window.{planeSide, planeW, planeH, frameSizesOk, frameNamesOk, before, after, windowSide, windowStart};
 ghost use Rattle.blocks.specs.inner.Window.{areaOf};
-use crate::mask::flags_ok;
 use crate::refuse::size_ok;
+use crate::w_mask::flags_ok;
 
 // Luma's sides and the subsampling flags.
 pub struct Frame {

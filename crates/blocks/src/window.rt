@@ -119,7 +119,7 @@ fn is_planes(a: Area, mode: u32) -> bool
 }
 
 // The number, or 0 where it is below 0.
-pub fn above64(v: i64) -> usize
+pub fn up64(v: i64) -> usize
     ensures { λ r. ⌜ r ≡ up v ⌝ }
 {
     if v < 0 { 0 } else { v as usize }
@@ -139,7 +139,7 @@ pub fn locate(a: Area, mode: u32, plane_stride: usize) -> Part
     ensures { λ r. ⌜ r ≡ areaAt a mode «plane_stride» ⌝ }
 {
     if is_planes(a, mode) {
-        let place = above64(a.top) * plane_stride + above64(a.left);
+        let place = up64(a.top) * plane_stride + up64(a.left);
         let len = part_len(plane_stride, a.ww, a.wh);
         return Part {
             number: 0,

@@ -10,7 +10,7 @@ use Rattle.rows.specs.Places.{fill}
 use Rattle.rows.specs.Combine.{avg, weighted}
 use Rattle.rows.specs.Subpel.{Axis, put8, prep8, whole, by}
 use Rattle.rows.specs.Bilinear.{putBilin}
-use Rattle.rows.specs.Mask.{weightOf, maskAt}
+use Rattle.rows.specs.WMask.{weightOf, maskAt}
 use Rattle.rows.specs.Edge.{edge}
 use Rattle.rows.specs.Shear.{Q}
 

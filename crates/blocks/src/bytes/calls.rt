@@ -5,11 +5,11 @@ ghost use Rattle.blocks.specs.Bilinear.{PutBilinAnswer, PrepBilinAnswer}
 ghost use Rattle.blocks.specs.Blend.{MorphAnswer};
 ghost use Rattle.blocks.specs.Combine.{AvgAnswer, WAvgAnswer, MaskAnswer};
 ghost use Rattle.blocks.specs.Copy.{PrepAnswer};
-ghost use Rattle.blocks.specs.Mask.{WMaskAnswer};
 ghost use Rattle.blocks.specs.Order.{kindOf, OrderPutAnswer, OrderPrepAnswer};
 ghost use Rattle.blocks.specs.Scaled.{Put8ScaledAnswer, Prep8ScaledAnswer, PutBilinScaledAnswer, PrepBilinScaledAnswer};
 ghost use Rattle.blocks.specs.Search.{SadAnswer, RefineAnswer};
 ghost use Rattle.blocks.specs.Subpel.{Put8Answer, Prep8Answer};
+ghost use Rattle.blocks.specs.WMask.{WMaskAnswer};
 ghost use Rattle.blocks.specs.Warp.{WarpAnswer, WarpTAnswer};
 use super::bilinear::prep_bilin_at;
 use super::bilinear::put_bilin_at;
@@ -18,7 +18,6 @@ use super::combine::avg_at;
 use super::combine::mask_at;
 use super::combine::w_avg_at;
 use super::copy::prep_at;
-use super::mask::w_mask_at;
 use super::predict::order_prep_at;
 use super::predict::order_put_at;
 use super::scaled::prep_8tap_scaled_at;
@@ -29,6 +28,7 @@ use super::search::sad_nxn_at;
 use super::search::sad_refine_mv_at;
 use super::subpel::prep_8tap_at;
 use super::subpel::put_8tap_at;
+use super::w_mask::w_mask_at;
 use super::warp::warp_affine_8x8_at;
 use super::warp::warp_affine_8x8t_at;
 
@@ -137,39 +137,6 @@ pub extern "C" fn hv_prep_8bpc(
     ensures { λ r. ⌜ PrepAnswer true 8 (now (tmp .entry)) «tmp_stride» (now (src .entry)) «src_stride» w h r (now (tmp .exit)) ⌝ }
 {
     prep_at(8, tmp, tmp_stride, src, src_stride, w, h)
-}
-
-#[no_mangle]
-pub extern "C" fn hv_w_mask_8bpc(
-    dst: &mut [u8],
-    dst_stride: usize,
-    tmp1: &[i16],
-    tmp2: &[i16],
-    w: usize,
-    h: usize,
-    mask: &mut [u8],
-    mask_stride: usize,
-    sign: i32,
-    ss_hor: bool,
-    ss_ver: bool,
-) -> u32
-    ensures { λ r. ⌜ WMaskAnswer true 8 (now (dst .entry)) «dst_stride» (now (tmp1 .entry)) (now (tmp2 .entry)) w h (now (mask .entry))
-        «mask_stride» sign «ss_hor» «ss_ver» r (now (dst .exit)) (now (mask .exit)) ⌝ }
-{
-    w_mask_at(
-        8,
-        dst,
-        dst_stride,
-        tmp1,
-        tmp2,
-        w,
-        h,
-        mask,
-        mask_stride,
-        sign,
-        ss_hor,
-        ss_ver,
-    )
 }
 
 #[no_mangle]
@@ -540,6 +507,39 @@ pub extern "C" fn hv_prep_8tap_8bpc(
         filter_type,
         subpel,
         ext,
+    )
+}
+
+#[no_mangle]
+pub extern "C" fn hv_w_mask_8bpc(
+    dst: &mut [u8],
+    dst_stride: usize,
+    tmp1: &[i16],
+    tmp2: &[i16],
+    w: usize,
+    h: usize,
+    mask: &mut [u8],
+    mask_stride: usize,
+    sign: i32,
+    ss_hor: bool,
+    ss_ver: bool,
+) -> u32
+    ensures { λ r. ⌜ WMaskAnswer true 8 (now (dst .entry)) «dst_stride» (now (tmp1 .entry)) (now (tmp2 .entry)) w h (now (mask .entry))
+        «mask_stride» sign «ss_hor» «ss_ver» r (now (dst .exit)) (now (mask .exit)) ⌝ }
+{
+    w_mask_at(
+        8,
+        dst,
+        dst_stride,
+        tmp1,
+        tmp2,
+        w,
+        h,
+        mask,
+        mask_stride,
+        sign,
+        ss_hor,
+        ss_ver,
     )
 }
 

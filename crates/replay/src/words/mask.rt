@@ -5,7 +5,7 @@ use crate::list::flag;
 use crate::list::int;
 use crate::list::sizes_at;
 use crate::list::told;
-use blocks::words::mask::hv_w_mask_16bpc;
+use blocks::words::w_mask::hv_w_mask_16bpc;
 
 pub(crate) fn w_mask_16bpc(
     r: &[u8],

@@ -6,7 +6,7 @@ use Rattle.rows.specs.Places.{fill, fillIn, paint, within}
 use Rattle.rows.specs.Combine.{avg, weighted}
 use Rattle.rows.specs.Subpel.{S, tapped, mid, put8, prep8}
 use Rattle.rows.specs.Bilinear.{bilin, R, along, putBilin}
-use Rattle.rows.specs.Mask.{weightOf, maskAt}
+use Rattle.rows.specs.WMask.{weightOf, maskAt}
 use Rattle.rows.specs.Edge.{endless, edge}
 use Rattle.rows.specs.Shear.{Q}
 use Rattle.rows.specs.Worked.{cases}

@@ -12,7 +12,7 @@ use Rattle.blocks.specs.Edge.{edgeTests}
 use Rattle.blocks.specs.Subpel.{subpelTests}
 use Rattle.blocks.specs.Bilinear.{bilinTests}
 use Rattle.blocks.specs.Scaled.{scaledTests}
-use Rattle.blocks.specs.Mask.{wMaskTests}
+use Rattle.blocks.specs.WMask.{wMaskTests}
 use Rattle.blocks.specs.Search.{sadsTests}
 use Rattle.blocks.specs.Warp.{warpTests}
 use Rattle.blocks.specs.Shear.{divisorTests, shearTests, affineMvTests}

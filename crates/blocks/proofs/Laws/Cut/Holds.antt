@@ -17,7 +17,7 @@ use Rattle.rows.proofs.Laws.Blocks.Places.{by-lt}
 use Rattle.rows.proofs.Laws.Cut.Cut.{box-in}
 use Rattle.blocks.specs.Refuse.{need, orSame, sizeOk, strideOk, holds, wholeFilters}
 use Rattle.blocks.specs.Edge.{placeOk}
-use Rattle.blocks.specs.Mask.{flagsOk}
+use Rattle.blocks.specs.WMask.{flagsOk}
 use Rattle.blocks.specs.Subpel.{typeOk, sixteenthOk, fractionOk, subpelOk, filterIn, put8Rule}
 use Rattle.blocks.specs.Window.{planeSide, frameSizesOk, frameNamesOk, before, after}
 use Rattle.blocks.specs.Order.{kindSizeOk, motionOk, filtersOk, orderDst, putRule, putPicture}

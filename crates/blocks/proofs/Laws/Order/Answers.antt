@@ -11,7 +11,7 @@ use Rattle.rows.specs.Warp.{filterNo, isThere, every, allThere}
 use Rattle.blocks.specs.Refuse.{need, lowest, orSame, sizeOk, strideOk, holds, wholeFilters}
 use Rattle.blocks.specs.words.Depth.{depthOk}
 use Rattle.blocks.specs.Edge.{placeOk}
-use Rattle.blocks.specs.Mask.{flagsOk}
+use Rattle.blocks.specs.WMask.{flagsOk}
 use Rattle.blocks.specs.Subpel.{typeOk, sixteenthOk, fractionOk, subpelOk, filterIn}
 use Rattle.blocks.specs.Warp.{warpPlaceOk}
 use Rattle.blocks.specs.Window.{planeSide, frameSizesOk, frameNamesOk, before, after}

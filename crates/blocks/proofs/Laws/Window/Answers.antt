@@ -6,7 +6,7 @@ use Prim.Native.Nat.{ℕ}
 use lib.IntN.{ℤ, pos}
 use Rattle.blocks.specs.Refuse.{need, orSame, sizeOk, strideOk, holds}
 use Rattle.blocks.specs.Edge.{placeOk}
-use Rattle.blocks.specs.Mask.{flagsOk}
+use Rattle.blocks.specs.WMask.{flagsOk}
 use Rattle.blocks.specs.Window.{planeSide, frameSizesOk, frameNamesOk, before, after, inside, isPlanes, windowAt, windowOf, scratchOf, rowAt, PartAnswer, WindowAnswer}
 use Rattle.blocks.specs.declared.frame.Frame.{Frame}
 use Rattle.blocks.specs.declared.window.Part.{Part}

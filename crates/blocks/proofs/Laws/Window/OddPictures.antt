@@ -17,7 +17,7 @@ use Rattle.rows.proofs.Laws.Blocks.Places.{span-at, row-fits}
 use Rattle.rows.proofs.Laws.Blocks.Fill.{and-true}
 use Rattle.blocks.specs.Refuse.{need, lowest, orSame, sizeOk, strideOk, holds}
 use Rattle.blocks.specs.Edge.{placeOk}
-use Rattle.blocks.specs.Mask.{flagsOk}
+use Rattle.blocks.specs.WMask.{flagsOk}
 use Rattle.blocks.specs.inner.Ready.{Rows}
 use Rattle.blocks.specs.Window.{planeSide, planeW, planeH, frameSizesOk, frameNamesOk, before, after, windowStart, windowTests, inside, isPlanes, ownPlane, windowAt, windowOf, scratchOf, partOf, rowTests, rowAt, PartAnswer, WindowAnswer}
 use Rattle.blocks.proofs.Laws.Calls.Refuse.{met-all, size-met, done}

@@ -13,19 +13,19 @@ use Rattle.blocks.proofs.window.locate.Statement.{statement}
 use Rattle.blocks.proofs.window.locate.Tie as tie
 
 -- the function's entry
-abbrev entry : tie.After-above64 → tie.Start
+abbrev entry : tie.After-up64 → tie.Start
 entry c = c .before .before .before .before
 
-row-is : (c : tie.After-above64) → c .above64 .result ≡ up (entry c .args .a .top)
-row-is c = c .above64 .ensures ∙ ap up (told-one w64 (entry c .args .a .top) (c .before .struct-told .given .1 .1 .1 .1 .1 .0 .1))
+row-is : (c : tie.After-up64) → c .up64 .result ≡ up (entry c .args .a .top)
+row-is c = c .up64 .ensures ∙ ap up (told-one w64 (entry c .args .a .top) (c .before .struct-told .given .1 .1 .1 .1 .1 .0 .1))
 
-column-is : (c : tie.After-above642) → c .above642 .result ≡ up (entry (c .before .before) .args .a .left)
-column-is c = c .above642 .ensures ∙ ap up (told-one w64 (entry (c .before .before) .args .a .left) (c .before .struct-told2 .given .1 .1 .1 .1 .0 .1))
+column-is : (c : tie.After-up642) → c .up642 .result ≡ up (entry (c .before .before) .args .a .left)
+column-is c = c .up642 .ensures ∙ ap up (told-one w64 (entry (c .before .before) .args .a .left) (c .before .struct-told2 .given .1 .1 .1 .1 .0 .1))
 
-small : (c : tie.After-above64) → c .above64 .result * entry c .args .plane-stride ≤ (2 ^ 30 + 3) * entry c .args .plane-stride
+small : (c : tie.After-up64) → c .up64 .result * entry c .args .plane-stride ≤ (2 ^ 30 + 3) * entry c .args .plane-stride
 small c =
     let s = entry c in
-    mul-le-mul-right {m = c .above64 .result} {n = 2 ^ 30 + 3} (s .args .plane-stride) (omega (arith, row-is c, s .pre .0 .top, abs-parts (s .args .a .top)))
+    mul-le-mul-right {m = c .up64 .result} {n = 2 ^ 30 + 3} (s .args .plane-stride) (omega (arith, row-is c, s .pre .0 .top, abs-parts (s .args .a .top)))
 
 add-place : tie.Need-add-place
 add-place c =
@@ -46,9 +46,9 @@ locate-spec =
     tie.close
     (tie.spec
     (λ c κs. c .pre .0)  -- is-planes-requires
-    (λ c κs. search needs)  -- above64-requires
+    (λ c κs. search needs)  -- up64-requires
     (λ c. omega (arith, small c, entry c .pre .1))  -- mul-place
-    (λ c κs. search needs) add-place  -- above64
+    (λ c κs. search needs) add-place  -- up64
     (λ c κs. let p = entry (c .before .before) .pre in (p .1, p .0 .ww128, p .0 .wh1, p .0 .wh128))  -- part-len-requires
     returns
     (λ c κs. let p = c .before .before .pre .0 in (omega (arith, p), p .ww128, p .wh1, p .wh128))  -- part-len-requires-2

@@ -1,0 +1,13 @@
+-- Made from crates/blocks/proofs/words/plane_row/hv_row_16bpc/Proof.antt by tools/sets: change that.
+use borrow.Author.Needs.{needs}
+use Rattle.rows.proofs.Laws.Numbers.Signed.{back}
+use Rattle.blocks.proofs.Laws.Window.Ready.{part-answer}
+use Rattle.blocks.proofs.bytes.plane_row.hv_row_8bpc.Statement.{statement}
+use Rattle.blocks.proofs.bytes.plane_row.hv_row_8bpc.Tie as tie
+
+pub hv-row-8bpc-spec : {M : Type 1} → statement M
+hv-row-8bpc-spec =
+    tie.close
+    (tie.spec
+    (λ c κs. search needs)  -- row-at-requires
+    (λ c. part-answer (rw (back (c .before .before .fits .row)) at (c .row-at .ensures))))  -- returns

@@ -1,0 +1,71 @@
+-- Made from crates/blocks/proofs/words/w_mask/hv_w_mask_16bpc/Proof.antt by tools/sets: change that.
+use mathlib.Core.Path.{_≡_, sym, ap, _∙_}
+use lib.IntN.{ℤ}
+use lib.ListN.{length}
+use borrow.Author.Needs.{needs}
+use Rattle.rows.specs.Numbers.{up}
+use Rattle.rows.proofs.Laws.Numbers.Signed.{back}
+use Rattle.blocks.specs.Refuse.{lowest}
+use Rattle.blocks.specs.bytes.Depth.{depthOk}
+use Rattle.blocks.specs.inner.Ready.{numbersOf}
+use Rattle.blocks.specs.WMask.{wMaskTests}
+use Rattle.blocks.proofs.Laws.Calls.Refuse.{done, refused}
+use Rattle.blocks.proofs.Laws.bytes.Deep.{deep-bits, deep-bias, deep-max, deep-limits}
+use Rattle.blocks.proofs.Laws.WMask.Ready.{w-mask-ready}
+use Rattle.blocks.proofs.bytes.w_mask.w_mask_at.Statement.{statement}
+use Rattle.blocks.proofs.bytes.w_mask.w_mask_at.Tie as tie
+
+-- the function's entry, from the check
+abbrev entry : tie.After-check-w-mask → tie.Start
+entry c = c .before .before .before .before
+
+number : (c : tie.After-check-w-mask) → let a = entry c .args in
+    c .check-w-mask .result ≡ lowest (wMaskTests (depthOk (a .depth)) (length (a .dst .now)) (a .dst-stride) (length (a .tmp1 .now)) (length (a .tmp2 .now))
+    (a .w) (a .h) (length (a .mask .now)) (a .mask-stride) (a .sign) (a .ss-hor) (a .ss-ver))
+number c = simp (c .before .depth-ok .ensures, back (entry c .fits .depth), back (entry c .fits .sign)) at (c .check-w-mask .ensures)
+
+depth-numbers-requires : tie.Need-depth-numbers-requires
+depth-numbers-requires c κs =
+    let t = entry (c .before) in
+    rw (back (t .fits .depth)) (w-mask-ready _ _ _ _ _ _ _ _ _ (t .args .sign) _ _ (sym (number (c .before)) ∙ c .if1 .taken) .0)
+
+-- what depends on the depth; the sign, and the depth itself
+deep : (c : tie.After-depth-numbers) → c .depth-numbers .result ≡ numbersOf (up (entry (c .before .before) .args .depth))
+deep c = c .depth-numbers .ensures ∙ ap (λ (d : ℤ). numbersOf (up d)) (back (entry (c .before .before) .fits .depth))
+
+abbrev from : tie.After-above2 → tie.After-depth-numbers
+from c = c .before .before .before .before
+
+sign : (c : tie.After-above2) → c .before .above .result ≡ up (entry (from c .before .before) .args .sign)
+sign c = c .before .above .ensures ∙ ap up (back (entry (from c .before .before) .fits .sign))
+
+depth : (c : tie.After-above2) → c .above2 .result ≡ up (entry (from c .before .before) .args .depth)
+depth c = c .above2 .ensures ∙ ap up (back (entry (from c .before .before) .fits .depth))
+
+w-mask-rows-requires : tie.Need-w-mask-rows-requires
+w-mask-rows-requires c κs =
+    let i = from c .before in let t = entry (i .before) in
+    let p = w-mask-ready _ _ _ _ _ _ _ _ _ (t .args .sign) _ _ (sym (number (i .before)) ∙ i .if1 .taken) in (
+      p .1,
+      p .2,
+      p .3,
+      rw (sign c) (p .4),
+      rw (depth c) (deep-limits _ (p .0)),
+      rw (deep (from c)) (deep-bits _ (p .0)),
+      rw (deep (from c)) (deep-bias _ (p .0)),
+      rw (deep (from c)) (deep-max _ (p .0)),
+    )
+
+returns : tie.Need-returns
+returns c =
+    let r = c .before .before .before .before in let a = r .before in let i = from a .before in
+    let e = r .w-mask-rows .ensures in let o = i .if1 .taken in
+    (number (i .before), simp (deep (from a), depth a) at (e .0) ∙ sym (done _ _ _ o), simp (deep (from a), depth a, sign a) at (e .1) ∙ sym (done _ _ _ o))
+
+pub w-mask-at-spec : {M : Type 1} → statement M
+w-mask-at-spec =
+    tie.close
+    (tie.spec
+    (λ c κs. search needs) (λ c κs. search needs) depth-numbers-requires (λ c κs. search needs)  -- depth-ok, check-w-mask, above
+    (λ c κs. search needs) w-mask-rows-requires (λ c. search needs) (λ c. search needs) returns  -- above, same-length
+    (λ c. (number (c .before), sym (refused _ _ _ (c .if1 .left)), sym (refused _ _ _ (c .if1 .left)))))  -- returns-2

@@ -1,0 +1,19 @@
+use borrow.Author.Needs.{needs}
+use Rattle.blocks.proofs.w_mask.mask_buffers.Statement.{statement}
+use Rattle.blocks.proofs.w_mask.mask_buffers.Tie as tie
+
+returns : tie.Need-returns
+returns c =
+    rw (
+      c .held4 .ensures,
+      c .before .held3 .ensures,
+      c .before .before .held2 .ensures,
+      c .before .before .before .held .ensures,
+    )
+
+pub mask-buffers-spec : {M : Type 1} → statement M
+mask-buffers-spec =
+    tie.close
+    (tie.spec
+    (λ c κs. search needs) (λ c κs. search needs) (λ c κs. search needs) (λ c κs. search needs)  -- held
+    returns)

@@ -1,0 +1,10 @@
+use borrow.Author.Needs.{needs}
+use Rattle.blocks.proofs.w_mask.mask_side.Statement.{statement}
+use Rattle.blocks.proofs.w_mask.mask_side.Tie as tie
+
+pub mask-side-spec : {M : Type 1} → statement M
+mask-side-spec =
+    tie.close
+    (tie.spec
+    (λ c. rw (c .if1 .taken))  -- returns
+    (λ c. search needs))  -- returns-2

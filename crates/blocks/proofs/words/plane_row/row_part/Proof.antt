@@ -1,0 +1,27 @@
+use borrow.Author.Needs.{needs}
+use mathlib.Core.Path.{_≡_, ap, _∙_}
+use mathlib.Core.List.{[]}
+use lib.ListN.{length}
+use Rattle.rows.proofs.Laws.Numbers.Signed.{back}
+use Rattle.blocks.specs.Window.{rowAt, partOf}
+use Rattle.blocks.proofs.Laws.Window.Rows.{row-in-plane}
+use Rattle.blocks.specs.declared.window.Part.{Part}
+use Rattle.blocks.proofs.words.plane_row.row_part.Statement.{statement}
+use Rattle.blocks.proofs.words.plane_row.row_part.Tie as tie
+
+answer : (c : tie.After-row-at) → let a = c .before .before .args in
+    c .row-at .result ≡ rowAt (a .lent .frame) (a .lent .«plane_no») (length (a .plane .now)) (a .lent .stride) (a .row)
+answer c = rw (back (c .before .before .fits .row)) at (c .row-at .ensures)
+
+returns : tie.Need-returns
+returns c =
+    let g = c .before .before in
+    c .pick .ensures ∙ ap (λ (p : Part). partOf p (g .before .before .args .plane .now) []) (answer g)
+
+pub row-part-spec : {M : Type 1} → statement M
+row-part-spec =
+    tie.close
+    (tie.spec
+    (λ c κs. search needs) (λ c. search needs) (λ c. search needs) (λ c. search needs)  -- row-at, sub-pick, part-pick-start, part-pick-end
+    (λ c κs. rw (answer (c .before)) (row-in-plane _ _ _ _ _ _))  -- pick-requires
+    returns)

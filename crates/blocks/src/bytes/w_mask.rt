@@ -1,0 +1,162 @@
+// Made from crates/blocks/src/words/w_mask.rt by tools/sets: change that.
+// w_mask: two blocks of intermediates combined by weights from their differences, and the mask of these weights.
+ghost use mathlib.Core.Path.{_≡_};
+ghost use mathlib.Core.Bool.{true};
+ghost use Prim.Native.Nat.{_*_, _≤_};
+ghost use lib.ListN.{length};
+ghost use Rattle.rows.specs.Numbers.{up};
+ghost use Rattle.rows.specs.Places.{fill};
+ghost use Rattle.rows.specs.Combine.{masked, both};
+ghost use Rattle.rows.specs.WMask.{weightOf, maskAt};
+ghost use Rattle.rows.specs.inner.bytes.Pixel.{BitsOk, BiasOk, MaxOk};
+ghost use Rattle.blocks.specs.bytes.Depth.{depthOk};
+ghost use Rattle.blocks.specs.inner.Ready.{Block, Rows, Deep, Weighing};
+ghost use Rattle.blocks.specs.WMask.{maskSide, flagsOk, WMaskAnswer};
+use super::combine::mask_rows;
+use super::depth::depth_numbers;
+use super::depth::depth_ok;
+use crate::refuse::DepthNumbers;
+use crate::refuse::above;
+use crate::w_mask::check_w_mask;
+use crate::w_mask::keep_mask;
+use rows::bytes::combine::mask_row;
+use rows::bytes::pixel::Pixel;
+use rows::w_mask::weight_row;
+
+// The pixels where the mask doesn't keep each weight.
+fn weighed_rows(
+    n: DepthNumbers,
+    dst: &mut [Pixel],
+    dst_stride: usize,
+    tmp1: &[i16],
+    tmp2: &[i16],
+    w: usize,
+    h: usize,
+    depth: u32,
+)
+    requires { ⌜ Block w h × Rows (length (now dst)) «dst_stride» w h × Rows (length (now tmp1)) w w h × Rows (length (now tmp2)) w w h × Deep depth
+        × BitsOk (n .bits) × BiasOk (n .bias) × MaxOk (n .max) ⌝ }
+    ensures { λ _. ⌜ now (dst .exit)
+        ≡ fill (now (dst .entry)) «dst_stride» w h
+        (λ i j. both (masked (n .max) (n .bits) (n .bias) (both (weightOf depth (n .bits)) (now (tmp1 .entry)) (now (tmp2 .entry)) (j * w) i))
+        (now (tmp1 .entry)) (now (tmp2 .entry)) (j * w) i) ⌝ }
+{
+    let mut m = [0u8; 64];
+    let mut y = 0;
+    while y < h {
+        let d = y * dst_stride;
+        let q = y * w;
+        weight_row(&mut m[..w], tmp1, tmp2, q, depth, n.bits);
+        mask_row(
+            &mut dst[d..d + w],
+            tmp1,
+            tmp2,
+            q,
+            &m,
+            0,
+            n.bits,
+            n.bias,
+            n.max,
+        );
+        y += 1;
+    }
+}
+
+// The mask first: where it keeps each weight, the pixels are then made by it, as in mask.
+fn w_mask_rows(
+    n: DepthNumbers,
+    dst: &mut [Pixel],
+    dst_stride: usize,
+    tmp1: &[i16],
+    tmp2: &[i16],
+    w: usize,
+    h: usize,
+    mask: &mut [u8],
+    mask_stride: usize,
+    sign: u32,
+    ss_hor: bool,
+    ss_ver: bool,
+    depth: u32,
+)
+    requires { ⌜ Rows (length (now dst)) «dst_stride» w h
+        × Weighing (length (now tmp1)) (length (now tmp2)) w h (length (now mask)) «mask_stride» (maskSide «ss_hor» w) (maskSide «ss_ver» h)
+        × (flagsOk «ss_hor» «ss_ver» ≡ true) × (sign ≤ 1) × Deep depth × BitsOk (n .bits) × BiasOk (n .bias) × MaxOk (n .max) ⌝ }
+    ensures { λ _. ⌜ (now (dst .exit)
+        ≡ fill (now (dst .entry)) «dst_stride» w h
+        (λ i j. both (masked (n .max) (n .bits) (n .bias) (both (weightOf depth (n .bits)) (now (tmp1 .entry)) (now (tmp2 .entry)) (j * w) i))
+        (now (tmp1 .entry)) (now (tmp2 .entry)) (j * w) i))
+        × (now (mask .exit)
+        ≡ fill (now (mask .entry)) «mask_stride» (maskSide «ss_hor» w) (maskSide «ss_ver» h) (maskAt sign «ss_hor» «ss_ver»
+        (λ i j. both (weightOf depth (n .bits)) (now (tmp1 .entry)) (now (tmp2 .entry)) (j * w) i))) ⌝ }
+{
+    keep_mask(
+        mask,
+        mask_stride,
+        tmp1,
+        tmp2,
+        w,
+        h,
+        sign,
+        ss_hor,
+        ss_ver,
+        depth,
+        n.bits,
+    );
+    if ss_hor {
+        weighed_rows(n, dst, dst_stride, tmp1, tmp2, w, h, depth);
+    } else {
+        mask_rows(n, dst, dst_stride, tmp1, tmp2, w, h, mask, mask_stride);
+    }
+}
+
+pub fn w_mask_at(
+    depth: i32,
+    dst: &mut [Pixel],
+    dst_stride: usize,
+    tmp1: &[i16],
+    tmp2: &[i16],
+    w: usize,
+    h: usize,
+    mask: &mut [u8],
+    mask_stride: usize,
+    sign: i32,
+    ss_hor: bool,
+    ss_ver: bool,
+) -> u32
+    ensures { λ r. ⌜ WMaskAnswer (depthOk depth) (up depth) (now (dst .entry)) «dst_stride» (now (tmp1 .entry)) (now (tmp2 .entry)) w h (now (mask .entry))
+        «mask_stride» sign «ss_hor» «ss_ver» r (now (dst .exit)) (now (mask .exit)) ⌝ }
+{
+    let number = check_w_mask(
+        depth_ok(depth),
+        dst.len(),
+        dst_stride,
+        tmp1.len(),
+        tmp2.len(),
+        w,
+        h,
+        mask.len(),
+        mask_stride,
+        sign,
+        ss_hor,
+        ss_ver,
+    );
+    if number == 0 {
+        let n = depth_numbers(depth);
+        w_mask_rows(
+            n,
+            dst,
+            dst_stride,
+            tmp1,
+            tmp2,
+            w,
+            h,
+            mask,
+            mask_stride,
+            above(sign),
+            ss_hor,
+            ss_ver,
+            above(depth),
+        );
+    }
+    number
+}
