@@ -7,9 +7,10 @@ ghost use Rattle.rows.specs.Places.{fill};
 ghost use Rattle.rows.specs.Bilinear.{R};
 ghost use Rattle.rows.specs.inner.Bilinear.{bilinAt};
 ghost use Rattle.blocks.specs.Refuse.{lowest};
-ghost use Rattle.blocks.specs.Subpel.{on, sixteenthOk};
+ghost use Rattle.blocks.specs.Subpel.{sixteenthOk};
 ghost use Rattle.blocks.specs.Bilinear.{bilinTests};
 ghost use Rattle.blocks.specs.inner.Ready.{Pairs};
+use crate::numbers::on_axis;
 use crate::refuse::held;
 use crate::refuse::needed;
 use crate::refuse::sizes;
@@ -21,13 +22,6 @@ pub fn sixteenth_ok(f: i32) -> bool
     ensures { λ r. ⌜ r ≡ sixteenthOk f ⌝ }
 {
     (0 <= f) & (f <= 15)
-}
-
-// 1 where the fraction isn't 0, which reads a place more.
-pub fn on_axis(f: i32) -> usize
-    ensures { λ r. ⌜ r ≡ on f ⌝ }
-{
-    if f <= 0 { 0 } else { 1 }
 }
 
 // deep is the outcome of the depth's test, true for bytes.

@@ -7,7 +7,8 @@ ghost use Rattle.rows.specs.Subpel.{filterBits};
 ghost use Rattle.blocks.specs.Refuse.{need, lowest, reads, wholeFilters};
 ghost use Rattle.blocks.specs.Subpel.{typeOk, fractionOk, subpelOk, filterIn, on, subpelTests};
 ghost use Rattle.blocks.specs.inner.Subpel.{axisOf, filterOf, Held, tapsOf, byOne, planOf};
-use crate::refuse::above;
+use crate::numbers::on_axis;
+use crate::numbers::up32;
 use crate::refuse::held;
 use crate::refuse::needed;
 use crate::refuse::reads_around;
@@ -41,14 +42,7 @@ pub fn fraction_ok(filter_type: i32, f: i32) -> bool
 pub fn filter_in(filter_type: i32, f: i32, el: usize) -> bool
     ensures { λ r. ⌜ r ≡ filterIn «filter_type» f el ⌝ }
 {
-    (0 <= filter_type) | (8 * above(f) as usize <= el)
-}
-
-// 1 where the fraction asks for a filter.
-fn on_axis(f: i32) -> usize
-    ensures { λ r. ⌜ r ≡ on f ⌝ }
-{
-    if f <= 0 { 0 } else { 1 }
+    (0 <= filter_type) | (8 * up32(f) as usize <= el)
 }
 
 // sl places hold those of each tap, with a filter on an axis where x or y is 1.
@@ -122,14 +116,14 @@ pub enum Filter {
 fn get_filter(f: i32, filter_type: i32, side: usize) -> Filter
     ensures { λ r. ⌜ r ≡ filterOf «filter_type» (up f) side ⌝ }
 {
-    let n = above(f) as usize;
+    let n = up32(f) as usize;
     if n == 0 {
         return Filter::Off;
     }
     if filter_type < 0 {
         return Filter::Ext(n - 1);
     }
-    let t = above(filter_type) as usize;
+    let t = up32(filter_type) as usize;
     if side <= 4 {
         return Filter::Subpel(15 * (3 + t % 2) + (n - 1));
     }

@@ -2,10 +2,10 @@
 ghost use mathlib.Core.Path.{_≡_};
 ghost use Prim.Native.Nat.{_^_, _≤_};
 ghost use lib.IntN.{natAbs};
+ghost use Rattle.blocks.specs.WMask.{flagsOk};
 ghost use Rattle.blocks.specs.Window.{planeSide, planeW, planeH, frameSizesOk, frameNamesOk, before, after, windowSide, windowStart};
 ghost use Rattle.blocks.specs.inner.Window.{areaOf};
 use crate::refuse::size_ok;
-use crate::w_mask::flags_ok;
 
 // Luma's sides and the subsampling flags.
 pub struct Frame {
@@ -60,6 +60,13 @@ pub fn frame_sizes_ok(f: Frame, plane_no: u32) -> bool
     ensures { λ r. ⌜ r ≡ frameSizesOk f «plane_no» ⌝ }
 {
     size_ok(16384, f.luma_w) & size_ok(16384, f.luma_h)
+}
+
+// ss_ver comes with ss_hor.
+pub fn flags_ok(ss_hor: bool, ss_ver: bool) -> bool
+    ensures { λ r. ⌜ r ≡ flagsOk «ss_hor» «ss_ver» ⌝ }
+{
+    ss_hor | !ss_ver
 }
 
 // ss_ver comes with ss_hor, and the plane is luma (0) or chroma (1).

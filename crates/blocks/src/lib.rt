@@ -7,6 +7,7 @@ pub mod copy;
 pub mod edge;
 pub mod filters;
 pub mod frame;
+pub mod numbers;
 pub mod order;
 pub mod plane_row;
 pub mod refuse;

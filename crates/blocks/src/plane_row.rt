@@ -10,12 +10,12 @@ use crate::frame::frame_names_ok;
 use crate::frame::frame_sizes_ok;
 use crate::frame::plane_h;
 use crate::frame::plane_w;
+use crate::numbers::up64;
 use crate::refuse::held;
 use crate::refuse::needed;
 use crate::refuse::stride;
 use crate::window::Part;
 use crate::window::no_part;
-use crate::window::up64;
 
 // A row of a plane of h rows.
 fn row_ok(row: i64, h: usize) -> bool

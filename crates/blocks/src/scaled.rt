@@ -9,7 +9,7 @@ ghost use Rattle.rows.specs.Scaled.{sixteenth, pixelOf, position, inFamily, pre
 ghost use Rattle.blocks.specs.Refuse.{need, lowest};
 ghost use Rattle.blocks.specs.Scaled.{startOk, stepOk, scaledTypeOk, columnRead, readsScaled, each, scaledTests};
 ghost use Rattle.blocks.specs.inner.Scaled.{scaledPlan, Turned, byParity};
-use crate::refuse::above;
+use crate::numbers::up32;
 use crate::refuse::held;
 use crate::refuse::needed;
 use crate::refuse::reads_around;
@@ -90,9 +90,9 @@ fn reads_scaled(taps: bool, l: Lent, w: usize, h: usize, m: ScaledMotion) -> boo
     if l.sl < l.src_off {
         return false;
     }
-    let rows = 1 + (above(m.my) as usize + (h - 1) * above(m.dy) as usize) / 1024;
-    let start = above(m.mx) as usize;
-    let step = above(m.dx) as usize;
+    let rows = 1 + (up32(m.my) as usize + (h - 1) * up32(m.dy) as usize) / 1024;
+    let start = up32(m.mx) as usize;
+    let step = up32(m.dx) as usize;
     // Columns never fall: of bilinear's, the last reads farthest.
     if !taps {
         return column_read(
@@ -156,7 +156,7 @@ pub struct ScaledPlan {
 fn family_of(filter_type: i32, side: usize) -> usize
     ensures { λ r. ⌜ r ≡ family (up «filter_type») side ⌝ }
 {
-    let t = above(filter_type) as usize;
+    let t = up32(filter_type) as usize;
     if side <= 4 { 3 + t % 2 } else { t }
 }
 
@@ -171,10 +171,10 @@ pub fn scaled_plan(
 ) -> ScaledPlan
     ensures { λ r. ⌜ r ≡ scaledPlan start stride (m .mx) (m .my) (m .dx) (m .dy) «filter_type» w h bits ⌝ }
 {
-    let mx = above(m.mx) as usize;
-    let my = above(m.my) as usize;
-    let dx = above(m.dx) as usize;
-    let dy = above(m.dy) as usize;
+    let mx = up32(m.mx) as usize;
+    let my = up32(m.my) as usize;
+    let dx = up32(m.dx) as usize;
+    let dy = up32(m.dy) as usize;
     let wide = family_of(filter_type, w);
     let high = family_of(filter_type, h);
     ScaledPlan {

@@ -8,6 +8,9 @@ ghost use Rattle.rows.specs.Shear.{Q, topBit, recipPlace, g, shearC, shearD, af
 ghost use Rattle.blocks.specs.Refuse.{need, lowest};
 ghost use Rattle.blocks.specs.inner.Ready.{Divides, Entries, Moves};
 ghost use Rattle.blocks.specs.Shear.{divisorTests, divisorOf, entriesOk, shearTests, sheared, ShearAnswer, affineMvTests, withMv, AffineMvAnswer};
+use crate::numbers::abs32;
+use crate::numbers::abs64;
+use crate::numbers::within;
 use crate::refuse::needed;
 use rows::numbers::keep32;
 use rows::numbers::wrapping_neg32;
@@ -108,26 +111,6 @@ pub extern "C" fn hv_resolve_divisor_32(d: u32, recip: &[u16], y: &mut i32, shif
     *y = a;
     *shift = b;
     r.number
-}
-
-// |v|
-fn abs64(v: i64) -> u64
-    ensures { λ r. ⌜ r ≡ natAbs v ⌝ }
-{
-    if v < 0 { (-1 - v) as u64 + 1 } else { v as u64 }
-}
-
-fn abs32(v: i32) -> u32
-    ensures { λ r. ⌜ r ≡ natAbs v ⌝ }
-{
-    abs64(v as i64) as u32
-}
-
-// v is within ±m.
-pub fn within(v: i32, m: u32) -> bool
-    ensures { λ r. ⌜ r ≡ near m v ⌝ }
-{
-    abs32(v) <= m
 }
 
 // g: (|v| + 2^(k-1)) >> k, cut to 32 bits, with the sign of v.

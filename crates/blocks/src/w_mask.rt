@@ -9,6 +9,7 @@ ghost use Rattle.rows.specs.WMask.{weightOf, maskAt};
 ghost use Rattle.blocks.specs.Refuse.{need, lowest, holds, holdsAll};
 ghost use Rattle.blocks.specs.inner.Ready.{Depths, Weighing};
 ghost use Rattle.blocks.specs.WMask.{evenOk, maskSide, flagsOk, signOk, wMaskTests};
+use crate::frame::flags_ok;
 use crate::refuse::held;
 use crate::refuse::needed;
 use crate::refuse::sizes;
@@ -35,13 +36,6 @@ fn sign_ok(sign: i32) -> bool
     ensures { λ r. ⌜ r ≡ signOk sign ⌝ }
 {
     (0 <= sign) & (sign <= 1)
-}
-
-// ss_ver comes with ss_hor.
-pub fn flags_ok(ss_hor: bool, ss_ver: bool) -> bool
-    ensures { λ r. ⌜ r ≡ flagsOk «ss_hor» «ss_ver» ⌝ }
-{
-    ss_hor | !ss_ver
 }
 
 // The links of the numbers, and those of the buffers, where the mask has mh rows of mw.

@@ -9,10 +9,10 @@ ghost use Rattle.rows.specs.Warp.{filterNo, isThere, every, allThere, warped};
 ghost use Rattle.blocks.specs.Refuse.{need, lowest, strideOk, holds, reads, wholeFilters};
 ghost use Rattle.blocks.specs.inner.Ready.{Rows, Pass};
 ghost use Rattle.blocks.specs.Warp.{warpPlaceOk, warpTests};
+use crate::numbers::within;
 use crate::refuse::held;
 use crate::refuse::needed;
 use crate::refuse::stride;
-use crate::shear::within;
 use rows::warp::filter_no;
 use rows::warp::warp_prep_row;
 

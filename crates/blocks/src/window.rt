@@ -3,7 +3,6 @@ ghost use mathlib.Core.Path.{_≡_};
 ghost use Prim.Native.Nat.{_+_, _^_, _≤_};
 ghost use lib.Dec.{leb};
 ghost use lib.IntN.{natAbs};
-ghost use Rattle.rows.specs.Numbers.{up};
 ghost use Rattle.blocks.specs.Refuse.{need, lowest, sizeOk, blockSide, strideOk, partLen, holds, holdsAll};
 ghost use Rattle.blocks.specs.Edge.{placeOk};
 ghost use Rattle.blocks.specs.inner.Ready.{Ranged};
@@ -18,6 +17,7 @@ use crate::frame::frame_sizes_ok;
 use crate::frame::plane_h;
 use crate::frame::plane_w;
 use crate::frame::window_side;
+use crate::numbers::up64;
 use crate::refuse::held;
 use crate::refuse::needed;
 use crate::refuse::sizes;
@@ -116,13 +116,6 @@ fn is_planes(a: Area, mode: u32) -> bool
     ensures { λ r. ⌜ r ≡ isPlanes mode (a .ww) (a .wh) (a .iw) (a .ih) (a .left) (a .top) ⌝ }
 {
     (mode == 0) & (inside(a.left, a.ww, a.iw) & inside(a.top, a.wh, a.ih))
-}
-
-// The number, or 0 where it is below 0.
-pub fn up64(v: i64) -> usize
-    ensures { λ r. ⌜ r ≡ up v ⌝ }
-{
-    if v < 0 { 0 } else { v as usize }
 }
 
 // The places that h rows of w take at the stride s.

@@ -15,9 +15,9 @@ use super::subpel::prep_8tap_rows;
 use super::subpel::put_8tap_rows;
 use super::warp::warp_prep;
 use super::warp::warp_put;
+use crate::numbers::up32;
 use crate::order::Kind;
 use crate::refuse::DepthNumbers;
-use crate::refuse::above;
 use rows::bytes::pixel::Pixel;
 
 // The block as put.
@@ -44,8 +44,8 @@ pub fn put_kind(
         Kind::Copy => put_rows(dst, dst_stride, src, s, w, h),
         Kind::Subpel(m) => put_8tap_rows(d, dst, dst_stride, src, o, s, w, h, m, subpel, ext),
         Kind::Bilinear(m) => {
-            let f = above(m.mx);
-            let g = above(m.my);
+            let f = up32(m.mx);
+            let g = up32(m.my);
             put_bilin_rows(d, dst, dst_stride, src, s, w, h, f, g)
         }
         Kind::Warp(m) => warp_put(d, dst, dst_stride, src, s, o, m, warp),
@@ -76,8 +76,8 @@ pub fn prep_kind(
         Kind::Copy => prep_rows(d, tmp, tmp_stride, src, s, w, h),
         Kind::Subpel(m) => prep_8tap_rows(d, tmp, tmp_stride, src, o, s, w, h, m, subpel, ext),
         Kind::Bilinear(m) => {
-            let f = above(m.mx);
-            let g = above(m.my);
+            let f = up32(m.mx);
+            let g = up32(m.my);
             prep_bilin_rows(d, tmp, tmp_stride, src, s, w, h, f, g)
         }
         Kind::Warp(m) => warp_prep(d, tmp, tmp_stride, src, s, o, m, warp),

@@ -13,7 +13,7 @@ ghost use Rattle.blocks.specs.inner.Ready.{Blocks, Wider, Deep};
 ghost use Rattle.blocks.specs.Search.{SadAnswer, RefineAnswer};
 ghost use Rattle.blocks.specs.inner.Search.{bestOf};
 use super::depth::depth_ok;
-use crate::refuse::above;
+use crate::numbers::up32;
 use crate::search::Best;
 use crate::search::Compared;
 use crate::search::Offset;
@@ -162,7 +162,7 @@ pub fn sad_nxn_at(
         h,
     );
     if number == 0 {
-        *sum = sad_sum(above(depth), p0, 0, p0_stride, p1, 0, p1_stride, w, h) as i32;
+        *sum = sad_sum(up32(depth), p0, 0, p0_stride, p1, 0, p1_stride, w, h) as i32;
     } else {
         *sum = 0;
     }
@@ -196,7 +196,7 @@ pub fn sad_refine_mv_at(
     );
     if number == 0 {
         let n = Compared {
-            depth: above(depth),
+            depth: up32(depth),
             s0: p0_stride,
             s1: p1_stride,
             w,

@@ -18,8 +18,8 @@ use super::depth::depth_numbers;
 use super::depth::depth_ok;
 use crate::bilinear::check_bilin;
 use crate::bilinear::mid_bilin_prep_rows;
+use crate::numbers::up32;
 use crate::refuse::DepthNumbers;
-use crate::refuse::above;
 use rows::numbers::half_power;
 use rows::words::bilinear::mid_bilin_row;
 use rows::words::bilinear::prep_bilin_row;
@@ -232,8 +232,8 @@ pub extern "C" fn hv_put_bilin_16bpc(
     );
     if number == 0 {
         let n = depth_numbers(depth);
-        let f = above(mx);
-        let g = above(my);
+        let f = up32(mx);
+        let g = up32(my);
         put_bilin_rows(n, dst, dst_stride, src, src_stride, w, h, f, g);
     }
     number
@@ -267,8 +267,8 @@ pub extern "C" fn hv_prep_bilin_16bpc(
     );
     if number == 0 {
         let n = depth_numbers(depth);
-        let f = above(mx);
-        let g = above(my);
+        let f = up32(mx);
+        let g = up32(my);
         prep_bilin_rows(n, tmp, tmp_stride, src, src_stride, w, h, f, g);
     }
     number

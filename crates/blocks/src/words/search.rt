@@ -12,7 +12,7 @@ ghost use Rattle.blocks.specs.inner.Ready.{Blocks, Wider, Deep};
 ghost use Rattle.blocks.specs.Search.{SadAnswer, RefineAnswer};
 ghost use Rattle.blocks.specs.inner.Search.{bestOf};
 use super::depth::depth_ok;
-use crate::refuse::above;
+use crate::numbers::up32;
 use crate::search::Best;
 use crate::search::Compared;
 use crate::search::Offset;
@@ -162,7 +162,7 @@ pub extern "C" fn hv_sad_nxn_16bpc(
         h,
     );
     if number == 0 {
-        *sum = sad_sum(above(depth), p0, 0, p0_stride, p1, 0, p1_stride, w, h) as i32;
+        *sum = sad_sum(up32(depth), p0, 0, p0_stride, p1, 0, p1_stride, w, h) as i32;
     } else {
         *sum = 0;
     }
@@ -197,7 +197,7 @@ pub extern "C" fn hv_sad_refine_mv_16bpc(
     );
     if number == 0 {
         let n = Compared {
-            depth: above(depth),
+            depth: up32(depth),
             s0: p0_stride,
             s1: p1_stride,
             w,

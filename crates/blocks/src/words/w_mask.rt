@@ -14,8 +14,8 @@ ghost use Rattle.blocks.specs.WMask.{maskSide, flagsOk, WMaskAnswer};
 use super::combine::mask_rows;
 use super::depth::depth_numbers;
 use super::depth::depth_ok;
+use crate::numbers::up32;
 use crate::refuse::DepthNumbers;
-use crate::refuse::above;
 use crate::w_mask::check_w_mask;
 use crate::w_mask::keep_mask;
 use rows::w_mask::weight_row;
@@ -152,10 +152,10 @@ pub extern "C" fn hv_w_mask_16bpc(
             h,
             mask,
             mask_stride,
-            above(sign),
+            up32(sign),
             ss_hor,
             ss_ver,
-            above(depth),
+            up32(depth),
         );
     }
     number

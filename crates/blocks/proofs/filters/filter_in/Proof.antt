@@ -7,12 +7,12 @@ use Rattle.blocks.proofs.filters.filter_in.Tie as tie
 
 returns : tie.Need-returns
 unfolding filterIn
-returns c = rw (c .above .ensures, back (c .before .fits .filter-type), back (c .before .fits .f))
+returns c = rw (c .up32 .ensures, back (c .before .fits .filter-type), back (c .before .fits .f))
 
 pub filter-in-spec : {M : Type 1} → statement M
 filter-in-spec =
     tie.close
     (tie.spec
     (λ c κs. search needs) (λ c. search needs)  -- above, cast-result
-    (λ c. omega (arith, c .above .ensures, rd (c .before .fits .f)))  -- mul-result
+    (λ c. omega (arith, c .up32 .ensures, rd (c .before .fits .f)))  -- mul-result
     returns)

@@ -12,16 +12,16 @@ use Rattle.blocks.proofs.filters.get_filter.Statement.{statement}
 use Rattle.blocks.proofs.filters.get_filter.Tie as tie
 
 -- the fraction, as it is carried
-n-is : (c : tie.After-above) → (c .above .result ≡ up (c .before .args .f)) × (c .above .result < 2147483648)
-n-is c = (omega (arith, c .above .ensures, rd (c .before .fits .f)), omega (arith, c .above .ensures, rd (c .before .fits .f)))
+n-is : (c : tie.After-up32) → (c .up32 .result ≡ up (c .before .args .f)) × (c .up32 .result < 2147483648)
+n-is c = (omega (arith, c .up32 .ensures, rd (c .before .fits .f)), omega (arith, c .up32 .ensures, rd (c .before .fits .f)))
 
 -- and the type
-t-is : (c : tie.After-above2) → let s = c .before .before .before .before in
-    (c .above2 .result ≡ up (s .args .filter-type)) × (dn (s .args .filter-type) ≡ 0) × (c .above2 .result < 2147483648)
+t-is : (c : tie.After-up322) → let s = c .before .before .before .before in
+    (c .up322 .result ≡ up (s .args .filter-type)) × (dn (s .args .filter-type) ≡ 0) × (c .up322 .result < 2147483648)
 t-is c =
     let s = c .before .before .before .before in
     let f = rd (s .fits .filter-type) in
-    (omega (arith, c .above2 .ensures), omega (signed, c .before .if2 .left), omega (arith, c .above2 .ensures))
+    (omega (arith, c .up322 .ensures), omega (signed, c .before .if2 .left), omega (arith, c .up322 .ensures))
 
 returns-2 : tie.Need-returns-2
 returns-2 c =
@@ -30,8 +30,8 @@ returns-2 c =
     (filter-ext (b .before .args .filter-type) _ _ (omega (arith, n-is b, c .before .if1 .left)) (omega (signed, rd (b .before .fits .filter-type))))
 
 -- the number in subpel, of the family m
-number : (c : tie.After-above2) (m : ℕ) → let s = c .before .before .before .before in m ≡ family (up (s .args .filter-type)) (s .args .side)
-    → Subpel (15 * m + (c .before .before .before .above .result - 1)) ≡ filterOf (s .args .filter-type) (up (s .args .f)) (s .args .side)
+number : (c : tie.After-up322) (m : ℕ) → let s = c .before .before .before .before in m ≡ family (up (s .args .filter-type)) (s .args .side)
+    → Subpel (15 * m + (c .before .before .before .up32 .result - 1)) ≡ filterOf (s .args .filter-type) (up (s .args .f)) (s .args .side)
 number c m e =
     let b = c .before .before .before in
     rw (n-is b .0) (filter-sub (b .before .args .filter-type) _ _ m (omega (arith, n-is b, c .before .before .if1 .left)) (t-is c .1) e)

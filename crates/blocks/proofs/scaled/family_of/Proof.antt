@@ -9,8 +9,8 @@ use Rattle.blocks.proofs.scaled.family_of.Statement.{statement}
 use Rattle.blocks.proofs.scaled.family_of.Tie as tie
 
 -- the type, as it is carried
-t-is : (c : tie.After-above) → c .above .result ≡ up (c .before .args .filter-type)
-t-is c = omega (arith, c .above .ensures, rd (c .before .fits .filter-type))
+t-is : (c : tie.After-up32) → c .up32 .result ≡ up (c .before .args .filter-type)
+t-is c = omega (arith, c .up32 .ensures, rd (c .before .fits .filter-type))
 
 pub family-of-spec : {M : Type 1} → statement M
 family-of-spec =

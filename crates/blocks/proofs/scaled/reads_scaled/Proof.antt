@@ -26,30 +26,30 @@ abbrev begin : tie.Else1 Inv-loop μ-loop → tie.Start Inv-loop μ-loop
 begin c = c .before .before
 
 -- start and step of the rows, and of the columns
-down : (c : tie.After-above2 Inv-loop μ-loop) → let a = c .before .before in let m = begin (a .before .before) .args .m in
-    (a .above .result ≡ up (m .my)) × (c .above2 .result ≡ up (m .dy))
+down : (c : tie.After-up322 Inv-loop μ-loop) → let a = c .before .before in let m = begin (a .before .before) .args .m in
+    (a .up32 .result ≡ up (m .my)) × (c .up322 .result ≡ up (m .dy))
 down c =
     let g = c .before .struct-told2 .given in
-    (rw (c .before .before .above .ensures, told-back w32 (g .1)) refl, rw (c .above2 .ensures, told-back w32 (g .1 .1 .1)) refl)
+    (rw (c .before .before .up32 .ensures, told-back w32 (g .1)) refl, rw (c .up322 .ensures, told-back w32 (g .1 .1 .1)) refl)
 
-across : (c : tie.After-above4 Inv-loop μ-loop) → let a = c .before .before in let m = begin (a .before .before .before .before .before .before) .args .m in
-    (a .above3 .result ≡ up (m .mx)) × (c .above4 .result ≡ up (m .dx))
+across : (c : tie.After-up324 Inv-loop μ-loop) → let a = c .before .before in let m = begin (a .before .before .before .before .before .before) .args .m in
+    (a .up323 .result ≡ up (m .mx)) × (c .up324 .result ≡ up (m .dx))
 across c =
     let g = c .before .struct-told4 .given in
-    (rw (c .before .before .above3 .ensures, told-back w32 g) refl, rw (c .above4 .ensures, told-back w32 (g .1 .1)) refl)
+    (rw (c .before .before .up323 .ensures, told-back w32 g) refl, rw (c .up324 .ensures, told-back w32 (g .1 .1)) refl)
 
 -- as far as 63 steps lead
 far : (k step : ℕ) → k ≤ 63 → step ≤ 4096 → k * step ≤ 63 * 4096
 far k step p q = mul-le-mul p q
 
-last-row : (c : tie.After-above2 Inv-loop μ-loop) → (begin (c .before .before .before .before) .args .h - 1) * c .above2 .result ≤ 63 * 4096
+last-row : (c : tie.After-up322 Inv-loop μ-loop) → (begin (c .before .before .before .before) .args .h - 1) * c .up322 .result ≤ 63 * 4096
 last-row c = far _ _ (omega arith) (omega (arith, down c))
 
-column : (c : tie.In-loop Inv-loop μ-loop) → c .before .loop .x * c .before .before .before .above4 .result ≤ 63 * 4096
+column : (c : tie.In-loop Inv-loop μ-loop) → c .before .loop .x * c .before .before .before .up324 .result ≤ 63 * 4096
 column c = far _ _ (omega arith) (omega (arith, across (c .before .before .before)))
 
 last-column-near : (c : tie.Then2 Inv-loop μ-loop)
-    → (begin (c .before .before .before .before .before .before .before .before .before) .args .w - 1) * c .before .above4 .result ≤ 63 * 4096
+    → (begin (c .before .before .before .before .before .before .before .before .before) .args .w - 1) * c .before .up324 .result ≤ 63 * 4096
 last-column-near c = far _ _ (omega arith) (omega (arith, across (c .before)))
 
 returns : tie.Need-returns Inv-loop μ-loop

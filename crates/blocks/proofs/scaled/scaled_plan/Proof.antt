@@ -17,10 +17,10 @@ returns c =
     let s = e .before .before in
     let g = a .before .struct-told4 .given in
     rw (
-      e .above .ensures,
-      d .above2 .ensures,
-      b .above3 .ensures,
-      a .above4 .ensures,
+      e .up32 .ensures,
+      d .up322 .ensures,
+      b .up323 .ensures,
+      a .up324 .ensures,
       c .before .family-of .ensures,
       c .family-of2 .ensures,
       told-back w32 g,

@@ -15,14 +15,14 @@ entry c = c .before .before .before .before .before
 refine-requires : tie.Need-refine-requires
 refine-requires c κs =
     let t = c .before in let k = t .before in let z = sym (k .check-sads .ensures) ∙ t .if1 .taken in
-    (refine-ready _ _ _ _ _ _ _ z, rw (c .above .ensures) (deep-limits _ (sym (k .before .depth-ok .ensures) ∙ sads-ready 8 _ _ _ _ _ _ _ z .3)))
+    (refine-ready _ _ _ _ _ _ _ z, rw (c .up32 .ensures) (deep-limits _ (sym (k .before .depth-ok .ensures) ∙ sads-ready 8 _ _ _ _ _ _ _ z .3)))
 
 returns : tie.Need-returns
 returns c =
     let g = c .struct-told2 .given in let r = c .before .before in let v = r .before in let t = v .before in let k = t .before in
     let d = back (entry t .fits .depth) in (
       rw (k .before .depth-ok .ensures, d) at (k .check-sads .ensures),
-      refine-done (t .if1 .taken) (fit w32 (g .0 .1)) (fit w32 (g .1 .0 .1)) (rw (v .above .ensures, d) at (r .refine .ensures)),
+      refine-done (t .if1 .taken) (fit w32 (g .0 .1)) (fit w32 (g .1 .0 .1)) (rw (v .up32 .ensures, d) at (r .refine .ensures)),
     )
 
 returns-2 : tie.Need-returns-2

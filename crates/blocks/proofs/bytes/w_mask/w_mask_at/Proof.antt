@@ -33,14 +33,14 @@ depth-numbers-requires c κs =
 deep : (c : tie.After-depth-numbers) → c .depth-numbers .result ≡ numbersOf (up (entry (c .before .before) .args .depth))
 deep c = c .depth-numbers .ensures ∙ ap (λ (d : ℤ). numbersOf (up d)) (back (entry (c .before .before) .fits .depth))
 
-abbrev from : tie.After-above2 → tie.After-depth-numbers
+abbrev from : tie.After-up322 → tie.After-depth-numbers
 from c = c .before .before .before .before
 
-sign : (c : tie.After-above2) → c .before .above .result ≡ up (entry (from c .before .before) .args .sign)
-sign c = c .before .above .ensures ∙ ap up (back (entry (from c .before .before) .fits .sign))
+sign : (c : tie.After-up322) → c .before .up32 .result ≡ up (entry (from c .before .before) .args .sign)
+sign c = c .before .up32 .ensures ∙ ap up (back (entry (from c .before .before) .fits .sign))
 
-depth : (c : tie.After-above2) → c .above2 .result ≡ up (entry (from c .before .before) .args .depth)
-depth c = c .above2 .ensures ∙ ap up (back (entry (from c .before .before) .fits .depth))
+depth : (c : tie.After-up322) → c .up322 .result ≡ up (entry (from c .before .before) .args .depth)
+depth c = c .up322 .ensures ∙ ap up (back (entry (from c .before .before) .fits .depth))
 
 w-mask-rows-requires : tie.Need-w-mask-rows-requires
 w-mask-rows-requires c κs =

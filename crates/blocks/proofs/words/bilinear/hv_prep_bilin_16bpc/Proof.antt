@@ -23,7 +23,7 @@ number c = let s = entry c in rw (c .before .depth-ok .ensures, back (s .fits .d
 returns : tie.Need-returns
 returns c =
     let r = c .before in let a = r .before .before in let b = a .before in let n = b .before in let t = n .before in let f = entry (t .before) .fits in
-    let q = rw (b .above .ensures, a .above2 .ensures, n .depth-numbers .ensures, back (f .depth), back (f .mx), back (f .my))
+    let q = rw (b .up32 .ensures, a .up322 .ensures, n .depth-numbers .ensures, back (f .depth), back (f .mx), back (f .my))
     at (r .prep-bilin-rows .ensures) in
     (number (t .before), q ∙ sym (done _ _ _ (t .if1 .taken)))
 
@@ -31,7 +31,7 @@ rows-requires : tie.Need-prep-bilin-rows-requires
 rows-requires c κs =
     let a = c .before in let n = a .before .before in let t = n .before in let k = t .before in
     let q = bilin-ready _ _ _ _ _ _ _ _ _ (sym (k .check-bilin .ensures) ∙ t .if1 .taken) in let p = sym (k .before .depth-ok .ensures) ∙ q .0 in
-    rw (a .before .above .ensures, a .above2 .ensures, n .depth-numbers .ensures) (q .1, deep-bits _ p, deep-bias _ p)
+    rw (a .before .up32 .ensures, a .up322 .ensures, n .depth-numbers .ensures) (q .1, deep-bits _ p, deep-bias _ p)
 
 pub hv-prep-bilin-16bpc-spec : {M : Type 1} → statement M
 hv-prep-bilin-16bpc-spec =

@@ -6,8 +6,8 @@ use Rattle.blocks.proofs.Laws.words.Deep.{deep-high}
 use Rattle.blocks.proofs.words.depth.depth_numbers.Statement.{statement}
 use Rattle.blocks.proofs.words.depth.depth_numbers.Tie as tie
 
-above-is : (c : tie.After-above) → c .above .result ≡ up (c .before .args .depth)
-above-is c = c .above .ensures ∙ ap up (back (c .before .fits .depth))
+above-is : (c : tie.After-up32) → c .up32 .result ≡ up (c .before .args .depth)
+above-is c = c .up32 .ensures ∙ ap up (back (c .before .fits .depth))
 
 returns : tie.Need-returns
 returns c =

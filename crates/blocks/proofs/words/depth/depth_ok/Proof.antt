@@ -6,7 +6,7 @@ use Rattle.blocks.proofs.words.depth.depth_ok.Tie as tie
 
 returns : tie.Need-returns
 unfolding depthOk
-returns c = rw (c .above .ensures, back (c .before .fits .depth))
+returns c = rw (c .up32 .ensures, back (c .before .fits .depth))
 
 pub depth-ok-spec : {M : Type 1} → statement M
 depth-ok-spec =

@@ -26,7 +26,7 @@ bilin-requires c κs =
     let a = b .before in
     let k = a .before .before .before in
     let p = k .before .before .before .before .pre in
-    rw (a .above .ensures, c .before .above2 .ensures) (bilin-ready (p .0) (p .1) (bilin-passed (k .k2 .given .1) (b .struct-told2 .given)), p .2, p .4)
+    rw (a .up32 .ensures, c .before .up322 .ensures) (bilin-ready (p .0) (p .1) (bilin-passed (k .k2 .given .1) (b .struct-told2 .given)), p .2, p .4)
 
 warp-requires : tie.Need-warp-put-requires
 warp-requires c κs =
@@ -51,7 +51,7 @@ bilin-returns c =
     let b = c .before .before .before .before in
     let a = b .before .before in
     let k = a .before .before .before in
-    let e = rw (a .above .ensures, b .above2 .ensures) at (c .before .before .put-bilin-rows .ensures) in
+    let e = rw (a .up32 .ensures, b .up322 .ensures) at (c .before .before .put-bilin-rows .ensures) in
     rw (bilin-passed (k .k2 .given .1) (b .before .struct-told2 .given), no-margin (k .before .before .before .before .args .s)) e
 
 warp-returns : tie.Need-returns-4

@@ -14,13 +14,13 @@ sad-sum-requires : tie.Need-sad-sum-requires
 sad-sum-requires c κs =
     let t = c .before in let k = t .before in let d = back (entry t .fits .depth) in
     let r = sads-ready 0 _ _ _ _ _ _ _ (sym (k .check-sads .ensures) ∙ t .if1 .taken) in
-    (sad-blocks (r .0) (r .1) (r .2), rw (c .above .ensures) (deep-limits _ (sym (k .before .depth-ok .ensures) ∙ r .3)))
+    (sad-blocks (r .0) (r .1) (r .2), rw (c .up32 .ensures) (deep-limits _ (sym (k .before .depth-ok .ensures) ∙ r .3)))
 
 returns : tie.Need-returns
 returns c =
     let t = c .before .before in let k = t .before in let s = entry t in let a = s .args in let d = back (s .fits .depth) in (
       rw (k .before .depth-ok .ensures, d) at (k .check-sads .ensures),
-      rw (c .before .above .ensures, d) at (sad-done (c .before .above .result) (a .p0 .now) (a .p0-stride) (a .p1 .now) (a .p1-stride) (a .w) (a .h)
+      rw (c .before .up32 .ensures, d) at (sad-done (c .before .up32 .result) (a .p0 .now) (a .p0-stride) (a .p1 .now) (a .p1-stride) (a .w) (a .h)
           (t .if1 .taken) (c .sad-sum .ensures)),
     )
 

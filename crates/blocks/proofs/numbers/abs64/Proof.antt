@@ -7,8 +7,8 @@ use mathlib.Core.Bool.{true}
 use mir.Syntax.{w64}
 use mir.Val.{SFits}
 use Rattle.rows.proofs.Laws.Numbers.Signed.{back, flip, below, above, abs-mag}
-use Rattle.blocks.proofs.shear.abs64.Statement.{statement}
-use Rattle.blocks.proofs.shear.abs64.Tie as tie
+use Rattle.blocks.proofs.numbers.abs64.Statement.{statement}
+use Rattle.blocks.proofs.numbers.abs64.Tie as tie
 
 module _ (c : tie.Then1) where
   abbrev v : ℤ

@@ -1,7 +1,7 @@
 use Rattle.blocks.specs.WMask.{flagsOk}
 use mathlib.Core.Path.{refl}
-use Rattle.blocks.proofs.w_mask.flags_ok.Statement.{statement}
-use Rattle.blocks.proofs.w_mask.flags_ok.Tie as tie
+use Rattle.blocks.proofs.frame.flags_ok.Statement.{statement}
+use Rattle.blocks.proofs.frame.flags_ok.Tie as tie
 
 returns : tie.Need-returns
 unfolding flagsOk

@@ -1,6 +1,6 @@
 use Rattle.rows.proofs.Laws.Numbers.Signed.{signed, rd}
-use Rattle.blocks.proofs.window.up64.Statement.{statement}
-use Rattle.blocks.proofs.window.up64.Tie as tie
+use Rattle.blocks.proofs.numbers.up64.Statement.{statement}
+use Rattle.blocks.proofs.numbers.up64.Tie as tie
 
 pub up64-spec : {M : Type 1} → statement M
 up64-spec =

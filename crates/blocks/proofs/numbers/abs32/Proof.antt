@@ -3,8 +3,8 @@ use mathlib.Core.Path.{_≡_}
 use native.Mathlib.Omega.{arith}
 use lib.IntN.{natAbs}
 use Rattle.rows.proofs.Laws.Numbers.Signed.{back32, abs-mag, reading}
-use Rattle.blocks.proofs.shear.abs32.Statement.{statement}
-use Rattle.blocks.proofs.shear.abs32.Tie as tie
+use Rattle.blocks.proofs.numbers.abs32.Statement.{statement}
+use Rattle.blocks.proofs.numbers.abs32.Tie as tie
 
 is : (c : tie.After-abs64) → c .abs64 .result ≡ natAbs (c .before .args .v)
 is c = rw (back32 (c .before .fits .v)) at (c .abs64 .ensures)

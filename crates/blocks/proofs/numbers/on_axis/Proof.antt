@@ -1,6 +1,6 @@
 use Rattle.rows.proofs.Laws.Numbers.Signed.{signed, rd}
-use Rattle.blocks.proofs.bilinear.on_axis.Statement.{statement}
-use Rattle.blocks.proofs.bilinear.on_axis.Tie as tie
+use Rattle.blocks.proofs.numbers.on_axis.Statement.{statement}
+use Rattle.blocks.proofs.numbers.on_axis.Tie as tie
 
 pub on-axis-spec : {M : Type 1} → statement M
 on-axis-spec =
