@@ -8,7 +8,7 @@ use Rattle.blocks.specs.declared.window.Part.{Part}
 use Rattle.blocks.specs.declared.order.Order.{Order}
 use Rattle.blocks.specs.Order.{kindNumber}
 
--- and the part that is read: where the tests give another number than 0, that number and zeros
+-- the part that an order reads: where its tests give another number than 0, that number and zeros
 unfoldable pub orderPart : (verdict : ℕ) (f : Frame) (planeNo planeStride : ℕ) (o : Order) → Part
 orderPart verdict f planeNo planeStride o =
     orSame verdict (areaAt (areaOf f planeNo (kindNumber (o .kind)) (o .w) (o .h) (o .x) (o .y)) 0 planeStride) (noPart verdict)

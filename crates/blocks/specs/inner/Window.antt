@@ -7,7 +7,7 @@ use Rattle.blocks.specs.declared.frame.Frame.{Frame}
 use Rattle.blocks.specs.declared.window.Part.{Part}
 use Rattle.blocks.specs.Window.{planeW, planeH, windowSide, windowStart, isPlanes, windowAt, fetched}
 
--- all of them, as the code carries them
+-- the area of a block's window: its sides, the plane's sides, its first column and row
 abbrev pub areaOf : (f : Frame) (planeNo kind w h : ℕ) (x y : ℤ) → Area
 areaOf f planeNo kind w h x y =
     record {
@@ -19,12 +19,12 @@ areaOf f planeNo kind w h x y =
       top = windowStart kind y;
     }
 
--- the same of an area
+-- where it lies, in the plane or in scratch
 abbrev pub areaAt : Area → (mode planeStride : ℕ) → Part
 areaAt a mode planeStride =
     windowAt (isPlanes mode (a .ww) (a .wh) (a .iw) (a .ih) (a .left) (a .top)) planeStride (a .ww) (a .wh) (a .left) (a .top)
 
--- the same of an area
+-- and what scratch holds then
 abbrev pub areaFetched : Area → (plane : List ℕ) (planeStride mode : ℕ) → List ℕ → List ℕ
 areaFetched a plane planeStride mode scratch =
     fetched (isPlanes mode (a .ww) (a .wh) (a .iw) (a .ih) (a .left) (a .top)) plane planeStride (a .ww) (a .wh) (a .iw) (a .ih) (a .left) (a .top) scratch
