@@ -194,6 +194,18 @@ cropped-sides : (planeW cropped 1 ≡ 321) × (planeH cropped 1 ≡ 5)
 unfolding planeSide
 cropped-sides = (refl, refl)
 
+-- the premises above are met by every chroma plane of it without gaps, 5 rows of 321
+cropped-lent : (plane : List ℕ) → 1605 ≤ length plane → LentPlane cropped 1 plane 321
+unfolding planeSide flagsOk
+cropped-lent plane h =
+    record {
+      wide = (omega arith, omega arith);
+      high = (omega arith, omega arith);
+      flags = refl;
+      named = omega arith;
+      rows = record { wide = omega arith; most = omega arith; fits = omega arith };
+    }
+
 -- its last pixel, in column 320 of row 4, is the last of 5 rows of 321; it is handed out, and so is the row with it
 cropped-window : windowOf cropped 1 1605 321 0 1 1 (pos 320) (pos 4) 0 1 ≡ record { number = 0; buffer = 1; place = 1604; stride = 321; len = 1 }
 unfolding windowOf windowAt orSame need sizeOk strideOk placeOk holds flagsOk planeSide frameSizesOk frameNamesOk before after isPlanes inside
