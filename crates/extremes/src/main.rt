@@ -11,7 +11,7 @@ use rows::bytes::combine::mask_row as mask_row8;
 use rows::bytes::copy::copy_row as copy_row8;
 use rows::bytes::copy::prep_row as prep_row8;
 use rows::bytes::edge::edge_row as edge_row8;
-use rows::bytes::scaled::scaled_bilin_row as scaled_bilin_row8;
+use rows::bytes::pairs::scaled_bilin_row as scaled_bilin_row8;
 use rows::bytes::scaled::scaled_row as scaled_row8;
 use rows::bytes::search::sad_row as sad_row8;
 use rows::bytes::subpel::mid_row as mid_row8;
@@ -37,7 +37,7 @@ use rows::words::combine::mask_row as mask_row16;
 use rows::words::copy::copy_row as copy_row16;
 use rows::words::copy::prep_row as prep_row16;
 use rows::words::edge::edge_row as edge_row16;
-use rows::words::scaled::scaled_bilin_row as scaled_bilin_row16;
+use rows::words::pairs::scaled_bilin_row as scaled_bilin_row16;
 use rows::words::scaled::scaled_row as scaled_row16;
 use rows::words::search::sad_row as sad_row16;
 use rows::words::subpel::mid_row as mid_row16;
@@ -298,12 +298,12 @@ fn run_scaled16() {
 
 // 64 columns of the longest step; the rows have the first two.
 fn run_scaled_bilin() {
-    let mut pixels = [0usize; 64];
+    let mut pixels = [0u8; 64];
     let mut fractions = [0u8; 64];
     tabulate_columns(&mut pixels, &mut fractions, 64, 1023, 4096);
-    row8(b"tabulate_columns", &[pixels[63] as u8, fractions[63]]);
+    row8(b"tabulate_columns", &[pixels[63], fractions[63]]);
     let mut mid = [0i16; 2];
-    scaled_bilin_row8(&mut mid, &[255u8; 6], 0, &pixels, &fractions, 0);
+    scaled_bilin_row8(&mut mid, &[255u8; 6], 0, &pixels, &fractions, 4);
     mids(b"scaled_bilin_row8", &mid);
     scaled_bilin_row16(&mut mid, &[65535u16; 6], 0, &pixels, &fractions, 2);
     mids(b"scaled_bilin_row16", &mid);

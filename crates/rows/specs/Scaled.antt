@@ -2,7 +2,6 @@
 use Prim.Native.Nat.{ℕ, zero, suc, _+_, _-_, _*_, _/_, _%_, _^_, _≤_, _<_}
 use lib.IntN.{ℤ, pos, _+ℤ_}
 use mathlib.Core.List.{List}
-use lib.ListN.{getD}
 use Rattle.rows.specs.Numbers.{clip, half, low16, minus16, _>>_}
 use Rattle.rows.specs.Subpel.{Axis, whole, by, filter, tapped}
 use Rattle.rows.specs.Bilinear.{bilin, R, bilinMid}
@@ -55,8 +54,3 @@ putBilinScaled M B f g q = clip M (R (4 + B) (bilin (bilinMid B f q 0) (bilinMid
 
 unfoldable pub prepBilinScaled : (B P : ℕ) → ℕ → ℕ → (ℕ → ℕ → ℕ) → ℤ
 prepBilinScaled B P f g q = minus16 (low16 (R 4 (bilin (bilinMid B f q 0) (bilinMid B f q 1) g))) (pos P)
-
--- what a row of w columns by two tables relies on: of each column the pixel and the next are within l places, and the fraction is one of 0 to 15
-pub record PairsFetched (l o : ℕ) (pixels fractions : List ℕ) (w : ℕ) : Type 0 where
-  pub within : (i : ℕ) → i < w → o + getD pixels i 0 + 1 < l
-  pub small : (i : ℕ) → i < w → getD fractions i 0 ≤ 15

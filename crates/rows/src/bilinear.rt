@@ -1,7 +1,7 @@
 // Bilinear rows of intermediates: the two of a place stand at o and o + step, step being 1 along a row, a stride down a column.
 ghost use mathlib.Core.Path.{_≡_};
 ghost use Prim.Native.Nat.{_+_, _*_, _^_, _<_, _≤_};
-ghost use lib.IntN.{natAbs};
+ghost use lib.IntN.{pos, natAbs};
 ghost use lib.ListN.{length};
 ghost use lib.Signed.{mag};
 ghost use Rattle.rows.specs.Numbers.{at, half, low16, minus16};
@@ -19,6 +19,15 @@ pub fn bilin_sum(a: i32, b: i32, f: u32) -> i32
 {
     let f = f as u8;
     16 * a + f as i32 * (b - a)
+}
+
+// The sum of two bytes in sixteen bits: 16 * 255 at most.
+pub fn bilin_bytes(a: u16, b: u16, f: u32) -> u16
+    requires { ⌜ (a ≤ 255) × (b ≤ 255) × (f ≤ 15) ⌝ }
+    ensures { λ r. ⌜ (pos r ≡ bilin (pos a) (pos b) f) × (r ≤ 4080) ⌝ }
+{
+    let f = f as u16;
+    (16 - f) * a + f * b
 }
 
 // 16a + f(b - a), as (16 - f)a + fb and within 2^22: intermediates, unlike their differences, are of sixteen bits, and so both products are short ones.

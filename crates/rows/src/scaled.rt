@@ -10,9 +10,9 @@ pub struct Columns {
     pub step: usize,
 }
 
-// The pixel that each of w columns is in, and its sixteenth: worked out once, since all rows of a block share them.
+// The pixel that each of w columns is in, 252 at most, and its sixteenth: worked out once, since all rows of a block share them.
 pub fn tabulate_columns(
-    pixels: &mut [usize; 64],
+    pixels: &mut [u8; 64],
     fractions: &mut [u8; 64],
     w: usize,
     start: usize,
@@ -21,10 +21,12 @@ pub fn tabulate_columns(
     requires { ⌜ (length (now pixels) ≡ 64) × (length (now fractions) ≡ 64) × (w ≤ 64) × Steps start step ⌝ }
     ensures { λ _. ⌜ Tabled (now (pixels .exit)) (now (fractions .exit)) w start step ⌝ }
 {
+    let first = start as u32;
+    let by = step as u32;
     let mut i = 0;
     while i < w {
-        let p = start + i * step;
-        pixels[i] = p / 1024;
+        let p = first + i as u32 * by;
+        pixels[i] = (p / 1024) as u8;
         fractions[i] = (p % 1024 / 64) as u8;
         i += 1;
     }

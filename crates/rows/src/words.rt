@@ -5,6 +5,7 @@ pub mod blend;
 pub mod combine;
 pub mod copy;
 pub mod edge;
+pub mod pairs;
 pub mod pixel;
 pub mod scaled;
 pub mod search;

@@ -30,10 +30,10 @@ use crate::scaled::scaled_type_ok;
 use crate::scaled::turned;
 use rows::bilinear::mid_bilin_prep_row;
 use rows::bytes::bilinear::mid_bilin_row;
+use rows::bytes::pairs::scaled_bilin_row;
 use rows::bytes::pixel::Pixel;
 use rows::bytes::pixel::bias_of;
 use rows::bytes::pixel::bits_of;
-use rows::bytes::scaled::scaled_bilin_row;
 use rows::bytes::scaled::scaled_row;
 use rows::bytes::subpel::mid_by;
 use rows::numbers::half_power;
@@ -195,7 +195,7 @@ fn next_pairs(
     m: usize,
     src: &[Pixel],
     p: ScaledPlan,
-    pixels: &[usize; 64],
+    pixels: &[u8; 64],
     fractions: &[u8; 64],
     w: usize,
 )
@@ -203,7 +203,6 @@ fn next_pairs(
         × Tabled (now pixels) (now fractions) w (p .mx) (p .dx) ⌝ }
     ensures { λ _. ⌜ LastTwo w (pairLineOf (now (src .entry)) p) m (now (rows .exit)) ⌝ }
 {
-    let r = 4 - bits_of(p.bits);
     let mut k = n;
     while k < m {
         let q = k % 2 * 64;
@@ -213,7 +212,7 @@ fn next_pairs(
             p.start + k * p.stride,
             pixels,
             fractions,
-            r,
+            p.bits,
         );
         k += 1;
     }
@@ -236,7 +235,7 @@ pub fn put_bilin_scaled_rows(
         (pairLineOf (now (src .entry)) p (pixelOf (position (p .my) (p .dy) j) + 1) i) (sixteenth (position (p .my) (p .dy) j))))) ⌝ }
 {
     let r = 4 + bits_of(p.bits);
-    let mut pixels = [0usize; 64];
+    let mut pixels = [0u8; 64];
     let mut fractions = [0u8; 64];
     tabulate_columns(&mut pixels, &mut fractions, w, p.mx, p.dx);
     let mut rows = [0i16; 128];
@@ -270,7 +269,7 @@ pub fn prep_bilin_scaled_rows(
         (pairLineOf (now (src .entry)) p (pixelOf (position (p .my) (p .dy) j) + 1) i) (sixteenth (position (p .my) (p .dy) j))))) (pos bias)) ⌝ }
 {
     let less = bias_of(bias) as i16;
-    let mut pixels = [0usize; 64];
+    let mut pixels = [0u8; 64];
     let mut fractions = [0u8; 64];
     tabulate_columns(&mut pixels, &mut fractions, w, p.mx, p.dx);
     let mut rows = [0i16; 128];

@@ -34,10 +34,10 @@ use rows::scaled::tabulate_columns;
 use rows::subpel::Way;
 use rows::subpel::eight;
 use rows::words::bilinear::mid_bilin_row;
+use rows::words::pairs::scaled_bilin_row;
 use rows::words::pixel::Pixel;
 use rows::words::pixel::bias_of;
 use rows::words::pixel::bits_of;
-use rows::words::scaled::scaled_bilin_row;
 use rows::words::scaled::scaled_row;
 use rows::words::subpel::mid_by;
 
@@ -194,7 +194,7 @@ fn next_pairs(
     m: usize,
     src: &[Pixel],
     p: ScaledPlan,
-    pixels: &[usize; 64],
+    pixels: &[u8; 64],
     fractions: &[u8; 64],
     w: usize,
 )
@@ -202,7 +202,6 @@ fn next_pairs(
         × Tabled (now pixels) (now fractions) w (p .mx) (p .dx) ⌝ }
     ensures { λ _. ⌜ LastTwo w (pairLineOf (now (src .entry)) p) m (now (rows .exit)) ⌝ }
 {
-    let r = 4 - bits_of(p.bits);
     let mut k = n;
     while k < m {
         let q = k % 2 * 64;
@@ -212,7 +211,7 @@ fn next_pairs(
             p.start + k * p.stride,
             pixels,
             fractions,
-            r,
+            p.bits,
         );
         k += 1;
     }
@@ -235,7 +234,7 @@ pub fn put_bilin_scaled_rows(
         (pairLineOf (now (src .entry)) p (pixelOf (position (p .my) (p .dy) j) + 1) i) (sixteenth (position (p .my) (p .dy) j))))) ⌝ }
 {
     let r = 4 + bits_of(p.bits);
-    let mut pixels = [0usize; 64];
+    let mut pixels = [0u8; 64];
     let mut fractions = [0u8; 64];
     tabulate_columns(&mut pixels, &mut fractions, w, p.mx, p.dx);
     let mut rows = [0i16; 128];
@@ -269,7 +268,7 @@ pub fn prep_bilin_scaled_rows(
         (pairLineOf (now (src .entry)) p (pixelOf (position (p .my) (p .dy) j) + 1) i) (sixteenth (position (p .my) (p .dy) j))))) (pos bias)) ⌝ }
 {
     let less = bias_of(bias) as i16;
-    let mut pixels = [0usize; 64];
+    let mut pixels = [0u8; 64];
     let mut fractions = [0u8; 64];
     tabulate_columns(&mut pixels, &mut fractions, w, p.mx, p.dx);
     let mut rows = [0i16; 128];

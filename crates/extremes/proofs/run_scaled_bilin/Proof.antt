@@ -2,8 +2,7 @@ use borrow.Author.Needs.{needs}
 use native.Mathlib.Omega.{arith}
 use mathlib.Core.List.{List}
 use Prim.Native.Nat.{ℕ, _≤_}
-use Rattle.rows.specs.Scaled.{PairsFetched}
-use Rattle.rows.specs.inner.Scaled.{Tabled}
+use Rattle.rows.specs.inner.Scaled.{Tabled, PairsFetched}
 use Rattle.extremes.proofs.run_scaled_bilin.Statement.{statement}
 use Rattle.extremes.proofs.run_scaled_bilin.Tie as tie
 
@@ -26,7 +25,6 @@ run-scaled-bilin-spec =
     (λ c κs. search needs)  -- tabulate-columns-requires
     (λ c. search needs)  -- slice-aggregate-row8
     (λ c. search needs)  -- pixels[63]
-    (λ c. omega (arith, c .before .tabulate-columns .ensures .pixel 63 (omega arith)))  -- as u8
     (λ c. search needs)  -- fractions[63]
     (λ c. search needs)  -- slice-aggregate-row8-2
     (λ c κs. search needs)  -- row8-requires

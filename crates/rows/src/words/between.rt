@@ -5,20 +5,12 @@ ghost use lib.IntN.{pos, _+ℤ_};
 ghost use lib.ListN.{length};
 ghost use lib.Signed.{shrZ};
 ghost use Rattle.rows.specs.Numbers.{px, clip, half, low16, minus16, modZ};
-ghost use Rattle.rows.specs.Bilinear.{bilin, R};
+ghost use Rattle.rows.specs.Bilinear.{R};
 ghost use Rattle.rows.specs.inner.Bilinear.{bilinAt};
 ghost use Rattle.rows.specs.inner.words.Pixel.{MaxOk};
 use super::pixel::Pixel;
+use crate::bilinear::bilin_bytes;
 use crate::near::near_kept;
-
-// The sum of two bytes in sixteen bits: 16 * 255 at most.
-fn bilin_bytes(a: u16, b: u16, f: u32) -> u16
-    requires { ⌜ (a ≤ 255) × (b ≤ 255) × (f ≤ 15) ⌝ }
-    ensures { λ r. ⌜ (pos r ≡ bilin (pos a) (pos b) f) × (r ≤ 4080) ⌝ }
-{
-    let f = f as u16;
-    (16 - f) * a + f * b
-}
 
 // The sum of two 16-bit pixels is 256 times that of their high bytes, plus that of their low ones.
 fn high_between(src: &[Pixel], p: usize, step: usize, f: u32) -> u16

@@ -10,8 +10,8 @@ use Rattle.rows.specs.Numbers.{at, px, low16}
 use Rattle.rows.specs.Places.{rowOf, span, splice}
 use Rattle.rows.specs.Bilinear.{R, bilin}
 use Rattle.rows.specs.inner.Bilinear.{bilinAt}
-use Rattle.rows.specs.Scaled.{position, pixelOf, sixteenth, PairsFetched}
-use Rattle.rows.specs.inner.Scaled.{Tabled}
+use Rattle.rows.specs.Scaled.{position, pixelOf, sixteenth}
+use Rattle.rows.specs.inner.Scaled.{Tabled, PairsFetched}
 use Rattle.rows.proofs.Laws.Filters.Bilinear.{weighed}
 use Rattle.rows.proofs.Laws.Blocks.Places.{by-lt, row-at, row-length, row-same, splice-before, splice-in, splice-after, splice-length, span-length}
 use Rattle.rows.proofs.Laws.Filters.Scaled.{position-lt}

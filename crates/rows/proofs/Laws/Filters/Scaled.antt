@@ -1,5 +1,5 @@
 -- Rows from a reference of another size: how far their positions go, and the intermediate at a position, by its fraction. Assumes nothing.
-use mathlib.Core.Path.{_≡_, ap, ap₂, _∙_}
+use mathlib.Core.Path.{_≡_, sym, ap, ap₂, _∙_}
 use mathlib.Core.List.{List}
 use Prim.Native.Nat.{ℕ, zero, suc, _+_, _-_, _*_, _^_, _≤_, _<_}
 use native.Mathlib.Nat.{add-zero, mul-le-mul}
@@ -12,16 +12,20 @@ use Rattle.rows.specs.Copy.{prep}
 use Rattle.rows.specs.Subpel.{filter, tapped}
 use Rattle.rows.specs.Bilinear.{bilin, R}
 use Rattle.rows.specs.inner.Bilinear.{bilinAt}
-use Rattle.rows.specs.Scaled.{position, pixelOf, sixteenth, inFamily, scaledMid, PairsFetched}
-use Rattle.rows.specs.inner.Scaled.{eightAt, Steps}
-use Rattle.rows.proofs.Laws.Numbers.Low.{low16-again}
+use Rattle.rows.specs.Scaled.{position, pixelOf, sixteenth, inFamily, scaledMid}
+use Rattle.rows.specs.inner.Scaled.{eightAt, Steps, PairsFetched, pairMid}
+use Rattle.rows.proofs.Laws.Numbers.Low.{low16-again, low16-keeps}
+use Rattle.rows.proofs.Laws.Filters.Bilinear.{shr-none}
 use Rattle.rows.proofs.Laws.Blocks.Places.{span-at, row-same}
 use Rattle.rows.proofs.Laws.Filters.Taps.{tapped-same}
 use Rattle.rows.proofs.Laws.Filters.Warp.{lent-filter}
 
--- how far a row of 64 columns goes
+-- how far a row of 64 columns goes: its pixels are numbered by bytes
+pub position-small : {start step i : ℕ} → Steps start step → i < 64 → position start step i < 2 ^ 18
+position-small {start} {step} {i} s h = let m : i ≤ 63 = omega arith in omega (arith, mul-le-mul m (s .1))
+
 pub position-lt : {start step i : ℕ} → Steps start step → i < 64 → position start step i < 2 ^ 20
-position-lt {start} {step} {i} s h = let m : i ≤ 63 = omega arith in omega (arith, mul-le-mul m (s .1))
+position-lt s h = omega (arith, position-small s h)
 
 -- what a table of five families lends at the place of a fraction's filter
 pub family-lent : (table : List ℤ) (k p : ℕ) → length table ≡ 600 → k ≤ 4
@@ -59,6 +63,11 @@ module _ (src : List ℕ) (o : ℕ) where
 
   -- a row of that part, by tables of the columns
   pub part-row : (n w : ℕ) (pixels fractions : List ℕ) → PairsFetched (length src) o pixels fractions w
-      → rowOf w (λ i. low16 (R n (bilinAt (px (span src o (length src))) (getD pixels i 0) 1 (getD fractions i 0))))
+      → rowOf w (pairMid (span src o (length src)) pixels fractions n)
       ≡ rowOf w (λ i. low16 (R n (bilinAt (px src) (o + getD pixels i 0) 1 (getD fractions i 0))))
   part-row n w pixels fractions f = row-same (pos 0) w _ _ λ i h. ap (λ (z : ℤ). low16 (R n z)) (part-at _ _ (f .within i h))
+
+-- the sum of two bytes is kept as it is
+pub byte-mid : {r : ℕ} {s : ℤ} → pos r ≡ s → r ≤ 4080 → pos r ≡ low16 (R 0 s)
+unfolding R
+byte-mid {r} {s} e b = sym (low16-keeps (pos r) (omega arith)) ∙ ap low16 (e ∙ sym (shr-none s))

@@ -5,22 +5,22 @@ use lib.ListN.{length}
 use Rattle.rows.specs.Scaled.{position, pixelOf, sixteenth}
 use Rattle.rows.specs.inner.Scaled.{Tabled}
 use Rattle.rows.proofs.Laws.Blocks.Row.{Upto, upto-none, upto-more}
-use Rattle.rows.proofs.Laws.Filters.Scaled.{position-lt}
+use Rattle.rows.proofs.Laws.Filters.Scaled.{position-small}
 use Rattle.rows.proofs.scaled.tabulate_columns.Statement.{statement}
 use Rattle.rows.proofs.scaled.tabulate_columns.Tie as tie
 
 abbrev Inv-loop : tie.InvT-loop
-Inv-loop pixels₀ fractions₀ w start step i₀ pixels fractions i =
+Inv-loop pixels₀ fractions₀ w start step first by i₀ pixels fractions i =
     (i ≤ w)
     × (Upto 0 (λ x. pixelOf (position start step x)) (length pixels₀) i pixels
     × Upto 0 (λ x. sixteenth (position start step x)) (length fractions₀) i fractions)
 
 abbrev μ-loop : tie.MeasureT-loop
-μ-loop pixels₀ fractions₀ w start step i₀ pixels fractions i = w - i
+μ-loop pixels₀ fractions₀ w start step first by i₀ pixels fractions i = w - i
 
 -- column i isn't far
-near : (c : tie.In-loop Inv-loop μ-loop) → let a = c .before .before .args in position (a .start) (a .step) (c .before .loop .i) < 2 ^ 20
-near c = position-lt (c .before .before .pre .3) (omega arith)
+near : (c : tie.In-loop Inv-loop μ-loop) → let a = c .before .before .args in position (a .start) (a .step) (c .before .loop .i) < 2 ^ 18
+near c = position-small (c .before .before .pre .3) (omega arith)
 
 loop-again : tie.Need-loop-again Inv-loop μ-loop
 loop-again c =
@@ -35,10 +35,13 @@ returns c =
 pub tabulate-columns-spec : {M : Type 1} → statement M
 tabulate-columns-spec =
     tie.close
-    (tie.spec Inv-loop μ-loop (λ c. (omega arith, (upto-none _ _ _, upto-none _ _ _)))  -- while i < w
-    (λ c. omega (arith, near c))  -- i * step
-    (λ c. omega (arith, near c))  -- start +
-    (λ c. omega arith) (λ c. omega arith)  -- pixels[i] =
+    (tie.spec Inv-loop μ-loop
+    (λ c. omega arith) (λ c. omega arith)  -- start and step as u32
+    (λ c. (omega arith, (upto-none _ _ _, upto-none _ _ _)))  -- while i < w
+    (λ c. omega arith)  -- i as u32
+    (λ c. omega (arith, near c))  -- i * by
+    (λ c. omega (arith, near c))  -- first +
+    (λ c. omega (arith, near c)) (λ c. omega arith)  -- pixels[i] = .. as u8
     (λ c. omega arith) (λ c. omega arith)  -- fractions[i] = .. as u8
     (λ c. omega arith) (λ c. omega arith) loop-again  -- i += 1
     returns)

@@ -12,14 +12,14 @@ use Rattle.blocks.proofs.words.scaled.next_pairs.Statement.{statement}
 use Rattle.blocks.proofs.words.scaled.next_pairs.Tie as tie
 
 abbrev Inv-loop : tie.InvT-loop
-Inv-loop rows₀ n m src p pixels fractions w r k₀ rows k = (k ≤ m) × ((length rows ≡ 128) × LastTwo w (pairLineOf src p) k rows)
+Inv-loop rows₀ n m src p pixels fractions w k₀ rows k = (k ≤ m) × ((length rows ≡ 128) × LastTwo w (pairLineOf src p) k rows)
 
 abbrev μ-loop : tie.MeasureT-loop
-μ-loop rows₀ n m src p pixels fractions w r k₀ rows k = m - k
+μ-loop rows₀ n m src p pixels fractions w k₀ rows k = m - k
 
 -- the function's entry, from a turn of the loop
 abbrev entry : tie.In-loop Inv-loop μ-loop → tie.Start Inv-loop μ-loop
-entry c = c .before .before .before .before
+entry c = c .before .before .before
 
 -- in a turn, where the row begins
 begins : (c : tie.In-loop Inv-loop μ-loop) → let a = entry c .args in a .p .start + c .before .loop .k * a .p .stride < length (a .src .now)
@@ -32,34 +32,32 @@ long c = let q = c .before .loop .k % 2 * 64 in span-length (pos 0) (c .before .
 
 scaled-bilin-row-requires : tie.Need-scaled-bilin-row-requires Inv-loop μ-loop
 scaled-bilin-row-requires c κs =
-    let t = c .before .before .before in let p = entry t .pre in
-    let e = t .before .before .bits-of .ensures in (
+    let t = c .before .before .before in let p = entry t .pre in (
       omega (arith, long t),
       omega (arith, begins t),
       pairs-fetched (p .3) (p .5) (t .before .loop .k) _ (t .loop-test .taken) (omega (arith, long t)),
-      omega (arith, e, p .3 .even),
-      omega (arith, e, p .3 .even),
+      p .4,
+      p .3 .even,
     )
 
 loop-again : tie.Need-loop-again Inv-loop μ-loop
 loop-again c =
-    let r = c .before in let t = r .before .before .before .before in let i = t .before .loop .inv in let p = entry t .pre in
-    let row = rw (t .before .before .bits-of .ensures) at (r .scaled-bilin-row .ensures) in (
+    let r = c .before in let t = r .before .before .before .before in let i = t .before .loop .inv in let p = entry t .pre in (
       omega arith,
       two-more (i .1 .1) (p .3 .w64) (i .1 .0) _
-          (row ∙ tabled-line (p .3) (p .5) (entry t .args .src .now) (t .before .loop .k) _ (omega (arith, long t))),
+          (r .scaled-bilin-row .ensures ∙ tabled-line (p .3) (p .5) (entry t .args .src .now) (t .before .loop .k) _ (omega (arith, long t))),
     )
 
 returns : tie.Need-returns Inv-loop μ-loop
 returns c =
-    let e : c .before .loop .k ≡ c .before .before .before .before .args .m = omega arith in
+    let e : c .before .loop .k ≡ c .before .before .before .args .m = omega arith in
     rw e at (c .before .loop .inv .1 .1)
 
 pub next-pairs-spec : {M : Type 1} → statement M
 next-pairs-spec =
     tie.close
     (tie.spec Inv-loop μ-loop
-    (λ c κs. search needs) (λ c. search needs) (λ c. search needs) (λ c. search needs)  -- bits-of, 4 - B, loop-holds, k % 2 * 64
+    (λ c. search needs) (λ c. search needs)  -- loop-holds, k % 2 * 64
     (λ c. omega (arith, entry c .pre .3)) (λ c. search needs) (λ c. search needs) (λ c. search needs) (λ c. search needs)  -- rows[q..q + w]
     (λ c. omega (arith, begins (c .before .before))) (λ c. omega (arith, begins (c .before .before .before)))  -- k * stride, start + it
     scaled-bilin-row-requires (λ c. search needs) (λ c. search needs) loop-again (λ c. search needs) returns)  -- k += 1, and the loop

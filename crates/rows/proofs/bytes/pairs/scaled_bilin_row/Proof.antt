@@ -1,14 +1,13 @@
--- Made from crates/rows/proofs/words/scaled/scaled_bilin_row/Proof.antt by tools/sets: change that.
 use borrow.Author.Needs.{needs}
 use native.Mathlib.Omega.{arith}
 use mathlib.Core.Path.{_≡_, _∙_}
 use lib.ListN.{length}
 use Rattle.rows.specs.Places.{span}
-use Rattle.rows.specs.Scaled.{PairsFetched}
+use Rattle.rows.specs.inner.Scaled.{PairsFetched}
 use Rattle.rows.proofs.Laws.Blocks.Places.{span-length}
 use Rattle.rows.proofs.Laws.Filters.Scaled.{part-row}
-use Rattle.rows.proofs.bytes.scaled.scaled_bilin_row.Statement.{statement}
-use Rattle.rows.proofs.bytes.scaled.scaled_bilin_row.Tie as tie
+use Rattle.rows.proofs.bytes.pairs.scaled_bilin_row.Statement.{statement}
+use Rattle.rows.proofs.bytes.pairs.scaled_bilin_row.Tie as tie
 
 -- the part holds what each column reads
 held : (c : tie.Start) → let a = c .args in
@@ -21,20 +20,19 @@ held c =
 returns : tie.Need-returns
 returns c =
     let t = c .before .before .before in let s = t .before .before .before in
-    rw (t .if1 .taken) (c .before .scaled-bilin-by .ensures ∙ part-row (s .args .src .now) _ _ _ _ _ (s .pre .2))
+    rw (s .pre .3) (c .before .scaled-bilin-few .ensures ∙ part-row (s .args .src .now) _ _ _ _ _ (s .pre .2))
 
 returns-2 : tie.Need-returns-2
 returns-2 c =
     let t = c .before .before .before in let s = t .before .before .before in
-    let two : s .args .n ≡ 2 = omega (arith, t .if1 .left) in
-    rw two (c .before .scaled-bilin-by2 .ensures ∙ part-row (s .args .src .now) _ _ _ _ _ (s .pre .2))
+    rw (s .pre .3) (c .before .scaled-bilin-eights .ensures ∙ part-row (s .args .src .now) _ _ _ _ _ (s .pre .2))
 
 pub scaled-bilin-row-spec : {M : Type 1} → statement M
 scaled-bilin-row-spec =
     tie.close
     (tie.spec
     (λ c. omega arith) (λ c. omega arith) (λ c. omega arith)  -- &src[o..]
-    (λ c κs. let s = c .before .before .before .before in (omega arith, held s, omega arith, omega arith))  -- scaled-bilin-by-requires
-    (λ c κs. let s = c .before .before .before .before in (omega arith, held s, omega arith, omega arith))  -- scaled-bilin-by-requires-2
-    (λ c. search needs) returns  -- n is 0
-    (λ c. search needs) returns-2)  -- n is 2
+    (λ c κs. let s = c .before .before .before .before in (omega arith, held s))  -- fewer than eight
+    (λ c κs. let s = c .before .before .before .before in (omega arith, omega arith, held s))  -- eight or more
+    (λ c. search needs) returns
+    (λ c. search needs) returns-2)

@@ -3,8 +3,8 @@ use native.Mathlib.Omega.{arith}
 use Prim.Native.Nat.{_+_, _-_, _*_, _≤_}
 use lib.IntN.{pos}
 use Rattle.rows.proofs.Laws.Filters.Bilinear.{weighed, bytes-le}
-use Rattle.rows.proofs.words.between.bilin_bytes.Statement.{statement}
-use Rattle.rows.proofs.words.between.bilin_bytes.Tie as tie
+use Rattle.rows.proofs.bilinear.bilin_bytes.Statement.{statement}
+use Rattle.rows.proofs.bilinear.bilin_bytes.Tie as tie
 
 small : (c : tie.Start) → (16 - c .args .f) * c .args .a + c .args .f * c .args .b ≤ 4080
 small c = bytes-le (c .pre .0) (c .pre .1) (omega arith)

@@ -3,11 +3,11 @@ use native.Mathlib.Omega.{arith}
 use mathlib.Core.Path.{_≡_, _∙_}
 use lib.ListN.{length}
 use Rattle.rows.specs.Places.{span}
-use Rattle.rows.specs.Scaled.{PairsFetched}
+use Rattle.rows.specs.inner.Scaled.{PairsFetched}
 use Rattle.rows.proofs.Laws.Blocks.Places.{span-length}
 use Rattle.rows.proofs.Laws.Filters.Scaled.{part-row}
-use Rattle.rows.proofs.words.scaled.scaled_bilin_row.Statement.{statement}
-use Rattle.rows.proofs.words.scaled.scaled_bilin_row.Tie as tie
+use Rattle.rows.proofs.words.pairs.scaled_bilin_row.Statement.{statement}
+use Rattle.rows.proofs.words.pairs.scaled_bilin_row.Tie as tie
 
 -- the part holds what each column reads
 held : (c : tie.Start) → let a = c .args in
@@ -25,7 +25,7 @@ returns c =
 returns-2 : tie.Need-returns-2
 returns-2 c =
     let t = c .before .before .before in let s = t .before .before .before in
-    let two : s .args .n ≡ 2 = omega (arith, t .if1 .left) in
+    let two : s .args .bits ≡ 2 = omega (arith, t .if1 .left) in
     rw two (c .before .scaled-bilin-by2 .ensures ∙ part-row (s .args .src .now) _ _ _ _ _ (s .pre .2))
 
 pub scaled-bilin-row-spec : {M : Type 1} → statement M
@@ -36,5 +36,5 @@ scaled-bilin-row-spec =
     (λ c. omega arith) (λ c. omega arith) (λ c. omega arith)  -- &src[o..]
     (λ c κs. let s = c .before .before .before .before in (omega arith, held s, omega arith, omega arith))  -- scaled-bilin-by-requires
     (λ c κs. let s = c .before .before .before .before in (omega arith, held s, omega arith, omega arith))  -- scaled-bilin-by-requires-2
-    (λ c. search needs) returns  -- n is 0
-    (λ c. search needs) returns-2)  -- n is 2
+    (λ c. search needs) returns  -- B is 4
+    (λ c. search needs) returns-2)  -- B is 2

@@ -9,8 +9,8 @@ use Rattle.rows.specs.Bilinear.{R}
 use Rattle.rows.proofs.Laws.Numbers.Signed.{back, rd}
 use Rattle.rows.proofs.Laws.Numbers.Low.{low16-again}
 use Rattle.rows.proofs.Laws.Filters.Bilinear.{Widened, pixel-widened, between-is, half-small}
-use Rattle.rows.proofs.words.scaled.scaled_bilin_px.Statement.{statement}
-use Rattle.rows.proofs.words.scaled.scaled_bilin_px.Tie as tie
+use Rattle.rows.proofs.words.pairs.scaled_bilin_px.Statement.{statement}
+use Rattle.rows.proofs.words.pairs.scaled_bilin_px.Tie as tie
 
 pixel : (c : tie.After-shared-slice-known) (k : ℕ) → let x = getD (c .before .args .src .now) k 0 in Widened (toZ w32 x) (pos x)
 pixel c k = pixel-widened _ (omega (arith, c .shared-slice-known .given k))

@@ -1,19 +1,16 @@
--- Made from crates/rows/proofs/words/scaled/scaled_bilin_by/Proof.antt by tools/sets: change that.
 use native.Mathlib.Omega.{arith}
 use Prim.Native.Nat.{_-_}
 use lib.IntN.{pos}
-use lib.ListN.{length, getD}
-use Rattle.rows.specs.Numbers.{px, low16}
-use Rattle.rows.specs.Bilinear.{R}
-use Rattle.rows.specs.inner.Bilinear.{bilinAt}
+use lib.ListN.{length}
+use Rattle.rows.specs.inner.Scaled.{pairMid}
 use Rattle.rows.proofs.Laws.Blocks.Row.{Upto, upto-none, upto-all}
 use Rattle.rows.proofs.Laws.Filters.Loop.{upto-kept}
-use Rattle.rows.proofs.bytes.scaled.scaled_bilin_by.Statement.{statement}
-use Rattle.rows.proofs.bytes.scaled.scaled_bilin_by.Tie as tie
+use Rattle.rows.proofs.words.pairs.scaled_bilin_by.Statement.{statement}
+use Rattle.rows.proofs.words.pairs.scaled_bilin_by.Tie as tie
 
 abbrev Inv-loop : tie.InvT-loop
 Inv-loop mid₀ src pixels fractions r n w i₀ mid i =
-    Upto (pos 0) (λ x. low16 (R n (bilinAt (px src) (getD pixels x 0) 1 (getD fractions x 0)))) (length mid₀) i mid
+    Upto (pos 0) (pairMid src pixels fractions n) (length mid₀) i mid
 
 abbrev μ-loop : tie.MeasureT-loop
 μ-loop mid₀ src pixels fractions r n w i₀ mid i = w - i
@@ -31,7 +28,7 @@ pub scaled-bilin-by-spec : {M : Type 1} → statement M
 scaled-bilin-by-spec =
     tie.close
     (tie.spec Inv-loop μ-loop (λ c. upto-none _ _ _)  -- while i < w
-    (λ c. omega arith) (λ c. omega arith)  -- pixels[i]
+    (λ c. omega arith) (λ c. omega (arith, c .before .before .before .before .pre .1 .within (c .before .before .loop .i) (omega arith)))  -- pixels[i] as usize
     (λ c. omega arith)  -- fractions[i]
     scaled-bilin-px-requires
     (λ c. omega arith) (λ c. omega arith)  -- mid[i] =
