@@ -6,25 +6,10 @@ use mathlib.Core.Bool.{Bool, true, false}
 use mathlib.Core.List.{List, [], _∷_}
 use Rattle.rows.specs.Places.{lentFrom}
 use Rattle.rows.specs.Cut.{Rect, begins}
-use Rattle.blocks.specs.Order.{planeOf, putPicture, prepPicture, orderNumber, orderDst, orderTmp}
-use Rattle.blocks.specs.declared.frame.Frame.{Frame}
+use Rattle.blocks.specs.Order.{Setting, orderNumber, orderDst, orderTmp}
 use Rattle.blocks.specs.declared.order.Order.{Order}
 use Rattle.blocks.specs.declared.order.Kind.{Kind}
 use Rattle.blocks.specs.declared.order.Kind.the-variants.{Copy, Subpel, Bilinear, Warp}
-
--- what stays from call to call: "depth, tables, fraction and filter type stay the same", and so do frame and plane. deep is the outcome of the depth's
--- test, true for bytes; sl is the length of scratch, which a call keeps
-pub record Same : Type 0 where
-  pub deep : Bool
-  pub depth : ℕ
-  pub frame : Frame
-  pub planeNo : ℕ
-  pub plane : List ℕ
-  pub planeStride : ℕ
-  pub subpel : List ℤ
-  pub ext : List ℤ
-  pub warp : List ℤ
-  pub sl : ℕ
 
 -- "Take a copied, 8-tap or bilinear block"
 unfoldable pub unwarped : Kind → Bool
@@ -37,33 +22,26 @@ unwarped (Warp s) = false
 abbrev pub cutOrder : Order → Rect → Order
 cutOrder o r = record { x = o .x +ℤ pos (r .x); y = o .y +ℤ pos (r .y); w = r .w; h = r .h; kind = o .kind }
 
--- the number of an order's call whose dst or tmp has dl places
-abbrev pub callNumber : Same → Order → (dl stride : ℕ) → ℕ
-callNumber c o dl stride =
-    orderNumber (c .deep) true (c .frame) (c .planeNo) (c .plane) (c .planeStride) o (c .subpel) (c .ext) (c .warp) (c .sl) dl stride
+-- what stays from call to call is the setting s: "depth, tables, fraction and filter type stay the same", and so do frame and plane; fraction and filter
+-- type are in the order's kind. sl is the length of scratch, which a call keeps; dl is the length of dst or tmp
+
+-- the number of an order's call
+abbrev pub callNumber : Setting → Order → (sl dl stride : ℕ) → ℕ
+callNumber s o sl dl stride = orderNumber s true o sl dl stride
 
 -- what the call leaves in dst, and in tmp
-abbrev pub callDst : Same → Order → (stride : ℕ) → List ℕ → List ℕ
-callDst c o stride dst =
-    orderDst (callNumber c o (length dst) stride) (c .depth) (c .frame) (c .planeNo) (c .plane) (c .planeStride) o (c .subpel) (c .ext) (c .warp) stride dst
+abbrev pub callDst : Setting → Order → (sl stride : ℕ) → List ℕ → List ℕ
+callDst s o sl stride dst = orderDst (callNumber s o sl (length dst) stride) s o stride dst
 
-abbrev pub callTmp : Same → Order → (stride : ℕ) → List ℤ → List ℤ
-callTmp c o stride tmp =
-    orderTmp (callNumber c o (length tmp) stride) (c .depth) (c .frame) (c .planeNo) (c .plane) (c .planeStride) o (c .subpel) (c .ext) (c .warp) stride tmp
+abbrev pub callTmp : Setting → Order → (sl stride : ℕ) → List ℤ → List ℤ
+callTmp s o sl stride tmp = orderTmp (callNumber s o sl (length tmp) stride) s o stride tmp
 
 -- "Fetch and predict each by itself, in any order": one call after the other as the rectangles stand in the list. "Run as put, the rectangles share one
 -- destination and its stride": each call is lent dst from its rectangle's first pixel on
-unfoldable pub putRects : Same → Order → (stride : ℕ) → List Rect → List ℕ → List ℕ
-putRects c o stride [] dst = dst
-putRects c o stride (r ∷ rs) dst = putRects c o stride rs (lentFrom (begins stride r) (callDst c (cutOrder o r) stride) dst)
+unfoldable pub putRects : Setting → Order → (sl stride : ℕ) → List Rect → List ℕ → List ℕ
+putRects s o sl stride [] dst = dst
+putRects s o sl stride (r ∷ rs) dst = putRects s o sl stride rs (lentFrom (begins stride r) (callDst s (cutOrder o r) sl stride) dst)
 
 -- "If no call is refused": of the rectangle r, into a dst of dl places
-abbrev pub putNumber : Same → Order → (stride dl : ℕ) → Rect → ℕ
-putNumber c o stride dl r = callNumber c (cutOrder o r) (dl - begins stride r) stride
-
--- "the block predicted on that endless plane"
-abbrev pub endlessPut : Same → Order → (i j : ℕ) → ℕ
-endlessPut c o = putPicture (c .depth) (c .subpel) (c .ext) (c .warp) o (planeOf (c .frame) (c .planeNo) (c .plane) (c .planeStride))
-
-abbrev pub endlessPrep : Same → Order → (i j : ℕ) → ℤ
-endlessPrep c o = prepPicture (c .depth) (c .subpel) (c .ext) (c .warp) o (planeOf (c .frame) (c .planeNo) (c .plane) (c .planeStride))
+abbrev pub putNumber : Setting → Order → (sl stride dl : ℕ) → Rect → ℕ
+putNumber s o sl stride dl r = callNumber s (cutOrder o r) sl (dl - begins stride r) stride

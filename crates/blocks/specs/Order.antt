@@ -13,12 +13,12 @@ use Rattle.rows.specs.Copy.{put, prep}
 use Rattle.rows.specs.Bilinear.{putBilin, prepBilin}
 use Rattle.rows.specs.Warp.{allThere, warpPut, warpPrep}
 use Rattle.rows.specs.Edge.{endless, aroundAt}
-use Rattle.blocks.specs.Refuse.{Test, size, stride, number, table, read, written, _asks_, lowest, orSame, sizeOk, blockSide, strideOk, holds, holdsAll, wholeFilters}
+use Rattle.blocks.specs.Refuse.{Test, size, stride, number, table, read, written, _asks_, lowest, orSame, sizeOk, blockSide, strideOk, holds}
+use Rattle.blocks.specs.Refuse.{holdsAll, wholeFilters}
 use Rattle.blocks.specs.Edge.{placeOk}
 use Rattle.blocks.specs.Subpel.{typeOk, sixteenthOk, fractionOk, subpelOk, filterIn, put8Rule, prep8Rule}
 use Rattle.blocks.specs.Warp.{warpPlaceOk}
-use Rattle.blocks.specs.Window.{planeW, planeH, frameSizesOk, frameNamesOk, before, windowSide, scratchOf}
-use Rattle.blocks.specs.declared.frame.Frame.{Frame}
+use Rattle.blocks.specs.Window.{frameSizesOk, frameNamesOk, LentPlane, lentW, lentH, before, windowSide, Asked, scratchOf}
 use Rattle.blocks.specs.declared.order.Order.{Order}
 use Rattle.blocks.specs.declared.order.Kind.{Kind}
 use Rattle.blocks.specs.declared.order.Kind.the-variants.{Copy, Subpel, Bilinear, Warp}
@@ -59,39 +59,57 @@ filtersOk (Subpel m) el wl = filterIn (m .«filter_type») (m .mx) el && filterI
 filtersOk (Bilinear m) el wl = true
 filtersOk (Warp s) el wl = allThere (wl / 8) (s .mx) (s .my) (s .a) (s .b) (s .c) (s .d)
 
--- deep is the outcome of the depth's test, true for bytes; named says that the kind's number was one of the four. tl, el and wl are the lengths of
--- subpel, ext and warp, pl of the plane, sl of scratch, dl of dst (or tmp)
-abbrev pub orderTests : (deep named : Bool) (f : Frame) (planeNo pl planeStride : ℕ) (o : Order) (tl el wl sl dl dstStride : ℕ) → List Test
-orderTests deep named f planeNo pl planeStride o tl el wl sl dl dstStride =
-    size asks frameSizesOk f planeNo
+-- the three tables of filters
+pub record Tables : Type 0 where
+  pub subpel : List ℤ
+  pub ext : List ℤ
+  pub warp : List ℤ
+
+-- what an order is run in: a depth, a lent plane and tables. deep is the outcome of the depth's test, true for bytes
+pub record Setting : Type 0 where
+  pub deep : Bool
+  pub depth : ℕ
+  pub lent : LentPlane
+  pub tables : Tables
+
+-- "through a window in the default mode", which is 0
+abbrev pub askedBy : Order → Asked
+askedBy o = record { kind = kindNumber (o .kind); w = o .w; h = o .h; x = o .x; y = o .y; mode = 0 }
+
+-- named says that the kind's number was one of the four. sl is the length of scratch, dl of dst (or tmp)
+abbrev pub orderTests : Setting → (named : Bool) (o : Order) (sl dl dstStride : ℕ) → List Test
+orderTests s named o sl dl dstStride =
+    size asks frameSizesOk (s .lent .frame) (s .lent .planeNo)
     ∷ size asks sizeOk blockSide (o .w)
     ∷ size asks sizeOk blockSide (o .h)
     ∷ size asks kindSizeOk (o .kind) (o .w) (o .h)
-    ∷ stride asks strideOk (planeW f planeNo) planeStride
+    ∷ stride asks strideOk (lentW (s .lent)) (s .lent .stride)
     ∷ stride asks strideOk (o .w) dstStride
-    ∷ number asks deep
-    ∷ number asks frameNamesOk f planeNo
+    ∷ number asks s .deep
+    ∷ number asks frameNamesOk (s .lent .frame) (s .lent .planeNo)
     ∷ number asks named
     ∷ number asks placeOk (o .x)
     ∷ number asks placeOk (o .y)
     ∷ number asks motionOk (o .kind)
-    ∷ table asks subpelOk tl
-    ∷ table asks wholeFilters el
-    ∷ table asks wholeFilters wl
-    ∷ table asks filtersOk (o .kind) el wl
-    ∷ read asks holds pl planeStride (planeW f planeNo) (planeH f planeNo)
+    ∷ table asks subpelOk (length (s .tables .subpel))
+    ∷ table asks wholeFilters (length (s .tables .ext))
+    ∷ table asks wholeFilters (length (s .tables .warp))
+    ∷ table asks filtersOk (o .kind) (length (s .tables .ext)) (length (s .tables .warp))
+    ∷ read asks holds (length (s .lent .plane)) (s .lent .stride) (lentW (s .lent)) (lentH (s .lent))
     ∷ written asks holdsAll sl (windowSide (kindNumber (o .kind)) (o .w)) (windowSide (kindNumber (o .kind)) (o .h))
     ∷ written asks holds dl dstStride (o .w) (o .h)
     ∷ []
 
--- "through a window in the default mode", which is 0: what scratch holds then
-unfoldable pub orderScratch : (r : ℕ) (f : Frame) (planeNo : ℕ) (plane : List ℕ) (planeStride : ℕ) (o : Order) → List ℕ → List ℕ
-orderScratch r f planeNo plane planeStride o scratch =
-    scratchOf r f planeNo plane planeStride (kindNumber (o .kind)) (o .w) (o .h) (o .x) (o .y) 0 scratch
+abbrev pub orderNumber : Setting → (named : Bool) (o : Order) (sl dl dstStride : ℕ) → ℕ
+orderNumber s named o sl dl dstStride = lowest (orderTests s named o sl dl dstStride)
+
+-- what scratch holds where the number is r
+unfoldable pub orderScratch : (r : ℕ) → LentPlane → Order → List ℕ → List ℕ
+orderScratch r p o scratch = scratchOf r p (askedBy o) scratch
 
 -- the plane that the order reads: the frame's named plane, for ever
-abbrev pub planeOf : (f : Frame) (planeNo : ℕ) (plane : List ℕ) (planeStride : ℕ) → ℤ → ℤ → ℕ
-planeOf f planeNo plane planeStride = endless plane planeStride (planeW f planeNo) (planeH f planeNo)
+abbrev pub planeOf : LentPlane → ℤ → ℤ → ℕ
+planeOf p = endless (p .plane) (p .stride) (lentW p) (lentH p)
 
 -- "An order is run as put": the pixel at column i of row j of a block of w x h, from the pixels q around it, of which column 0 and row 0 stand at the
 -- window's margin before it
@@ -113,37 +131,37 @@ abbrev pub aroundIn : Order → (ℤ → ℤ → ℕ) → (i j : ℕ) → ℕ �
 aroundIn o g i j = aroundAt (before (kindNumber (o .kind))) g (o .x) (o .y) i j
 
 -- the order's block on the plane g, run as put and as prep at the depth
-unfoldable pub putPicture : (depth : ℕ) (subpel ext warp : List ℤ) → Order → (ℤ → ℤ → ℕ) → (i j : ℕ) → ℕ
-putPicture depth subpel ext warp o g i j =
-    putRule (maxOf depth) (bitsOf depth) subpel ext warp (o .kind) (o .w) (o .h) i j (aroundIn o g i j)
+unfoldable pub putPicture : (depth : ℕ) → Tables → Order → (ℤ → ℤ → ℕ) → (i j : ℕ) → ℕ
+putPicture depth t o g i j = putRule (maxOf depth) (bitsOf depth) (t .subpel) (t .ext) (t .warp) (o .kind) (o .w) (o .h) i j (aroundIn o g i j)
 
-unfoldable pub prepPicture : (depth : ℕ) (subpel ext warp : List ℤ) → Order → (ℤ → ℤ → ℕ) → (i j : ℕ) → ℤ
-prepPicture depth subpel ext warp o g i j =
-    prepRule (bitsOf depth) (biasOf depth) subpel ext warp (o .kind) (o .w) (o .h) i j (aroundIn o g i j)
+unfoldable pub prepPicture : (depth : ℕ) → Tables → Order → (ℤ → ℤ → ℕ) → (i j : ℕ) → ℤ
+prepPicture depth t o g i j = prepRule (bitsOf depth) (biasOf depth) (t .subpel) (t .ext) (t .warp) (o .kind) (o .w) (o .h) i j (aroundIn o g i j)
 
--- ---- what a call answers, at the depth: the number r, and scratch and dst (or tmp) at the end
+-- "the block predicted on that endless plane"
+abbrev pub endlessPut : Setting → Order → (i j : ℕ) → ℕ
+endlessPut s o = putPicture (s .depth) (s .tables) o (planeOf (s .lent))
+
+abbrev pub endlessPrep : Setting → Order → (i j : ℕ) → ℤ
+endlessPrep s o = prepPicture (s .depth) (s .tables) o (planeOf (s .lent))
+
+-- ---- what a call answers: the number r, and scratch and dst (or tmp) at the end
 
 -- "into a lent buffer that begins at the block's first pixel": dst where the number is r
-unfoldable pub orderDst : (r depth : ℕ) (f : Frame) (planeNo : ℕ) (plane : List ℕ) (planeStride : ℕ) (o : Order) (subpel ext warp : List ℤ) (dstStride : ℕ) → List ℕ → List ℕ
-orderDst r depth f planeNo plane planeStride o subpel ext warp dstStride dst =
-    orSame r (fill dst dstStride (o .w) (o .h) (putPicture depth subpel ext warp o (planeOf f planeNo plane planeStride))) dst
+unfoldable pub orderDst : (r : ℕ) → Setting → Order → (dstStride : ℕ) → List ℕ → List ℕ
+orderDst r s o dstStride dst = orSame r (fill dst dstStride (o .w) (o .h) (endlessPut s o)) dst
 
-unfoldable pub orderTmp : (r depth : ℕ) (f : Frame) (planeNo : ℕ) (plane : List ℕ) (planeStride : ℕ) (o : Order) (subpel ext warp : List ℤ) (tmpStride : ℕ) → List ℤ → List ℤ
-orderTmp r depth f planeNo plane planeStride o subpel ext warp tmpStride tmp =
-    orSame r (fill tmp tmpStride (o .w) (o .h) (prepPicture depth subpel ext warp o (planeOf f planeNo plane planeStride))) tmp
+unfoldable pub orderTmp : (r : ℕ) → Setting → Order → (tmpStride : ℕ) → List ℤ → List ℤ
+orderTmp r s o tmpStride tmp = orSame r (fill tmp tmpStride (o .w) (o .h) (endlessPrep s o)) tmp
 
-abbrev pub orderNumber : (deep named : Bool) (f : Frame) (planeNo : ℕ) (plane : List ℕ) (planeStride : ℕ) (o : Order) (subpel ext warp : List ℤ) (sl dl dstStride : ℕ) → ℕ
-orderNumber deep named f planeNo plane planeStride o subpel ext warp sl dl dstStride =
-    lowest (orderTests deep named f planeNo (length plane) planeStride o (length subpel) (length ext) (length warp) sl dl dstStride)
+abbrev pub OrderPutAnswer : Setting → (named : Bool) (o : Order) (scratch dst : List ℕ) (dstStride : ℕ) → (r : ℕ) (scratch′ dst′ : List ℕ) → Type 0
+OrderPutAnswer s named o scratch dst dstStride r scratch′ dst′ =
+    (r ≡ orderNumber s named o (length scratch) (length dst) dstStride)
+    × (scratch′ ≡ orderScratch r (s .lent) o scratch)
+    × (dst′ ≡ orderDst r s o dstStride dst)
 
-abbrev pub OrderPutAnswer : (deep named : Bool) (depth : ℕ) (f : Frame) (planeNo : ℕ) (plane : List ℕ) (planeStride : ℕ) (o : Order) (subpel ext warp : List ℤ) (scratch dst : List ℕ) (dstStride : ℕ) → (r : ℕ) (scratch′ dst′ : List ℕ) → Type 0
-OrderPutAnswer deep named depth f planeNo plane planeStride o subpel ext warp scratch dst dstStride r scratch′ dst′ =
-    (r ≡ orderNumber deep named f planeNo plane planeStride o subpel ext warp (length scratch) (length dst) dstStride)
-    × (scratch′ ≡ orderScratch r f planeNo plane planeStride o scratch)
-    × (dst′ ≡ orderDst r depth f planeNo plane planeStride o subpel ext warp dstStride dst)
-
-abbrev pub OrderPrepAnswer : (deep named : Bool) (depth : ℕ) (f : Frame) (planeNo : ℕ) (plane : List ℕ) (planeStride : ℕ) (o : Order) (subpel ext warp : List ℤ) (scratch : List ℕ) (tmp : List ℤ) (tmpStride : ℕ) → (r : ℕ) (scratch′ : List ℕ) (tmp′ : List ℤ) → Type 0
-OrderPrepAnswer deep named depth f planeNo plane planeStride o subpel ext warp scratch tmp tmpStride r scratch′ tmp′ =
-    (r ≡ orderNumber deep named f planeNo plane planeStride o subpel ext warp (length scratch) (length tmp) tmpStride)
-    × (scratch′ ≡ orderScratch r f planeNo plane planeStride o scratch)
-    × (tmp′ ≡ orderTmp r depth f planeNo plane planeStride o subpel ext warp tmpStride tmp)
+abbrev pub OrderPrepAnswer : Setting → (named : Bool) (o : Order) (scratch : List ℕ) (tmp : List ℤ) (tmpStride : ℕ)
+    → (r : ℕ) (scratch′ : List ℕ) (tmp′ : List ℤ) → Type 0
+OrderPrepAnswer s named o scratch tmp tmpStride r scratch′ tmp′ =
+    (r ≡ orderNumber s named o (length scratch) (length tmp) tmpStride)
+    × (scratch′ ≡ orderScratch r (s .lent) o scratch)
+    × (tmp′ ≡ orderTmp r s o tmpStride tmp)

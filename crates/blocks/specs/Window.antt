@@ -13,6 +13,7 @@ use Rattle.rows.specs.Edge.{edge}
 use Rattle.blocks.specs.Refuse.{Test, size, stride, number, read, written, _asks_, lowest, orSame, sizeOk, blockSide, strideOk, partLen, holds, holdsAll}
 use Rattle.blocks.specs.Edge.{placeOk}
 use Rattle.blocks.specs.WMask.{flagsOk}
+use Rattle.blocks.specs.declared.frame.Area.{Area}
 use Rattle.blocks.specs.declared.frame.Frame.{Frame}
 use Rattle.blocks.specs.declared.window.Part.{Part}
 
@@ -38,6 +39,20 @@ frameSizesOk f planeNo = (sizeOk 16384 (f .«luma_w») && sizeOk 16384 (f .«lum
 unfoldable pub frameNamesOk : Frame → ℕ → Bool
 frameNamesOk f planeNo = flagsOk (f .«ss_hor») (f .«ss_ver») && leb planeNo 1
 
+-- ---- a plane that a call is lent: its frame, which of the frame's planes it is, its pixels, and how far apart its rows stand
+pub record LentPlane : Type 0 where
+  pub frame : Frame
+  pub planeNo : ℕ
+  pub plane : List ℕ
+  pub stride : ℕ
+
+-- its sides
+abbrev pub lentW : LentPlane → ℕ
+lentW p = planeW (p .frame) (p .planeNo)
+
+abbrev pub lentH : LentPlane → ℕ
+lentH p = planeH (p .frame) (p .planeNo)
+
 -- ---- the window of a block; kind is 0 copy, 1 8-tap, 2 bilinear, 3 warp
 
 -- "margins 3 before and 4 after on both axes (8-tap, warp), 0 and 1 (bilinear) or none (copy)"
@@ -58,64 +73,82 @@ windowSide kind side = before kind + side + after kind
 abbrev pub windowStart : (kind : ℕ) → ℤ → ℤ
 windowStart kind x = x -ℤ pos (before kind)
 
-abbrev pub windowTests : (f : Frame) (planeNo pl planeStride kind w h : ℕ) (x y : ℤ) (mode sl : ℕ) → List Test
-windowTests f planeNo pl planeStride kind w h x y mode sl =
-    size asks frameSizesOk f planeNo
-    ∷ size asks sizeOk blockSide w
-    ∷ size asks sizeOk blockSide h
-    ∷ stride asks strideOk (planeW f planeNo) planeStride
-    ∷ number asks frameNamesOk f planeNo
-    ∷ number asks leb kind 3
-    ∷ number asks placeOk x
-    ∷ number asks placeOk y
-    ∷ number asks leb mode 1
-    ∷ read asks holds pl planeStride (planeW f planeNo) (planeH f planeNo)
-    ∷ written asks holdsAll sl (windowSide kind w) (windowSide kind h)
+-- the window that a call asks for: of a block of w columns and h rows at x and y
+pub record Asked : Type 0 where
+  pub kind : ℕ
+  pub w : ℕ
+  pub h : ℕ
+  pub x : ℤ
+  pub y : ℤ
+  pub mode : ℕ
+
+abbrev pub windowTests : LentPlane → Asked → (sl : ℕ) → List Test
+windowTests p q sl =
+    size asks frameSizesOk (p .frame) (p .planeNo)
+    ∷ size asks sizeOk blockSide (q .w)
+    ∷ size asks sizeOk blockSide (q .h)
+    ∷ stride asks strideOk (lentW p) (p .stride)
+    ∷ number asks frameNamesOk (p .frame) (p .planeNo)
+    ∷ number asks leb (q .kind) 3
+    ∷ number asks placeOk (q .x)
+    ∷ number asks placeOk (q .y)
+    ∷ number asks leb (q .mode) 1
+    ∷ read asks holds (length (p .plane)) (p .stride) (lentW p) (lentH p)
+    ∷ written asks holdsAll sl (windowSide (q .kind) (q .w)) (windowSide (q .kind) (q .h))
     ∷ []
+
+-- its area on the endless plane
+abbrev pub areaOf : LentPlane → Asked → Area
+areaOf p q =
+    record {
+      ww = windowSide (q .kind) (q .w);
+      wh = windowSide (q .kind) (q .h);
+      iw = lentW p;
+      ih = lentH p;
+      left = windowStart (q .kind) (q .x);
+      top = windowStart (q .kind) (q .y);
+    }
 
 -- n columns from x on lie inside a side
 unfoldable pub inside : ℤ → (n side : ℕ) → Bool
 inside x n side = leZ (pos 0) x && leZ (x +ℤ pos n) (pos side)
 
--- "Mode 0 is the default: if the whole window is inside the plane, the answer is a part of the lent plane"; "Mode 1 always uses scratch": of a window of
--- ww columns and wh rows from x and y on, in a plane of iw columns and ih rows
-unfoldable pub isPlanes : (mode ww wh iw ih : ℕ) (x y : ℤ) → Bool
-isPlanes mode ww wh iw ih x y = eqb mode 0 && (inside x ww iw && inside y wh ih)
+-- "Mode 0 is the default: if the whole window is inside the plane, the answer is a part of the lent plane"; "Mode 1 always uses scratch"
+unfoldable pub isPlanes : (mode : ℕ) → Area → Bool
+isPlanes mode a = eqb mode 0 && (inside (a .left) (a .ww) (a .iw) && inside (a .top) (a .wh) (a .ih))
 
--- the same of a block's window
-abbrev pub ownPlane : (f : Frame) (planeNo kind w h : ℕ) (x y : ℤ) (mode : ℕ) → Bool
-ownPlane f planeNo kind w h x y mode =
-    isPlanes mode (windowSide kind w) (windowSide kind h) (planeW f planeNo) (planeH f planeNo) (windowStart kind x) (windowStart kind y)
+abbrev pub ownPlane : LentPlane → Asked → Bool
+ownPlane p q = isPlanes (q .mode) (areaOf p q)
 
 -- "One call answers number, buffer (1 plane, 2 scratch), place and stride"; "Scratch has the window's width as stride"; "The part begins at the window's
 -- first pixel and ends after its last"
-unfoldable pub windowAt : (planes : Bool) (planeStride ww wh : ℕ) (x y : ℤ) → Part
-windowAt true planeStride ww wh x y =
-    record { number = 0; buffer = 1; place = up y * planeStride + up x; stride = planeStride; len = partLen planeStride ww wh }
-windowAt false planeStride ww wh x y = record { number = 0; buffer = 2; place = 0; stride = ww; len = partLen ww ww wh }
+unfoldable pub windowAt : (planes : Bool) (planeStride : ℕ) → Area → Part
+windowAt true planeStride a =
+    record {
+      number = 0;
+      buffer = 1;
+      place = up (a .top) * planeStride + up (a .left);
+      stride = planeStride;
+      len = partLen planeStride (a .ww) (a .wh);
+    }
+windowAt false planeStride a = record { number = 0; buffer = 2; place = 0; stride = a .ww; len = partLen (a .ww) (a .ww) (a .wh) }
 
 -- refused: the number and zeros
 abbrev pub noPart : ℕ → Part
 noPart verdict = record { number = verdict; buffer = 0; place = 0; stride = 0; len = 0 }
 
-unfoldable pub windowOf : (f : Frame) (planeNo pl planeStride kind w h : ℕ) (x y : ℤ) (mode sl : ℕ) → Part
-windowOf f planeNo pl planeStride kind w h x y mode sl =
-    let verdict = lowest (windowTests f planeNo pl planeStride kind w h x y mode sl) in
-    orSame verdict
-    (windowAt (ownPlane f planeNo kind w h x y mode) planeStride (windowSide kind w) (windowSide kind h) (windowStart kind x) (windowStart kind y))
-    (noPart verdict)
+unfoldable pub windowOf : LentPlane → Asked → (sl : ℕ) → Part
+windowOf p q sl =
+    let verdict = lowest (windowTests p q sl) in
+    orSame verdict (windowAt (ownPlane p q) (p .stride) (areaOf p q)) (noPart verdict)
 
 -- "else scratch is filled by emu_edge"; "only the window's places change"
-unfoldable pub fetched : (planes : Bool) (plane : List ℕ) (planeStride ww wh iw ih : ℕ) (x y : ℤ) → List ℕ → List ℕ
-fetched true plane planeStride ww wh iw ih x y scratch = scratch
-fetched false plane planeStride ww wh iw ih x y scratch = fill scratch ww ww wh (edge plane planeStride iw ih x y)
+unfoldable pub fetched : (planes : Bool) (plane : List ℕ) (planeStride : ℕ) → Area → List ℕ → List ℕ
+fetched true plane planeStride a scratch = scratch
+fetched false plane planeStride a scratch = fill scratch (a .ww) (a .ww) (a .wh) (edge plane planeStride (a .iw) (a .ih) (a .left) (a .top))
 
-unfoldable pub scratchOf : (verdict : ℕ) (f : Frame) (planeNo : ℕ) (plane : List ℕ) (planeStride kind w h : ℕ) (x y : ℤ) (mode : ℕ) → List ℕ → List ℕ
-scratchOf verdict f planeNo plane planeStride kind w h x y mode scratch =
-    orSame verdict
-    (fetched (ownPlane f planeNo kind w h x y mode) plane planeStride (windowSide kind w) (windowSide kind h) (planeW f planeNo) (planeH f planeNo)
-    (windowStart kind x) (windowStart kind y) scratch)
-    scratch
+unfoldable pub scratchOf : (verdict : ℕ) → LentPlane → Asked → List ℕ → List ℕ
+scratchOf verdict p q scratch = orSame verdict (fetched (ownPlane p q) (p .plane) (p .stride) (areaOf p q) scratch) scratch
 
 -- "a second on the same arguments gives the part, empty where refused"
 unfoldable pub partOf : Part → (plane scratch : List ℕ) → List ℕ
@@ -128,20 +161,20 @@ abbrev pub aroundPart : (kind : ℕ) → List ℕ → (s i j : ℕ) → ℕ → 
 aroundPart kind part s i j = around (before kind) part (before kind * s + before kind) s i j
 
 -- ---- "A helper hands back one row of a plane as a part of it; a row outside 0 to height - 1 is number 3"
-abbrev pub rowTests : (f : Frame) (planeNo pl planeStride : ℕ) (row : ℤ) → List Test
-rowTests f planeNo pl planeStride row =
-    size asks frameSizesOk f planeNo
-    ∷ stride asks strideOk (planeW f planeNo) planeStride
-    ∷ number asks frameNamesOk f planeNo
-    ∷ number asks (leZ (pos 0) row && ltZ row (pos (planeH f planeNo)))
-    ∷ read asks holds pl planeStride (planeW f planeNo) (planeH f planeNo)
+abbrev pub rowTests : LentPlane → (row : ℤ) → List Test
+rowTests p row =
+    size asks frameSizesOk (p .frame) (p .planeNo)
+    ∷ stride asks strideOk (lentW p) (p .stride)
+    ∷ number asks frameNamesOk (p .frame) (p .planeNo)
+    ∷ number asks (leZ (pos 0) row && ltZ row (pos (lentH p)))
+    ∷ read asks holds (length (p .plane)) (p .stride) (lentW p) (lentH p)
     ∷ []
 
-unfoldable pub rowAt : (f : Frame) (planeNo pl planeStride : ℕ) (row : ℤ) → Part
-rowAt f planeNo pl planeStride row =
-    let verdict = lowest (rowTests f planeNo pl planeStride row) in
+unfoldable pub rowAt : LentPlane → (row : ℤ) → Part
+rowAt p row =
+    let verdict = lowest (rowTests p row) in
     orSame verdict
-    (record { number = 0; buffer = 1; place = up row * planeStride; stride = planeStride; len = planeW f planeNo })
+    (record { number = 0; buffer = 1; place = up row * p .stride; stride = p .stride; len = lentW p })
     (noPart verdict)
 
 -- ---- what the C functions answer: the number r, and a part's other numbers
@@ -149,7 +182,6 @@ abbrev pub PartAnswer : Part → (r buffer place apart len : ℕ) → Type 0
 PartAnswer p r buffer place apart len = (r ≡ p .number) × (buffer ≡ p .buffer) × (place ≡ p .place) × (apart ≡ p .stride) × (len ≡ p .len)
 
 -- and scratch at the end
-abbrev pub WindowAnswer : (f : Frame) (planeNo : ℕ) (plane : List ℕ) (planeStride kind w h : ℕ) (x y : ℤ) (mode : ℕ) (scratch : List ℕ) → (r buffer place apart len : ℕ) (scratch′ : List ℕ) → Type 0
-WindowAnswer f planeNo plane planeStride kind w h x y mode scratch r buffer place apart len scratch′ =
-    PartAnswer (windowOf f planeNo (length plane) planeStride kind w h x y mode (length scratch)) r buffer place apart len
-    × (scratch′ ≡ scratchOf r f planeNo plane planeStride kind w h x y mode scratch)
+abbrev pub WindowAnswer : LentPlane → Asked → (scratch : List ℕ) → (r buffer place apart len : ℕ) (scratch′ : List ℕ) → Type 0
+WindowAnswer p q scratch r buffer place apart len scratch′ =
+    PartAnswer (windowOf p q (length scratch)) r buffer place apart len × (scratch′ ≡ scratchOf r p q scratch)

@@ -1,10 +1,11 @@
 // Frames: the sides of their planes, and the area of a plane that a block with its margins takes.
 ghost use mathlib.Core.Path.{_≡_};
-ghost use Prim.Native.Nat.{_^_, _≤_};
+ghost use mathlib.Core.List.{List};
+ghost use Prim.Native.Nat.{ℕ, _^_, _≤_};
 ghost use lib.IntN.{natAbs};
 ghost use Rattle.blocks.specs.WMask.{flagsOk};
-ghost use Rattle.blocks.specs.Window.{planeSide, planeW, planeH, frameSizesOk, frameNamesOk, before, after, windowSide, windowStart};
-ghost use Rattle.blocks.specs.inner.Window.{areaOf};
+ghost use Rattle.blocks.specs.Window.{planeSide, planeW, planeH, frameSizesOk, frameNamesOk, before, after, windowSide, windowStart, areaOf};
+ghost use Rattle.blocks.specs.inner.Window.{lentOf, asked};
 use crate::refuse::size_ok;
 
 // Luma's sides and the subsampling flags.
@@ -113,7 +114,7 @@ fn window_start(kind: u32, x: i64) -> i64
 // The window of a block.
 pub fn area_of(lent: Reference, kind: u32, w: usize, h: usize, x: i64, y: i64) -> Area
     requires { ⌜ (w ≤ 64) × (h ≤ 64) × (natAbs x ≤ 2 ^ 30) × (natAbs y ≤ 2 ^ 30) ⌝ }
-    ensures { λ r. ⌜ r ≡ areaOf (lent .frame) (lent .«plane_no») kind w h x y ⌝ }
+    ensures { λ r. ⌜ ((plane : List ℕ) (mode : ℕ) → r ≡ areaOf (lentOf lent plane) (asked kind w h x y mode)) ⌝ }
 {
     let f = lent.frame;
     let ww = window_side(kind, w);

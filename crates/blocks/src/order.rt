@@ -1,11 +1,15 @@
 // Prediction orders: what one is, and its number.
 ghost use mathlib.Core.Path.{_≡_};
 ghost use mathlib.Core.Bool.{true};
-ghost use Rattle.blocks.specs.Refuse.{need, lowest, sizeOk, blockSide, strideOk, wholeFilters};
+ghost use mathlib.Core.List.{List};
+ghost use Prim.Native.Nat.{ℕ};
+ghost use lib.ListN.{length};
+ghost use Rattle.blocks.specs.Refuse.{need, sizeOk, blockSide, strideOk, wholeFilters};
 ghost use Rattle.blocks.specs.Edge.{placeOk};
 ghost use Rattle.blocks.specs.Subpel.{subpelOk};
 ghost use Rattle.blocks.specs.Window.{planeW, frameSizesOk, frameNamesOk};
-ghost use Rattle.blocks.specs.Order.{kindNumber, kindOf, kindSizeOk, motionOk, filtersOk, orderTests};
+ghost use Rattle.blocks.specs.Order.{kindNumber, kindOf, kindSizeOk, motionOk, filtersOk, Tables, orderNumber};
+ghost use Rattle.blocks.specs.inner.Order.{settingOf, lengthsOf};
 use crate::bilinear::sixteenth_ok;
 use crate::edge::places;
 use crate::filters::SubpelMotion;
@@ -196,8 +200,8 @@ pub fn check_order(
     dl: usize,
     dst_stride: usize,
 ) -> u32
-    ensures { λ r. ⌜ r ≡ lowest (orderTests deep named (lent .frame) (lent .«plane_no») pl (lent .stride) o (t .subpel) (t .ext)
-        (t .warp) sl dl «dst_stride») ⌝ }
+    ensures { λ r. ⌜ ((depth : ℕ) (plane : List ℕ) (tables : Tables) → length plane ≡ pl → lengthsOf tables ≡ t
+        → r ≡ orderNumber (settingOf deep depth lent plane tables) named o sl dl «dst_stride») ⌝ }
 {
     let k = o.kind;
     let shape = order_shape(lent, k, o.w, o.h, dst_stride);

@@ -1,10 +1,14 @@
 // The row helper: where a row of a plane lies, for both sets of pixels.
 ghost use mathlib.Core.Path.{_≡_};
+ghost use mathlib.Core.List.{List};
+ghost use Prim.Native.Nat.{ℕ};
 ghost use lib.IntN.{pos};
+ghost use lib.ListN.{length};
 ghost use lib.Signed.{leZ, ltZ};
 ghost use mathlib.Core.Bool.{_&&_};
 ghost use Rattle.blocks.specs.Refuse.{lowest};
 ghost use Rattle.blocks.specs.Window.{rowTests, rowAt};
+ghost use Rattle.blocks.specs.inner.Window.{lentOf};
 use crate::frame::Reference;
 use crate::frame::frame_names_ok;
 use crate::frame::frame_sizes_ok;
@@ -26,7 +30,7 @@ fn row_ok(row: i64, h: usize) -> bool
 
 // The tests of a row's call.
 fn check_row(lent: Reference, pl: usize, row: i64) -> u32
-    ensures { λ r. ⌜ r ≡ lowest (rowTests (lent .frame) (lent .«plane_no») pl (lent .stride) row) ⌝ }
+    ensures { λ r. ⌜ ((plane : List ℕ) → length plane ≡ pl → r ≡ lowest (rowTests (lentOf lent plane) row)) ⌝ }
 {
     let f = lent.frame;
     let iw = plane_w(f, lent.plane_no);
@@ -46,7 +50,7 @@ fn check_row(lent: Reference, pl: usize, row: i64) -> u32
 
 // Where a row of a plane lies.
 pub fn row_at(lent: Reference, pl: usize, row: i64) -> Part
-    ensures { λ r. ⌜ r ≡ rowAt (lent .frame) (lent .«plane_no») pl (lent .stride) row ⌝ }
+    ensures { λ r. ⌜ ((plane : List ℕ) → length plane ≡ pl → r ≡ rowAt (lentOf lent plane) row) ⌝ }
 {
     let number = check_row(lent, pl, row);
     if number != 0 {

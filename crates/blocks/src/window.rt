@@ -1,13 +1,15 @@
 // Windows: their tests, and where a block's pixels with its margins lie, in the plane or in scratch, for both sets of pixels.
 ghost use mathlib.Core.Path.{_≡_};
-ghost use Prim.Native.Nat.{_+_, _^_, _≤_};
+ghost use mathlib.Core.List.{List};
+ghost use Prim.Native.Nat.{ℕ, _+_, _^_, _≤_};
 ghost use lib.Dec.{leb};
 ghost use lib.IntN.{natAbs};
+ghost use lib.ListN.{length};
 ghost use Rattle.blocks.specs.Refuse.{need, lowest, sizeOk, blockSide, strideOk, partLen, holds, holdsAll};
 ghost use Rattle.blocks.specs.Edge.{placeOk};
 ghost use Rattle.blocks.specs.inner.Ready.{Ranged};
 ghost use Rattle.blocks.specs.Window.{planeW, planeH, frameSizesOk, frameNamesOk, windowSide, windowTests, inside, isPlanes, noPart, windowOf};
-ghost use Rattle.blocks.specs.inner.Window.{areaAt};
+ghost use Rattle.blocks.specs.inner.Window.{lentOf, asked, areaAt};
 use crate::edge::places;
 use crate::frame::Area;
 use crate::frame::Reference;
@@ -92,7 +94,7 @@ pub fn check_window(
     mode: u32,
     sl: usize,
 ) -> u32
-    ensures { λ r. ⌜ r ≡ lowest (windowTests (lent .frame) (lent .«plane_no») pl (lent .stride) kind w h x y mode sl) ⌝ }
+    ensures { λ r. ⌜ ((plane : List ℕ) → length plane ≡ pl → r ≡ lowest (windowTests (lentOf lent plane) (asked kind w h x y mode) sl)) ⌝ }
 {
     let number = window_sizes(lent, w, h);
     if number != 0 {
@@ -113,7 +115,7 @@ fn inside(x: i64, n: usize, side: usize) -> bool
 // An area is the plane's own.
 fn is_planes(a: Area, mode: u32) -> bool
     requires { ⌜ Ranged a ⌝ }
-    ensures { λ r. ⌜ r ≡ isPlanes mode (a .ww) (a .wh) (a .iw) (a .ih) (a .left) (a .top) ⌝ }
+    ensures { λ r. ⌜ r ≡ isPlanes mode a ⌝ }
 {
     (mode == 0) & (inside(a.left, a.ww, a.iw) & inside(a.top, a.wh, a.ih))
 }
@@ -177,7 +179,7 @@ pub fn find_window(
     mode: u32,
     sl: usize,
 ) -> Part
-    ensures { λ r. ⌜ r ≡ windowOf (lent .frame) (lent .«plane_no») pl (lent .stride) kind w h x y mode sl ⌝ }
+    ensures { λ r. ⌜ ((plane : List ℕ) → length plane ≡ pl → r ≡ windowOf (lentOf lent plane) (asked kind w h x y mode) sl) ⌝ }
 {
     let number = check_window(lent, pl, kind, w, h, x, y, mode, sl);
     if number != 0 {

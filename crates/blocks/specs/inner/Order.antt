@@ -1,14 +1,25 @@
 -- Prediction orders, as the code goes. Only inner contracts name this: nobody need believe it. Assumes nothing.
 use Prim.Native.Nat.{ℕ}
+use mathlib.Core.Bool.{Bool}
+use mathlib.Core.List.{List}
+use lib.ListN.{length}
 use Rattle.blocks.specs.Refuse.{orSame}
-use Rattle.blocks.specs.Window.{noPart}
-use Rattle.blocks.specs.inner.Window.{areaOf, areaAt}
-use Rattle.blocks.specs.declared.frame.Frame.{Frame}
+use Rattle.blocks.specs.Window.{LentPlane, areaOf, noPart}
+use Rattle.blocks.specs.inner.Window.{lentOf, areaAt}
+use Rattle.blocks.specs.Order.{Tables, Setting, askedBy}
+use Rattle.blocks.specs.declared.frame.Reference.{Reference}
 use Rattle.blocks.specs.declared.window.Part.{Part}
 use Rattle.blocks.specs.declared.order.Order.{Order}
-use Rattle.blocks.specs.Order.{kindNumber}
+use Rattle.blocks.specs.declared.order.TableLengths.{TableLengths}
+
+-- a setting as functions are handed it. One that is handed only lengths of tables speaks of all tables of these lengths, and one that isn't handed the
+-- depth, but the outcome of its test, of every depth
+abbrev pub settingOf : (deep : Bool) (depth : ℕ) → Reference → (plane : List ℕ) → Tables → Setting
+settingOf deep depth lent plane t = record { deep = deep; depth = depth; lent = lentOf lent plane; tables = t }
+
+abbrev pub lengthsOf : Tables → TableLengths
+lengthsOf t = record { subpel = length (t .subpel); ext = length (t .ext); warp = length (t .warp) }
 
 -- the part that an order reads: where its tests give another number than 0, that number and zeros
-unfoldable pub orderPart : (verdict : ℕ) (f : Frame) (planeNo planeStride : ℕ) (o : Order) → Part
-orderPart verdict f planeNo planeStride o =
-    orSame verdict (areaAt (areaOf f planeNo (kindNumber (o .kind)) (o .w) (o .h) (o .x) (o .y)) 0 planeStride) (noPart verdict)
+unfoldable pub orderPart : (verdict : ℕ) → LentPlane → Order → Part
+orderPart verdict p o = orSame verdict (areaAt (areaOf p (askedBy o)) 0 (p .stride)) (noPart verdict)

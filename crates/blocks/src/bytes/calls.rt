@@ -167,11 +167,20 @@ pub extern "C" fn hv_order_put_8bpc(
     dst: &mut [u8],
     dst_stride: usize,
 ) -> u32
-    ensures { λ r. ⌜ OrderPutAnswer true (leb kind 3) 8
-        (record { «luma_w» = «luma_w»; «luma_h» = «luma_h»; «ss_hor» = «ss_hor»; «ss_ver» = «ss_ver» }) «plane_no»
-        (now (plane .entry)) «plane_stride» (record { x = x; y = y; w = w; h = h; kind = kindOf kind mx my «filter_type» a b c d })
-        (now (subpel .entry)) (now (ext .entry)) (now (warp .entry)) (now (scratch .entry)) (now (dst .entry)) «dst_stride» r (now (scratch .exit))
-        (now (dst .exit)) ⌝ }
+    ensures { λ r. ⌜ OrderPutAnswer
+        (record {
+          deep = true;
+          depth = 8;
+          lent = record {
+            frame = record { «luma_w» = «luma_w»; «luma_h» = «luma_h»; «ss_hor» = «ss_hor»; «ss_ver» = «ss_ver» };
+            planeNo = «plane_no»;
+            plane = now (plane .entry);
+            stride = «plane_stride»;
+          };
+          tables = record { subpel = now (subpel .entry); ext = now (ext .entry); warp = now (warp .entry) };
+        })
+        (leb kind 3) (record { x = x; y = y; w = w; h = h; kind = kindOf kind mx my «filter_type» a b c d })
+        (now (scratch .entry)) (now (dst .entry)) «dst_stride» r (now (scratch .exit)) (now (dst .exit)) ⌝ }
 {
     order_put_at(
         8,
@@ -231,11 +240,20 @@ pub extern "C" fn hv_order_prep_8bpc(
     tmp: &mut [i16],
     tmp_stride: usize,
 ) -> u32
-    ensures { λ r. ⌜ OrderPrepAnswer true (leb kind 3) 8
-        (record { «luma_w» = «luma_w»; «luma_h» = «luma_h»; «ss_hor» = «ss_hor»; «ss_ver» = «ss_ver» }) «plane_no»
-        (now (plane .entry)) «plane_stride» (record { x = x; y = y; w = w; h = h; kind = kindOf kind mx my «filter_type» a b c d })
-        (now (subpel .entry)) (now (ext .entry)) (now (warp .entry)) (now (scratch .entry)) (now (tmp .entry)) «tmp_stride» r (now (scratch .exit))
-        (now (tmp .exit)) ⌝ }
+    ensures { λ r. ⌜ OrderPrepAnswer
+        (record {
+          deep = true;
+          depth = 8;
+          lent = record {
+            frame = record { «luma_w» = «luma_w»; «luma_h» = «luma_h»; «ss_hor» = «ss_hor»; «ss_ver» = «ss_ver» };
+            planeNo = «plane_no»;
+            plane = now (plane .entry);
+            stride = «plane_stride»;
+          };
+          tables = record { subpel = now (subpel .entry); ext = now (ext .entry); warp = now (warp .entry) };
+        })
+        (leb kind 3) (record { x = x; y = y; w = w; h = h; kind = kindOf kind mx my «filter_type» a b c d })
+        (now (scratch .entry)) (now (tmp .entry)) «tmp_stride» r (now (scratch .exit)) (now (tmp .exit)) ⌝ }
 {
     order_prep_at(
         8,

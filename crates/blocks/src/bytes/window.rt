@@ -4,7 +4,7 @@ ghost use mathlib.Core.Path.{_≡_};
 ghost use lib.ListN.{length};
 ghost use Rattle.blocks.specs.inner.Ready.{Fetch, PartIn};
 ghost use Rattle.blocks.specs.Window.{windowOf, scratchOf, partOf, WindowAnswer};
-ghost use Rattle.blocks.specs.inner.Window.{areaAt, areaFetched};
+ghost use Rattle.blocks.specs.inner.Window.{lentOf, asked, areaAt, areaFetched};
 use super::edge::edge_rows;
 use crate::frame::Area;
 use crate::frame::Frame;
@@ -48,10 +48,8 @@ pub fn window(
     mode: u32,
     scratch: &mut [Pixel],
 ) -> Part
-    ensures { λ r. ⌜ (r ≡ windowOf (lent .frame) (lent .«plane_no») (length (now (plane .entry))) (lent .stride) kind w h x y mode (length (now
-        (scratch .entry))))
-        × (now (scratch .exit) ≡ scratchOf (r .number) (lent .frame) (lent .«plane_no») (now (plane .entry)) (lent .stride) kind w h x y mode
-        (now (scratch .entry))) ⌝ }
+    ensures { λ r. ⌜ (r ≡ windowOf (lentOf lent (now (plane .entry))) (asked kind w h x y mode) (length (now (scratch .entry))))
+        × (now (scratch .exit) ≡ scratchOf (r .number) (lentOf lent (now (plane .entry))) (asked kind w h x y mode) (now (scratch .entry))) ⌝ }
 {
     let number = check_window(lent, plane.len(), kind, w, h, x, y, mode, scratch.len());
     if number != 0 {
@@ -90,10 +88,8 @@ pub fn window_part<'a>(
     mode: u32,
     scratch: &'a [Pixel],
 ) -> &'a [Pixel]
-    ensures { λ r. ⌜ now r
-        ≡ partOf (windowOf (lent .frame) (lent .«plane_no») (length (now (plane .entry))) (lent .stride) kind w h x y mode (length (now
-        (scratch .entry)))) (now (plane .entry))
-        (now (scratch .entry)) ⌝ }
+    ensures { λ r. ⌜ now r ≡ partOf (windowOf (lentOf lent (now (plane .entry))) (asked kind w h x y mode) (length (now (scratch .entry))))
+        (now (plane .entry)) (now (scratch .entry)) ⌝ }
 {
     let part = find_window(lent, plane.len(), kind, w, h, x, y, mode, scratch.len());
     pick(part, plane, scratch)
@@ -120,9 +116,15 @@ pub extern "C" fn hv_window_8bpc(
     stride: &mut usize,
     len: &mut usize,
 ) -> u32
-    ensures { λ r. ⌜ WindowAnswer (record { «luma_w» = «luma_w»; «luma_h» = «luma_h»; «ss_hor» = «ss_hor»; «ss_ver» = «ss_ver» }) «plane_no»
-        (now (plane .entry)) «plane_stride» kind w h x y mode (now (scratch .entry)) r (now (buffer .exit)) (now (place .exit)) (now (stride .exit))
-        (now (len .exit)) (now (scratch .exit)) ⌝ }
+    ensures { λ r. ⌜ WindowAnswer
+        (record {
+          frame = record { «luma_w» = «luma_w»; «luma_h» = «luma_h»; «ss_hor» = «ss_hor»; «ss_ver» = «ss_ver» };
+          planeNo = «plane_no»;
+          plane = now (plane .entry);
+          stride = «plane_stride»;
+        })
+        (record { kind = kind; w = w; h = h; x = x; y = y; mode = mode })
+        (now (scratch .entry)) r (now (buffer .exit)) (now (place .exit)) (now (stride .exit)) (now (len .exit)) (now (scratch .exit)) ⌝ }
 {
     let f = Frame {
         luma_w,

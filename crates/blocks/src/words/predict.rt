@@ -1,12 +1,13 @@
 // Prediction orders, run: the window of one, and the block that its kind makes of it.
 ghost use mathlib.Core.Path.{_≡_};
+ghost use Prim.Native.Nat.{ℕ};
 ghost use lib.Dec.{leb};
 ghost use lib.ListN.{length};
 ghost use Rattle.rows.specs.Numbers.{up};
 ghost use Rattle.blocks.specs.words.Depth.{depthOk};
-ghost use Rattle.blocks.specs.Refuse.{lowest};
-ghost use Rattle.blocks.specs.Order.{kindOf, orderTests, orderScratch, OrderPutAnswer, OrderPrepAnswer};
-ghost use Rattle.blocks.specs.inner.Order.{orderPart};
+ghost use Rattle.blocks.specs.Order.{kindOf, Tables, orderNumber, orderScratch, OrderPutAnswer, OrderPrepAnswer};
+ghost use Rattle.blocks.specs.inner.Window.{lentOf};
+ghost use Rattle.blocks.specs.inner.Order.{settingOf, lengthsOf, orderPart};
 use super::depth::depth_numbers;
 use super::depth::depth_ok;
 use super::kinds::prep_kind;
@@ -37,9 +38,10 @@ fn order_window(
     dl: usize,
     dst_stride: usize,
 ) -> Part
-    ensures { λ r. ⌜ (r ≡ orderPart (lowest (orderTests deep named (lent .frame) (lent .«plane_no») (length (now (plane .entry))) (lent .stride) o
-        (t .subpel) (t .ext) (t .warp) (length (now (scratch .entry))) dl «dst_stride»)) (lent .frame) (lent .«plane_no») (lent .stride) o)
-        × (now (scratch .exit) ≡ orderScratch (r .number) (lent .frame) (lent .«plane_no») (now (plane .entry)) (lent .stride) o (now (scratch .entry))) ⌝ }
+    ensures { λ r. ⌜ ((depth : ℕ) (tables : Tables) → lengthsOf tables ≡ t
+        → r ≡ orderPart (orderNumber (settingOf deep depth lent (now (plane .entry)) tables) named o (length (now (scratch .entry))) dl «dst_stride»)
+        (lentOf lent (now (plane .entry))) o)
+        × (now (scratch .exit) ≡ orderScratch (r .number) (lentOf lent (now (plane .entry))) o (now (scratch .entry))) ⌝ }
 {
     let number = check_order(
         deep,
@@ -90,11 +92,20 @@ pub extern "C" fn hv_order_put_16bpc(
     dst: &mut [Pixel],
     dst_stride: usize,
 ) -> u32
-    ensures { λ r. ⌜ OrderPutAnswer (depthOk depth) (leb kind 3) (up depth)
-        (record { «luma_w» = «luma_w»; «luma_h» = «luma_h»; «ss_hor» = «ss_hor»; «ss_ver» = «ss_ver» }) «plane_no»
-        (now (plane .entry)) «plane_stride» (record { x = x; y = y; w = w; h = h; kind = kindOf kind mx my «filter_type» a b c d })
-        (now (subpel .entry)) (now (ext .entry)) (now (warp .entry)) (now (scratch .entry)) (now (dst .entry)) «dst_stride» r (now (scratch .exit))
-        (now (dst .exit)) ⌝ }
+    ensures { λ r. ⌜ OrderPutAnswer
+        (record {
+          deep = depthOk depth;
+          depth = up depth;
+          lent = record {
+            frame = record { «luma_w» = «luma_w»; «luma_h» = «luma_h»; «ss_hor» = «ss_hor»; «ss_ver» = «ss_ver» };
+            planeNo = «plane_no»;
+            plane = now (plane .entry);
+            stride = «plane_stride»;
+          };
+          tables = record { subpel = now (subpel .entry); ext = now (ext .entry); warp = now (warp .entry) };
+        })
+        (leb kind 3) (record { x = x; y = y; w = w; h = h; kind = kindOf kind mx my «filter_type» a b c d })
+        (now (scratch .entry)) (now (dst .entry)) «dst_stride» r (now (scratch .exit)) (now (dst .exit)) ⌝ }
 {
     let f = Frame {
         luma_w,
@@ -169,11 +180,20 @@ pub extern "C" fn hv_order_prep_16bpc(
     tmp: &mut [i16],
     tmp_stride: usize,
 ) -> u32
-    ensures { λ r. ⌜ OrderPrepAnswer (depthOk depth) (leb kind 3) (up depth)
-        (record { «luma_w» = «luma_w»; «luma_h» = «luma_h»; «ss_hor» = «ss_hor»; «ss_ver» = «ss_ver» }) «plane_no»
-        (now (plane .entry)) «plane_stride» (record { x = x; y = y; w = w; h = h; kind = kindOf kind mx my «filter_type» a b c d })
-        (now (subpel .entry)) (now (ext .entry)) (now (warp .entry)) (now (scratch .entry)) (now (tmp .entry)) «tmp_stride» r (now (scratch .exit))
-        (now (tmp .exit)) ⌝ }
+    ensures { λ r. ⌜ OrderPrepAnswer
+        (record {
+          deep = depthOk depth;
+          depth = up depth;
+          lent = record {
+            frame = record { «luma_w» = «luma_w»; «luma_h» = «luma_h»; «ss_hor» = «ss_hor»; «ss_ver» = «ss_ver» };
+            planeNo = «plane_no»;
+            plane = now (plane .entry);
+            stride = «plane_stride»;
+          };
+          tables = record { subpel = now (subpel .entry); ext = now (ext .entry); warp = now (warp .entry) };
+        })
+        (leb kind 3) (record { x = x; y = y; w = w; h = h; kind = kindOf kind mx my «filter_type» a b c d })
+        (now (scratch .entry)) (now (tmp .entry)) «tmp_stride» r (now (scratch .exit)) (now (tmp .exit)) ⌝ }
 {
     let f = Frame {
         luma_w,

@@ -16,9 +16,8 @@ use Rattle.blocks.specs.WMask.{wMaskTests}
 use Rattle.blocks.specs.Search.{sadsTests}
 use Rattle.blocks.specs.Warp.{warpTests}
 use Rattle.blocks.specs.Shear.{divisorTests, shearTests, affineMvTests}
-use Rattle.blocks.specs.Window.{windowTests, rowTests}
-use Rattle.blocks.specs.Order.{orderTests}
-use Rattle.blocks.specs.declared.frame.Frame.{Frame}
+use Rattle.blocks.specs.Window.{LentPlane, Asked, windowTests, rowTests}
+use Rattle.blocks.specs.Order.{Setting, orderTests}
 use Rattle.blocks.specs.declared.order.Order.{Order}
 
 put-order : (dl dstStride sl srcStride w h : ℕ) → inOrder 1 (putTests dl dstStride sl srcStride w h) ≡ true
@@ -82,14 +81,14 @@ affine-mv-order : (bw4 bh4 mvx mvy : ℤ) (m : List ℤ) (bx4 by4 : ℤ) → inO
 unfolding inOrder
 affine-mv-order bw4 bh4 mvx mvy m bx4 by4 = refl
 
-window-order : (f : Frame) (planeNo pl planeStride kind w h : ℕ) (x y : ℤ) (mode sl : ℕ) → inOrder 1 (windowTests f planeNo pl planeStride kind w h x y mode sl) ≡ true
+window-order : (p : LentPlane) (q : Asked) (sl : ℕ) → inOrder 1 (windowTests p q sl) ≡ true
 unfolding inOrder
-window-order f planeNo pl planeStride kind w h x y mode sl = refl
+window-order p q sl = refl
 
-row-order : (f : Frame) (planeNo pl planeStride : ℕ) (row : ℤ) → inOrder 1 (rowTests f planeNo pl planeStride row) ≡ true
+row-order : (p : LentPlane) (row : ℤ) → inOrder 1 (rowTests p row) ≡ true
 unfolding inOrder
-row-order f planeNo pl planeStride row = refl
+row-order p row = refl
 
-order-order : (deep named : Bool) (f : Frame) (planeNo pl planeStride : ℕ) (o : Order) (tl el wl sl dl dstStride : ℕ) → inOrder 1 (orderTests deep named f planeNo pl planeStride o tl el wl sl dl dstStride) ≡ true
+order-order : (s : Setting) (named : Bool) (o : Order) (sl dl dstStride : ℕ) → inOrder 1 (orderTests s named o sl dl dstStride) ≡ true
 unfolding inOrder
-order-order deep named f planeNo pl planeStride o tl el wl sl dl dstStride = refl
+order-order s named o sl dl dstStride = refl

@@ -20,26 +20,25 @@ use Rattle.blocks.specs.Edge.{placeOk}
 use Rattle.blocks.specs.WMask.{flagsOk}
 use Rattle.blocks.specs.Subpel.{typeOk, sixteenthOk, fractionOk, subpelOk, filterIn, put8Rule}
 use Rattle.blocks.specs.Window.{planeSide, frameSizesOk, frameNamesOk, before, after}
-use Rattle.blocks.specs.Order.{kindSizeOk, motionOk, filtersOk, orderDst, putRule, putPicture}
-use Rattle.blocks.specs.Cut.{Same, unwarped, callNumber, putRects, putNumber, endlessPut}
+use Rattle.blocks.specs.Order.{kindSizeOk, motionOk, filtersOk, Setting, orderDst, putRule, putPicture, endlessPut}
+use Rattle.blocks.specs.Cut.{unwarped, callNumber, putRects, putNumber}
 use Rattle.blocks.specs.declared.order.Order.{Order}
 use Rattle.blocks.specs.declared.order.Kind.the-variants.{Subpel}
 use Rattle.blocks.proofs.Laws.Cut.Demand.{PutCut, prepNumber}
 
 -- a plane of one pixel, 7, and a table whose families 0 to 2 make every pixel 0 and whose families 3 and 4 keep it
-abbrev onePixel : ℕ → Same
+abbrev onePixel : ℕ → Setting
 onePixel depth =
     record {
       deep = true;
       depth = depth;
-      frame = record { «luma_w» = 1; «luma_h» = 1; «ss_hor» = false; «ss_ver» = false };
-      planeNo = 0;
-      plane = 7 ∷ [];
-      planeStride = 1;
-      subpel = rowOf 600 (λ t. pos (cond (ltb t 360) 0 8));
-      ext = [];
-      warp = [];
-      sl = 136;
+      lent = record {
+        frame = record { «luma_w» = 1; «luma_h» = 1; «ss_hor» = false; «ss_ver» = false };
+        planeNo = 0;
+        plane = 7 ∷ [];
+        stride = 1;
+      };
+      tables = record { subpel = rowOf 600 (λ t. pos (cond (ltb t 360) 0 8)); ext = []; warp = [] };
     }
 
 -- an 8-tap block of one row, at a fraction across
@@ -72,19 +71,19 @@ parts-cut a b =
           λ l. rw (box-in (right a b) i j (omega arith) (omega arith) (omega arith) (omega arith)) (or-true (has (left a) i j));
     }
 
--- no call is refused: of ten columns in five and five, run as put and as prep, and at once; of five columns in four and one
+-- no call is refused, with a scratch of 136 places: of ten columns in five and five, run as put and as prep, and at once; of five columns in four and one
 accepted : (depth : ℕ)
-    → Each (λ r. putNumber (onePixel depth) (row 10) 10 10 r ≡ 0) (parts 5 5)
-    × Each (λ r. prepNumber (onePixel depth) (row 10) r (rowOf 5 (λ t. pos 0)) ≡ 0) (parts 5 5)
-    × (callNumber (onePixel depth) (row 10) 10 10 ≡ 0)
-    × Each (λ r. putNumber (onePixel depth) (row 5) 5 5 r ≡ 0) (parts 4 1)
+    → Each (λ r. putNumber (onePixel depth) (row 10) 136 10 10 r ≡ 0) (parts 5 5)
+    × Each (λ r. prepNumber (onePixel depth) (row 10) 136 r (rowOf 5 (λ t. pos 0)) ≡ 0) (parts 5 5)
+    × (callNumber (onePixel depth) (row 10) 136 10 10 ≡ 0)
+    × Each (λ r. putNumber (onePixel depth) (row 5) 136 5 5 r ≡ 0) (parts 4 1)
 unfolding Each rowOf rowFrom need sizeOk strideOk holds wholeFilters placeOk flagsOk typeOk sixteenthOk fractionOk subpelOk filterIn
     planeSide frameSizesOk frameNamesOk before after kindSizeOk motionOk filtersOk
 accepted depth = ((refl, (refl, tt)), (refl, (refl, tt)), refl, (refl, (refl, tt)))
 
 -- ---- ten columns in five and five meet all premises, at any depth that passed its test
 
-ten : (depth : ℕ) → PutCut (onePixel depth) (row 10) 10 10 (parts 5 5)
+ten : (depth : ℕ) → PutCut (onePixel depth) (row 10) 136 10 10 (parts 5 5)
 unfolding Each unwarped
 ten depth =
     record {
@@ -99,7 +98,7 @@ abbrev zeros : List ℕ
 zeros = 0 ∷ 0 ∷ 0 ∷ 0 ∷ 0 ∷ []
 
 -- the calls leave 7 everywhere
-five-cut : putRects (onePixel 8) (row 5) 5 (parts 4 1) zeros ≡ 7 ∷ 7 ∷ 7 ∷ 7 ∷ 7 ∷ []
+five-cut : putRects (onePixel 8) (row 5) 136 5 (parts 4 1) zeros ≡ 7 ∷ 7 ∷ 7 ∷ 7 ∷ 7 ∷ []
 unfolding putRects orderDst orSame fill fillIn paint within rowOf rowFrom need sizeOk strideOk holds wholeFilters placeOk flagsOk typeOk sixteenthOk
     fractionOk subpelOk filterIn planeSide frameSizesOk frameNamesOk before after kindSizeOk motionOk filtersOk putPicture putRule put8Rule put8 axis
     family filter tapped S sumZ endless aroundAt
@@ -111,10 +110,10 @@ unfolding fill fillIn paint within rowOf rowFrom planeSide before putPicture put
 five-block = refl
 
 -- so the law without "each rectangle is on the same side of four pixels" is false
-sides-needed : ((c : Same) (o : Order) (stride : ℕ) (rs : List Rect) (dst : List ℕ)
-    → unwarped (o .kind) ≡ true → Cut (o .w) (o .h) rs → o .w ≤ stride → Each (λ r. putNumber c o stride (length dst) r ≡ 0) rs
-    → putRects c o stride rs dst ≡ fill dst stride (o .w) (o .h) (endlessPut c o)) → ⊥
+sides-needed : ((s : Setting) (o : Order) (sl stride : ℕ) (rs : List Rect) (dst : List ℕ)
+    → unwarped (o .kind) ≡ true → Cut (o .w) (o .h) rs → o .w ≤ stride → Each (λ r. putNumber s o sl stride (length dst) r ≡ 0) rs
+    → putRects s o sl stride rs dst ≡ fill dst stride (o .w) (o .h) (endlessPut s o)) → ⊥
 unfolding unwarped
 sides-needed law =
-    let e = law (onePixel 8) (row 5) 5 (parts 4 1) zeros refl (parts-cut 4 1) (omega arith) (accepted 8 .3) in
+    let e = law (onePixel 8) (row 5) 136 5 (parts 4 1) zeros refl (parts-cut 4 1) (omega arith) (accepted 8 .3) in
     omega (arith, ap (λ (d : List ℕ). getD d 0 0) (sym five-cut ∙ e ∙ five-block))

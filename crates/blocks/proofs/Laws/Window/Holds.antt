@@ -17,11 +17,11 @@ use Rattle.rows.proofs.Laws.Blocks.Places.{span-length, span-at, row-fits}
 use Rattle.rows.proofs.Laws.Blocks.Fill.{and-true, length-fill, fill-in}
 use Rattle.blocks.specs.Refuse.{lowest, orSame, partLen}
 use Rattle.blocks.specs.inner.Ready.{Rows, Fetch, PartIn}
-use Rattle.blocks.specs.Window.{planeW, planeH, before, windowSide, windowStart, windowTests, inside, isPlanes, ownPlane, windowAt, noPart, windowOf, fetched, scratchOf, partOf, aroundPart}
-use Rattle.blocks.specs.inner.Window.{areaOf}
+use Rattle.blocks.specs.Window.{LentPlane, lentW, lentH, before, windowSide, Asked, windowTests, areaOf, inside, isPlanes, ownPlane, windowAt, noPart}
+use Rattle.blocks.specs.Window.{windowOf, fetched, scratchOf, partOf, aroundPart}
+use Rattle.blocks.specs.Order.{planeOf}
 use Rattle.blocks.proofs.Laws.Window.Ready.{window-ready, window-number}
 use Rattle.blocks.specs.declared.frame.Area.{Area}
-use Rattle.blocks.specs.declared.frame.Frame.{Frame}
 use Rattle.blocks.specs.declared.window.Part.{Part}
 
 -- ---- a window inside its plane
@@ -39,11 +39,11 @@ inside-met x n side e =
       high = omega (arith, le-yes (pos 0) x (p .0), one-part x, le-yes (x +ℤ pos n) (pos side) (p .1), add-parts x (pos n), one-part (x +ℤ pos n));
     }
 
-pub planes-met : (mode ww wh iw ih : ℕ) (x y : ℤ) → isPlanes mode ww wh iw ih x y ≡ true → Inside x ww iw × Inside y wh ih
+pub planes-met : (mode : ℕ) (a : Area) → isPlanes mode a ≡ true → Inside (a .left) (a .ww) (a .iw) × Inside (a .top) (a .wh) (a .ih)
 unfolding isPlanes
-planes-met mode ww wh iw ih x y e =
-    let p = and-true (inside x ww iw) (inside y wh ih) (and-true (eqb mode 0) _ e .1) in
-    (inside-met x ww iw (p .0), inside-met y wh ih (p .1))
+planes-met mode a e =
+    let r = and-true (inside (a .left) (a .ww) (a .iw)) (inside (a .top) (a .wh) (a .ih)) (and-true (eqb mode 0) _ e .1) in
+    (inside-met (a .left) (a .ww) (a .iw) (r .0), inside-met (a .top) (a .wh) (a .ih) (r .1))
 
 -- there, the nearest column is the column itself
 clip-inside : (x : ℤ) (n side i : ℕ) → Inside x n side → i < n → clip (side - 1) (x +ℤ pos i) ≡ up x + i
@@ -99,89 +99,83 @@ module _ (a : Area) (plane scratch : List ℕ) {ps : ℕ} (ok : Fetch a (length 
 
   -- either, by whether the plane has the window
   by-plane : (b : Bool) → (b ≡ true → Inside (a .left) (a .ww) (a .iw) × Inside (a .top) (a .wh) (a .ih))
-      → Shows (partOf (windowAt b ps (a .ww) (a .wh) (a .left) (a .top)) plane (fetched b plane ps (a .ww) (a .wh) (a .iw) (a .ih) (a .left) (a .top) scratch))
-      (windowAt b ps (a .ww) (a .wh) (a .left) (a .top) .stride) (a .ww) (a .wh) seen
+      → Shows (partOf (windowAt b ps a) plane (fetched b plane ps a scratch)) (windowAt b ps a .stride) (a .ww) (a .wh) seen
   unfolding partOf windowAt fetched
   by-plane true p = plane-shows (p refl .0) (p refl .1)
   by-plane false p = scratch-shows
 
 -- ---- what an answer names is in its buffer
-pub window-in : (f : Frame) (planeNo pl ps kind w h : ℕ) (x y : ℤ) (mode sl : ℕ) → PartIn (windowOf f planeNo pl ps kind w h x y mode sl) pl sl
+pub window-in : (p : LentPlane) (q : Asked) (sl : ℕ) → PartIn (windowOf p q sl) (length (p .plane)) sl
 unfolding windowOf windowAt orSame
-window-in f planeNo pl ps kind w h x y mode sl =
-    go (areaOf f planeNo kind w h x y) (lowest (windowTests f planeNo pl ps kind w h x y mode sl)) (window-ready f planeNo pl ps kind w h x y mode sl)
-    (ownPlane f planeNo kind w h x y mode) (planes-met mode _ _ _ _ (windowStart kind x) (windowStart kind y)) where
-      go : (a : Area) (n : ℕ) → (n ≡ 0 → Fetch a sl (a .ww) pl ps)
+window-in p q sl =
+    go (areaOf p q) (lowest (windowTests p q sl)) (window-ready p q sl) (ownPlane p q) (planes-met (q .mode) (areaOf p q)) where
+      go : (a : Area) (n : ℕ) → (n ≡ 0 → Fetch a sl (a .ww) (length (p .plane)) (p .stride))
           → (b : Bool) → (b ≡ true → Inside (a .left) (a .ww) (a .iw) × Inside (a .top) (a .wh) (a .ih))
-          → PartIn (orSame n (windowAt b ps (a .ww) (a .wh) (a .left) (a .top)) (noPart n)) pl sl
-      go a zero ok true p = record { plane = λ e. planes-fit (ok refl) (p refl .0) (p refl .1); scratch = λ e. absurd (omega arith) }
-      go a zero ok false p = record { plane = λ e. absurd (omega arith); scratch = λ e. omega (arith, ok refl .dst) }
-      go a (suc n) ok b p = record { plane = λ e. absurd (omega arith); scratch = λ e. absurd (omega arith) }
+          → PartIn (orSame n (windowAt b (p .stride) a) (noPart n)) (length (p .plane)) sl
+      go a zero ok true i = record { plane = λ e. planes-fit (ok refl) (i refl .0) (i refl .1); scratch = λ e. absurd (omega arith) }
+      go a zero ok false i = record { plane = λ e. absurd (omega arith); scratch = λ e. omega (arith, ok refl .dst) }
+      go a (suc n) ok b i = record { plane = λ e. absurd (omega arith); scratch = λ e. absurd (omega arith) }
 
 -- and filling scratch keeps its length
-pub length-scratchOf : (n : ℕ) (f : Frame) (planeNo : ℕ) (plane : List ℕ) (ps kind w h : ℕ) (x y : ℤ) (mode : ℕ) (scratch : List ℕ)
-    → length (scratchOf n f planeNo plane ps kind w h x y mode scratch) ≡ length scratch
+pub length-scratchOf : (n : ℕ) (p : LentPlane) (q : Asked) (scratch : List ℕ) → length (scratchOf n p q scratch) ≡ length scratch
 unfolding scratchOf fetched orSame
-length-scratchOf n f planeNo plane ps kind w h x y mode scratch = go n (ownPlane f planeNo kind w h x y mode) where
-  go : (n : ℕ) (b : Bool)
-      → length (orSame n (fetched b plane ps (windowSide kind w) (windowSide kind h) (planeW f planeNo) (planeH f planeNo) (windowStart kind x) (windowStart kind y) scratch) scratch)
-      ≡ length scratch
+length-scratchOf n p q scratch = go n (ownPlane p q) where
+  go : (n : ℕ) (b : Bool) → length (orSame n (fetched b (p .plane) (p .stride) (areaOf p q) scratch) scratch) ≡ length scratch
   go zero true = refl
   go zero false = length-fill scratch _ _ _ _
   go (suc n) b = refl
 
--- so after the call that filled scratch, the part can be picked
-pub picked-in : (f : Frame) (planeNo : ℕ) (plane : List ℕ) (ps kind w h : ℕ) (x y : ℤ) (mode : ℕ) (scratch : List ℕ) (p : Part) (filled : List ℕ)
-    → p ≡ windowOf f planeNo (length plane) ps kind w h x y mode (length scratch)
-    → filled ≡ scratchOf (p .number) f planeNo plane ps kind w h x y mode scratch → PartIn p (length plane) (length filled)
-picked-in f planeNo plane ps kind w h x y mode scratch p filled is full =
-    let n : length filled ≡ length scratch = ap length full ∙ length-scratchOf (p .number) f planeNo plane ps kind w h x y mode scratch in
-    rw (n, is) (window-in f planeNo (length plane) ps kind w h x y mode (length scratch))
+-- so after the call that filled scratch, the part r can be picked
+pub picked-in : (p : LentPlane) (q : Asked) (scratch : List ℕ) (r : Part) (filled : List ℕ) → r ≡ windowOf p q (length scratch)
+    → filled ≡ scratchOf (r .number) p q scratch → PartIn r (length (p .plane)) (length filled)
+picked-in p q scratch r filled is full =
+    let n : length filled ≡ length scratch = ap length full ∙ length-scratchOf (r .number) p q scratch in
+    rw (n, is) (window-in p q (length scratch))
 
 -- ---- the part of an accepted window
 -- what a kernel reads: the window's rows, in which the pixels around each place of the block are the plane g's
-pub record Picked (kind w h : ℕ) (g : ℤ → ℤ → ℕ) (x y : ℤ) (src : List ℕ) (s : ℕ) : Type 0 where
-  pub rows : Rows (length src) s (windowSide kind w) (windowSide kind h)
-  pub same : (i j a b : ℕ) → i < w → j < h → a < windowSide kind 1 → b < windowSide kind 1
-      → aroundPart kind src s i j a b ≡ aroundAt (before kind) g x y i j a b
+pub record Picked (q : Asked) (g : ℤ → ℤ → ℕ) (src : List ℕ) (s : ℕ) : Type 0 where
+  pub rows : Rows (length src) s (windowSide (q .kind) (q .w)) (windowSide (q .kind) (q .h))
+  pub same : (i j a b : ℕ) → i < q .w → j < q .h → a < windowSide (q .kind) 1 → b < windowSide (q .kind) 1
+      → aroundPart (q .kind) src s i j a b ≡ aroundAt (before (q .kind)) g (q .x) (q .y) i j a b
 
-module _ (f : Frame) (planeNo : ℕ) (plane : List ℕ) (ps kind w h : ℕ) (x y : ℤ) (mode : ℕ) (scratch : List ℕ)
-    (e : lowest (windowTests f planeNo (length plane) ps kind w h x y mode (length scratch)) ≡ 0) where
+module _ (p : LentPlane) (q : Asked) (scratch : List ℕ) (e : lowest (windowTests p q (length scratch)) ≡ 0) where
   abbrev answer : Part
-  answer = windowOf f planeNo (length plane) ps kind w h x y mode (length scratch)
+  answer = windowOf p q (length scratch)
 
   abbrev part : List ℕ
-  part = partOf answer plane (scratchOf 0 f planeNo plane ps kind w h x y mode scratch)
+  part = partOf answer (p .plane) (scratchOf 0 p q scratch)
 
-  pub part-shows : Shows part (answer .stride) (windowSide kind w) (windowSide kind h)
-      (edge plane ps (planeW f planeNo) (planeH f planeNo) (windowStart kind x) (windowStart kind y))
+  abbrev area : Area
+  area = areaOf p q
+
+  pub part-shows : Shows part (answer .stride) (area .ww) (area .wh) (edge (p .plane) (p .stride) (lentW p) (lentH p) (area .left) (area .top))
   unfolding windowOf scratchOf orSame
   part-shows =
-      let r = window-ready f planeNo (length plane) ps kind w h x y mode (length scratch) e in
-      rw e (by-plane (areaOf f planeNo kind w h x y) plane scratch r (ownPlane f planeNo kind w h x y mode)
-      (planes-met mode _ _ _ _ (windowStart kind x) (windowStart kind y)))
+      let r = window-ready p q (length scratch) e in
+      rw e (by-plane area (p .plane) scratch r (ownPlane p q) (planes-met (q .mode) area))
 
   -- it is long enough, and its stride carries the window's row
-  pub part-rows : Rows (length part) (answer .stride) (windowSide kind w) (windowSide kind h)
+  pub part-rows : Rows (length part) (answer .stride) (area .ww) (area .wh)
   part-rows = part-shows .rows
 
   -- the window law
-  pub part-pixel : (i j : ℕ) → i < windowSide kind w → j < windowSide kind h
-      → pixel part (answer .stride) i j ≡ endless plane ps (planeW f planeNo) (planeH f planeNo) (windowStart kind x +ℤ pos i) (windowStart kind y +ℤ pos j)
+  pub part-pixel : (i j : ℕ) → i < area .ww → j < area .wh
+      → pixel part (answer .stride) i j ≡ planeOf p (area .left +ℤ pos i) (area .top +ℤ pos j)
   unfolding edge
   part-pixel i j a b = part-shows .same i j a b
 
   -- the pixels around a place of the block
-  pub part-around : (i j a b : ℕ) → i < w → j < h → a < windowSide kind 1 → b < windowSide kind 1
-      → aroundPart kind part (answer .stride) i j a b ≡ aroundAt (before kind) (endless plane ps (planeW f planeNo) (planeH f planeNo)) x y i j a b
+  pub part-around : (i j a b : ℕ) → i < q .w → j < q .h → a < windowSide (q .kind) 1 → b < windowSide (q .kind) 1
+      → aroundPart (q .kind) part (answer .stride) i j a b ≡ aroundAt (before (q .kind)) (planeOf p) (q .x) (q .y) i j a b
   unfolding around aroundAt
   part-around i j a b wi hj ka kb =
       ap (λ (k : ℕ). getD part k 0) (omega arith) ∙ part-pixel (i + a) (j + b) (omega arith) (omega arith)
 
-  -- the same of what the two calls gave: the answer p, scratch as it was filled, and the part picked from it
-  pub picked : (p : Part) (filled src : List ℕ) → p ≡ answer → filled ≡ scratchOf (p .number) f planeNo plane ps kind w h x y mode scratch
-      → src ≡ partOf p plane filled → Picked kind w h (endless plane ps (planeW f planeNo) (planeH f planeNo)) x y src (p .stride)
-  picked p filled src is full from =
-      let n : p .number ≡ 0 = ap (λ (q : Part). q .number) is ∙ window-number f planeNo (length plane) ps kind w h x y mode (length scratch) ∙ e in
-      let k : filled ≡ scratchOf 0 f planeNo plane ps kind w h x y mode scratch = full ∙ ap (λ (m : ℕ). scratchOf m f planeNo plane ps kind w h x y mode scratch) n in
+  -- the same of what the two calls gave: the answer r, scratch as it was filled, and the part picked from it
+  pub picked : (r : Part) (filled src : List ℕ) → r ≡ answer → filled ≡ scratchOf (r .number) p q scratch → src ≡ partOf r (p .plane) filled
+      → Picked q (planeOf p) src (r .stride)
+  picked r filled src is full from =
+      let n : r .number ≡ 0 = ap (λ (v : Part). v .number) is ∙ window-number p q (length scratch) ∙ e in
+      let k : filled ≡ scratchOf 0 p q scratch = full ∙ ap (λ (m : ℕ). scratchOf m p q scratch) n in
       rw (from, k, is) (record { rows = part-rows; same = part-around })

@@ -19,10 +19,12 @@ use Rattle.blocks.specs.Refuse.{need, lowest, orSame, sizeOk, strideOk, 
 use Rattle.blocks.specs.Edge.{placeOk}
 use Rattle.blocks.specs.WMask.{flagsOk}
 use Rattle.blocks.specs.inner.Ready.{Rows}
-use Rattle.blocks.specs.Window.{planeSide, planeW, planeH, frameSizesOk, frameNamesOk, before, after, windowStart, windowTests, inside, isPlanes, ownPlane, windowAt, windowOf, scratchOf, partOf, rowTests, rowAt, PartAnswer, WindowAnswer}
-use Rattle.blocks.proofs.Laws.Calls.Refuse.{met-all, size-met, done}
-use Rattle.blocks.proofs.Laws.Window.Ready.{window-number, side-le}
+use Rattle.blocks.specs.Window.{planeSide, planeW, planeH, frameSizesOk, frameNamesOk, LentPlane, lentW, lentH, before, after, Asked, windowTests}
+use Rattle.blocks.specs.Window.{areaOf, inside, isPlanes, ownPlane, windowAt, windowOf, scratchOf, partOf, rowTests, rowAt, PartAnswer, WindowAnswer}
+use Rattle.blocks.proofs.Laws.Calls.Refuse.{size-met, done}
+use Rattle.blocks.proofs.Laws.Window.Ready.{side-le, met-window, window-number}
 use Rattle.blocks.proofs.Laws.Window.Holds.{part-pixel}
+use Rattle.blocks.proofs.Laws.Window.Rows.{met-row}
 use Rattle.blocks.specs.declared.frame.Frame.{Frame}
 use Rattle.blocks.specs.declared.window.Part.{Part}
 
@@ -75,12 +77,16 @@ chroma-never-empty f planeNo = go (sizeOk 16384 (f .«luma_w») && sizeOk 16384 
 
 -- ---- every column of the named plane is handed out
 -- a frame that is allowed, and the rows of the plane that the call names
-pub record LentPlane (f : Frame) (planeNo : ℕ) (plane : List ℕ) (ps : ℕ) : Type 0 where
-  pub wide : (1 ≤ f .«luma_w») × (f .«luma_w» ≤ 16384)
-  pub high : (1 ≤ f .«luma_h») × (f .«luma_h» ≤ 16384)
-  pub flags : flagsOk (f .«ss_hor») (f .«ss_ver») ≡ true
-  pub named : planeNo ≤ 1
-  pub rows : Rows (length plane) ps (planeW f planeNo) (planeH f planeNo)
+pub record Allowed (p : LentPlane) : Type 0 where
+  pub wide : (1 ≤ p .frame .«luma_w») × (p .frame .«luma_w» ≤ 16384)
+  pub high : (1 ≤ p .frame .«luma_h») × (p .frame .«luma_h» ≤ 16384)
+  pub flags : flagsOk (p .frame .«ss_hor») (p .frame .«ss_ver») ≡ true
+  pub named : p .planeNo ≤ 1
+  pub rows : Rows (length (p .plane)) (p .stride) (lentW p) (lentH p)
+
+-- the window of the one pixel in column x of row y, without margins
+abbrev pub onePixel : (x y mode : ℕ) → Asked
+onePixel x y mode = record { kind = 0; w = 1; h = 1; x = pos x; y = pos y; mode = mode }
 
 -- the part that a C function's numbers name
 abbrev pub answered : (r buffer place apart len : ℕ) → Part
@@ -95,94 +101,108 @@ nearest side x below =
     let z = pos x -ℤ pos 0 in
     omega (arith, clip-up (side - 1) (z +ℤ pos 0), add-parts z (pos 0), one-part (z +ℤ pos 0), sub-parts (pos x) (pos 0), one-part z)
 
-module _ {f : Frame} {planeNo : ℕ} {plane : List ℕ} {ps : ℕ} (lent : LentPlane f planeNo plane ps) where
-  sizes : frameSizesOk f planeNo ≡ true
+module _ {p : LentPlane} (ok : Allowed p) where
+  sizes : frameSizesOk (p .frame) (p .planeNo) ≡ true
   unfolding sizeOk
   sizes =
-      chroma-never-empty f planeNo
-      ∙ rw (le-leb _ _ (lent .wide .0), le-leb _ _ (lent .wide .1), le-leb _ _ (lent .high .0), le-leb _ _ (lent .high .1)) refl
+      chroma-never-empty (p .frame) (p .planeNo)
+      ∙ rw (le-leb _ _ (ok .wide .0), le-leb _ _ (ok .wide .1), le-leb _ _ (ok .high .0), le-leb _ _ (ok .high .1)) refl
 
-  names : frameNamesOk f planeNo ≡ true
+  names : frameNamesOk (p .frame) (p .planeNo) ≡ true
   unfolding frameNamesOk
-  names = rw (lent .flags, le-leb planeNo 1 (lent .named)) refl
+  names = rw (ok .flags, le-leb (p .planeNo) 1 (ok .named)) refl
 
-  carried : strideOk (planeW f planeNo) ps ≡ true
+  carried : strideOk (lentW p) (p .stride) ≡ true
   unfolding strideOk
-  carried = rw (le-leb _ _ (lent .rows .wide), le-leb _ _ (lent .rows .most)) refl
+  carried = rw (le-leb _ _ (ok .rows .wide), le-leb _ _ (ok .rows .most)) refl
 
-  held : holds (length plane) ps (planeW f planeNo) (planeH f planeNo) ≡ true
+  held : holds (length (p .plane)) (p .stride) (lentW p) (lentH p) ≡ true
   unfolding holds
-  held = le-leb _ _ (lent .rows .fits)
+  held = le-leb _ _ (ok .rows .fits)
 
-  near : (flag : Bool) (luma n : ℕ) → luma ≤ 16384 → n < planeSide planeNo flag luma → placeOk (pos n) ≡ true
+  near : (flag : Bool) (luma n : ℕ) → luma ≤ 16384 → n < planeSide (p .planeNo) flag luma → placeOk (pos n) ≡ true
   unfolding placeOk
-  near flag luma n most below = le-leb n (2 ^ 30) (omega (arith, side-le planeNo flag luma))
+  near flag luma n most below = le-leb n (2 ^ 30) (omega (arith, side-le (p .planeNo) flag luma))
 
   -- in column x of row y
-  module _ {x y : ℕ} (left : x < planeW f planeNo) (above : y < planeH f planeNo) where
+  module _ {x y : ℕ} (left : x < lentW p) (above : y < lentH p) where
     -- a window of that one pixel, in either mode
     module _ {mode : ℕ} (modes : mode ≤ 1) (scratch : List ℕ) (room : 1 ≤ length scratch) where
-      window-accepted : lowest (windowTests f planeNo (length plane) ps 0 1 1 (pos x) (pos y) mode (length scratch)) ≡ 0
+      window-accepted : lowest (windowTests p (onePixel x y mode) (length scratch)) ≡ 0
       unfolding sizeOk holds before after
       window-accepted =
-          let across = near (f .«ss_hor») (f .«luma_w») x (lent .wide .1) left in
-          let down = near (f .«ss_ver») (f .«luma_h») y (lent .high .1) above in
-          met-all (windowTests f planeNo (length plane) ps 0 1 1 (pos x) (pos y) mode (length scratch))
-          (sizes, (refl, (refl, (carried, (names, (refl, (across, (down, (le-leb mode 1 modes, (held, (le-leb 1 (length scratch) room, tt)))))))))))
+          met-window p (onePixel x y mode) (length scratch) (record {
+            frame = sizes;
+            width = refl;
+            height = refl;
+            carries = carried;
+            names = names;
+            kind = refl;
+            across = near (p .frame .«ss_hor») (p .frame .«luma_w») x (ok .wide .1) left;
+            down = near (p .frame .«ss_ver») (p .frame .«luma_h») y (ok .high .1) above;
+            mode = le-leb mode 1 modes;
+            plane = held;
+            scratch = le-leb 1 (length scratch) room;
+          })
 
-      one-long : windowOf f planeNo (length plane) ps 0 1 1 (pos x) (pos y) mode (length scratch) .len ≡ 1
+      one-long : windowOf p (onePixel x y mode) (length scratch) .len ≡ 1
       unfolding windowOf windowAt before after
-      one-long = rw (done _ _ _ window-accepted) (go (ownPlane f planeNo 0 1 1 (pos x) (pos y) mode)) where
-        go : (b : Bool) → windowAt b ps 1 1 (windowStart 0 (pos x)) (windowStart 0 (pos y)) .len ≡ 1
+      one-long = rw (done _ _ _ window-accepted) (go (ownPlane p (onePixel x y mode))) where
+        go : (b : Bool) → windowAt b (p .stride) (areaOf p (onePixel x y mode)) .len ≡ 1
         go true = omega arith
         go false = refl
 
       -- whatever hv_window answers: the number is 0, and the part that it names is that one pixel
-      pub window-names : {r b o s l : ℕ} {d : List ℕ} → WindowAnswer f planeNo plane ps 0 1 1 (pos x) (pos y) mode scratch r b o s l d
-          → (r ≡ 0) × (l ≡ 1) × (getD (partOf (answered r b o s l) plane d) 0 0 ≡ pixel plane ps x y)
+      pub window-names : {r b o s l : ℕ} {d : List ℕ} → WindowAnswer p (onePixel x y mode) scratch r b o s l d
+          → (r ≡ 0) × (l ≡ 1) × (getD (partOf (answered r b o s l) (p .plane) d) 0 0 ≡ pixel (p .plane) (p .stride) x y)
       unfolding endless before after
       window-names {r} {b} {o} {s} {l} {d} a =
-          let p = windowOf f planeNo (length plane) ps 0 1 1 (pos x) (pos y) mode (length scratch) in
-          let filled : ℕ → List ℕ = λ n. scratchOf n f planeNo plane ps 0 1 1 (pos x) (pos y) mode scratch in
-          let zero : r ≡ 0 = a .0 .0 ∙ window-number f planeNo (length plane) ps 0 1 1 (pos x) (pos y) mode (length scratch) ∙ window-accepted in
-          let is : getD (partOf p plane (filled 0)) 0 0 ≡ pixel plane ps x y =
-          ap (λ (k : ℕ). getD (partOf p plane (filled 0)) k 0) (omega arith)
-          ∙ part-pixel f planeNo plane ps 0 1 1 (pos x) (pos y) mode scratch window-accepted 0 0 (omega arith) (omega arith)
-          ∙ rw (nearest (planeW f planeNo) x left, nearest (planeH f planeNo) y above) refl in
-          (zero, a .0 .4 ∙ one-long, rw (answered-is p (a .0), a .1 ∙ ap filled zero) is)
+          let w = windowOf p (onePixel x y mode) (length scratch) in
+          let filled : ℕ → List ℕ = λ n. scratchOf n p (onePixel x y mode) scratch in
+          let zero : r ≡ 0 = a .0 .0 ∙ window-number p (onePixel x y mode) (length scratch) ∙ window-accepted in
+          let is : getD (partOf w (p .plane) (filled 0)) 0 0 ≡ pixel (p .plane) (p .stride) x y =
+          ap (λ (k : ℕ). getD (partOf w (p .plane) (filled 0)) k 0) (omega arith)
+          ∙ part-pixel p (onePixel x y mode) scratch window-accepted 0 0 (omega arith) (omega arith)
+          ∙ rw (nearest (lentW p) x left, nearest (lentH p) y above) refl in
+          (zero, a .0 .4 ∙ one-long, rw (answered-is w (a .0), a .1 ∙ ap filled zero) is)
 
     -- the row, as the row helper answers it: its part has that pixel in column x
-    row-accepted : lowest (rowTests f planeNo (length plane) ps (pos y)) ≡ 0
+    row-accepted : lowest (rowTests p (pos y)) ≡ 0
     row-accepted =
-        met-all (rowTests f planeNo (length plane) ps (pos y))
-        (sizes, (carried, (names, (rw (le-leb 0 y (omega arith), lt-ltb y (planeH f planeNo) above) refl, (held, tt)))))
+        met-row p (pos y) (record {
+          frame = sizes;
+          carries = carried;
+          names = names;
+          there = rw (le-leb 0 y (omega arith), lt-ltb y (lentH p) above) refl;
+          plane = held;
+        })
 
     abbrev rowPart : Part
-    rowPart = record { number = 0; buffer = 1; place = y * ps; stride = ps; len = planeW f planeNo }
+    rowPart = record { number = 0; buffer = 1; place = y * p .stride; stride = p .stride; len = lentW p }
 
-    row-is : rowAt f planeNo (length plane) ps (pos y) ≡ rowPart
+    row-is : rowAt p (pos y) ≡ rowPart
     unfolding rowAt
     row-is = done _ _ _ row-accepted
 
-    in-row : getD (partOf rowPart plane []) x 0 ≡ pixel plane ps x y
+    in-row : getD (partOf rowPart (p .plane) []) x 0 ≡ pixel (p .plane) (p .stride) x y
     unfolding partOf
     in-row =
-        span-at 0 plane (y * ps) (y * ps + planeW f planeNo)
-        (row-fits (length plane) ps (planeW f planeNo) (planeH f planeNo) y (lent .rows .fits) above) x (omega arith)
+        span-at 0 (p .plane) (y * p .stride) (y * p .stride + lentW p)
+        (row-fits (length (p .plane)) (p .stride) (lentW p) (lentH p) y (ok .rows .fits) above) x (omega arith)
 
-    pub row-names : {r b o s l : ℕ} → PartAnswer (rowAt f planeNo (length plane) ps (pos y)) r b o s l
-        → (r ≡ 0) × (l ≡ planeW f planeNo) × (getD (partOf (answered r b o s l) plane []) x 0 ≡ pixel plane ps x y)
+    pub row-names : {r b o s l : ℕ} → PartAnswer (rowAt p (pos y)) r b o s l
+        → (r ≡ 0) × (l ≡ lentW p) × (getD (partOf (answered r b o s l) (p .plane) []) x 0 ≡ pixel (p .plane) (p .stride) x y)
     row-names a =
-        let is = answered-is (rowAt f planeNo (length plane) ps (pos y)) a ∙ row-is in
-        (ap (λ (q : Part). q .number) is, ap (λ (q : Part). q .len) is, ap (λ (q : Part). getD (partOf q plane []) x 0) is ∙ in-row)
+        let is = answered-is (rowAt p (pos y)) a ∙ row-is in
+        (ap (λ (v : Part). v .number) is, ap (λ (v : Part). v .len) is, ap (λ (v : Part). getD (partOf v (p .plane) []) x 0) is ∙ in-row)
 
   -- so the last column and the last row are handed out
   pub last-named : {mode : ℕ} → mode ≤ 1 → (scratch : List ℕ) → 1 ≤ length scratch → {r b o s l : ℕ} {d : List ℕ}
-      → WindowAnswer f planeNo plane ps 0 1 1 (pos (planeW f planeNo - 1)) (pos (planeH f planeNo - 1)) mode scratch r b o s l d
-      → (r ≡ 0) × (l ≡ 1) × (getD (partOf (answered r b o s l) plane d) 0 0 ≡ pixel plane ps (planeW f planeNo - 1) (planeH f planeNo - 1))
+      → WindowAnswer p (onePixel (lentW p - 1) (lentH p - 1) mode) scratch r b o s l d
+      → (r ≡ 0) × (l ≡ 1) × (getD (partOf (answered r b o s l) (p .plane) d) 0 0 ≡ pixel (p .plane) (p .stride) (lentW p - 1) (lentH p - 1))
   last-named modes scratch room a =
-      let w = side-some planeNo (f .«ss_hor») (f .«luma_w») (lent .wide .0) in
-      let h = side-some planeNo (f .«ss_ver») (f .«luma_h») (lent .high .0) in
+      let w = side-some (p .planeNo) (p .frame .«ss_hor») (p .frame .«luma_w») (ok .wide .0) in
+      let h = side-some (p .planeNo) (p .frame .«ss_ver») (p .frame .«luma_h») (ok .high .0) in
       window-names (omega arith) (omega arith) modes scratch room a
 
 -- ---- a picture of 641 x 9 with both flags
@@ -194,8 +214,12 @@ cropped-sides : (planeW cropped 1 ≡ 321) × (planeH cropped 1 ≡ 5)
 unfolding planeSide
 cropped-sides = (refl, refl)
 
--- the premises above are met by every chroma plane of it without gaps, 5 rows of 321
-cropped-lent : (plane : List ℕ) → 1605 ≤ length plane → LentPlane cropped 1 plane 321
+-- a chroma plane of it without gaps
+abbrev croppedPlane : (plane : List ℕ) → LentPlane
+croppedPlane plane = record { frame = cropped; planeNo = 1; plane = plane; stride = 321 }
+
+-- every one of 5 rows of 321 meets the premises above
+cropped-lent : (plane : List ℕ) → 1605 ≤ length plane → Allowed (croppedPlane plane)
 unfolding planeSide flagsOk
 cropped-lent plane h =
     record {
@@ -207,10 +231,12 @@ cropped-lent plane h =
     }
 
 -- its last pixel, in column 320 of row 4, is the last of 5 rows of 321; it is handed out, and so is the row with it
-cropped-window : windowOf cropped 1 1605 321 0 1 1 (pos 320) (pos 4) 0 1 ≡ record { number = 0; buffer = 1; place = 1604; stride = 321; len = 1 }
+cropped-window : (plane : List ℕ) → length plane ≡ 1605
+    → windowOf (croppedPlane plane) (onePixel 320 4 0) 1 ≡ record { number = 0; buffer = 1; place = 1604; stride = 321; len = 1 }
 unfolding windowOf windowAt orSame need sizeOk strideOk placeOk holds flagsOk planeSide frameSizesOk frameNamesOk before after isPlanes inside
-cropped-window = refl
+cropped-window plane l = rw l refl
 
-cropped-row : rowAt cropped 1 1605 321 (pos 4) ≡ record { number = 0; buffer = 1; place = 1284; stride = 321; len = 321 }
+cropped-row : (plane : List ℕ) → length plane ≡ 1605
+    → rowAt (croppedPlane plane) (pos 4) ≡ record { number = 0; buffer = 1; place = 1284; stride = 321; len = 321 }
 unfolding rowAt orSame need strideOk sizeOk holds flagsOk planeSide frameSizesOk frameNamesOk
-cropped-row = refl
+cropped-row plane l = rw l refl

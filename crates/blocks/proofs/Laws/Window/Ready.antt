@@ -7,19 +7,23 @@ use native.Mathlib.Omega.{arith}
 use borrow.Author.Tests.{leb-true}
 use lib.Dec.{leb, eqb}
 use lib.IntN.{ℤ, pos, natAbs}
+use lib.ListN.{length}
 use mir.Syntax.{w64}
 use mir.Val.{SFits}
 use Rattle.rows.specs.Numbers.{up}
-use Rattle.rows.specs.Places.{pick, fill}
+use Rattle.rows.specs.Places.{rowOf, pick, fill}
 use Rattle.rows.specs.Edge.{edge}
 use Rattle.rows.proofs.Laws.Numbers.Signed.{abs-sub, fit-abs}
+use Rattle.rows.proofs.Laws.Blocks.Places.{length-rowOf}
 use Rattle.rows.proofs.Laws.Blocks.Fill.{and-true}
 use Rattle.blocks.specs.Refuse.{Test, size, stride, number, read, written, _asks_, lowest, orSame, sizeOk, blockSide, strideOk, partLen, holds, holdsAll}
 use Rattle.blocks.specs.Edge.{placeOk}
 use Rattle.blocks.specs.inner.Ready.{Fetch}
-use Rattle.blocks.specs.Window.{planeW, planeH, planeSide, frameSizesOk, frameNamesOk, eightTaps, before, after, windowSide, windowStart, windowTests, isPlanes, ownPlane, windowAt, noPart, windowOf, fetched, scratchOf, PartAnswer}
-use Rattle.blocks.specs.inner.Window.{areaOf, areaAt, areaFetched}
-use Rattle.blocks.proofs.Laws.Calls.Refuse.{all-met, later, sooner, size-met, holds-met, done, refused}
+use Rattle.blocks.specs.Window.{planeW, planeH, planeSide, frameSizesOk, frameNamesOk, LentPlane, lentW, lentH, eightTaps, before, after, windowSide}
+use Rattle.blocks.specs.Window.{windowStart, Asked, windowTests, areaOf, isPlanes, ownPlane, windowAt, noPart, windowOf, fetched, scratchOf}
+use Rattle.blocks.specs.Window.{PartAnswer}
+use Rattle.blocks.specs.inner.Window.{areaAt, areaFetched}
+use Rattle.blocks.proofs.Laws.Calls.Refuse.{Met, all-met, met-all, later, sooner, size-met, holds-met, done, refused}
 use Rattle.blocks.proofs.Laws.Calls.Ready.{rows-met}
 use Rattle.blocks.proofs.Laws.Edge.Ready.{place-met}
 use Rattle.blocks.specs.declared.frame.Area.{Area}
@@ -50,42 +54,82 @@ side-le planeNo flag luma = go (eqb planeNo 1 && flag) (omega arith) where
   go true h = h
   go false h = omega arith
 
+-- ---- a plane of n places: a function that is handed only the number speaks of each of them
+pub plane-of : (n : ℕ) → (plane : List ℕ) × (length plane ≡ n)
+plane-of n = (rowOf n (λ i. 0), length-rowOf n (λ i. 0))
+
 -- ---- the first part of the tests
-abbrev pub sizeTests : (f : Frame) (planeNo planeStride w h : ℕ) → List Test
-sizeTests f planeNo planeStride w h =
-    size asks frameSizesOk f planeNo
-    ∷ size asks sizeOk blockSide w
-    ∷ size asks sizeOk blockSide h
-    ∷ stride asks strideOk (planeW f planeNo) planeStride
+abbrev pub sizeTests : LentPlane → Asked → List Test
+sizeTests p q =
+    size asks frameSizesOk (p .frame) (p .planeNo)
+    ∷ size asks sizeOk blockSide (q .w)
+    ∷ size asks sizeOk blockSide (q .h)
+    ∷ stride asks strideOk (lentW p) (p .stride)
     ∷ []
 
-pub sizes-small : (f : Frame) (planeNo ps w h : ℕ) → lowest (sizeTests f planeNo ps w h) ≡ 0 → (w ≤ 64) × (h ≤ 64)
-sizes-small f planeNo ps w h e =
-    let m = all-met (sizeTests f planeNo ps w h) e in
-    (size-met 64 w (m .1 .0) .1, size-met 64 h (m .1 .1 .0) .1)
+pub sizes-small : (p : LentPlane) (q : Asked) → lowest (sizeTests p q) ≡ 0 → (q .w ≤ 64) × (q .h ≤ 64)
+sizes-small p q e =
+    let (frame, (width, (height, rest))) = all-met (sizeTests p q) e in
+    (size-met 64 (q .w) width .1, size-met 64 (q .h) height .1)
 
 -- and the second
-abbrev pub otherTests : (f : Frame) (planeNo pl planeStride kind w h : ℕ) (x y : ℤ) (mode sl : ℕ) → List Test
-otherTests f planeNo pl planeStride kind w h x y mode sl =
-    number asks frameNamesOk f planeNo
-    ∷ number asks leb kind 3
-    ∷ number asks placeOk x
-    ∷ number asks placeOk y
-    ∷ number asks leb mode 1
-    ∷ read asks holds pl planeStride (planeW f planeNo) (planeH f planeNo)
-    ∷ written asks holdsAll sl (windowSide kind w) (windowSide kind h)
+abbrev pub otherTests : LentPlane → Asked → (sl : ℕ) → List Test
+otherTests p q sl =
+    number asks frameNamesOk (p .frame) (p .planeNo)
+    ∷ number asks leb (q .kind) 3
+    ∷ number asks placeOk (q .x)
+    ∷ number asks placeOk (q .y)
+    ∷ number asks leb (q .mode) 1
+    ∷ read asks holds (length (p .plane)) (p .stride) (lentW p) (lentH p)
+    ∷ written asks holdsAll sl (windowSide (q .kind) (q .w)) (windowSide (q .kind) (q .h))
     ∷ []
 
-module _ (f : Frame) (planeNo pl ps kind w h : ℕ) (x y : ℤ) (mode sl : ℕ) where
-  pub window-stop : (lowest (sizeTests f planeNo ps w h) ≡ 0 → ⊥)
-      → lowest (sizeTests f planeNo ps w h) ≡ lowest (windowTests f planeNo pl ps kind w h x y mode sl)
-  window-stop other = sooner (sizeTests f planeNo ps w h) (lowest (otherTests f planeNo pl ps kind w h x y mode sl)) other
+module _ (p : LentPlane) (q : Asked) (sl : ℕ) where
+  pub window-stop : (lowest (sizeTests p q) ≡ 0 → ⊥) → lowest (sizeTests p q) ≡ lowest (windowTests p q sl)
+  window-stop other = sooner (sizeTests p q) (lowest (otherTests p q sl)) other
 
-  pub window-go : lowest (sizeTests f planeNo ps w h) ≡ 0
-      → lowest (otherTests f planeNo pl ps kind w h x y mode sl) ≡ lowest (windowTests f planeNo pl ps kind w h x y mode sl)
-  window-go e = later (sizeTests f planeNo ps w h) (lowest (otherTests f planeNo pl ps kind w h x y mode sl)) e
+  pub window-go : lowest (sizeTests p q) ≡ 0 → lowest (otherTests p q sl) ≡ lowest (windowTests p q sl)
+  window-go e = later (sizeTests p q) (lowest (otherTests p q sl)) e
 
 -- ---- what number 0 gives
+-- each test by its name
+pub record WindowMet (p : LentPlane) (q : Asked) (sl : ℕ) : Type 0 where
+  pub frame : frameSizesOk (p .frame) (p .planeNo) ≡ true
+  pub width : sizeOk blockSide (q .w) ≡ true
+  pub height : sizeOk blockSide (q .h) ≡ true
+  pub carries : strideOk (lentW p) (p .stride) ≡ true
+  pub names : frameNamesOk (p .frame) (p .planeNo) ≡ true
+  pub kind : leb (q .kind) 3 ≡ true
+  pub across : placeOk (q .x) ≡ true
+  pub down : placeOk (q .y) ≡ true
+  pub mode : leb (q .mode) 1 ≡ true
+  pub plane : holds (length (p .plane)) (p .stride) (lentW p) (lentH p) ≡ true
+  pub scratch : holdsAll sl (windowSide (q .kind) (q .w)) (windowSide (q .kind) (q .h)) ≡ true
+
+pub window-met : (p : LentPlane) (q : Asked) (sl : ℕ) → lowest (windowTests p q sl) ≡ 0 → WindowMet p q sl
+window-met p q sl e =
+    let (frame, (width, (height, (carries, others)))) = all-met (windowTests p q sl) e in
+    let (names, (kind, (across, (down, (mode, (plane, (scratch, none))))))) = others in
+    record {
+      frame = frame;
+      width = width;
+      height = height;
+      carries = carries;
+      names = names;
+      kind = kind;
+      across = across;
+      down = down;
+      mode = mode;
+      plane = plane;
+      scratch = scratch;
+    }
+
+-- and it is given where they are met
+pub met-window : (p : LentPlane) (q : Asked) (sl : ℕ) → WindowMet p q sl → lowest (windowTests p q sl) ≡ 0
+met-window p q sl m =
+    let numbers : Met (otherTests p q sl) = (m .names, (m .kind, (m .across, (m .down, (m .mode, (m .plane, (m .scratch, tt))))))) in
+    met-all (windowTests p q sl) (m .frame, (m .width, (m .height, (m .carries, numbers))))
+
 pub frame-met : (f : Frame) (planeNo : ℕ) → frameSizesOk f planeNo ≡ true
     → (1 ≤ planeW f planeNo) × (planeW f planeNo ≤ 16384) × (1 ≤ planeH f planeNo) × (planeH f planeNo ≤ 16384)
 unfolding frameSizesOk
@@ -102,36 +146,38 @@ frame-met f planeNo e =
     )
 
 -- the window is an area of the endless plane that fits in scratch
-module _ (f : Frame) (planeNo pl ps kind w h : ℕ) (x y : ℤ) (mode sl : ℕ) (e : lowest (windowTests f planeNo pl ps kind w h x y mode sl) ≡ 0) where
-  pub window-small : (w ≤ 64) × (h ≤ 64) × (natAbs x ≤ 2 ^ 30) × (natAbs y ≤ 2 ^ 30)
+module _ (p : LentPlane) (q : Asked) (sl : ℕ) (e : lowest (windowTests p q sl) ≡ 0) where
+  pub window-small : (q .w ≤ 64) × (q .h ≤ 64) × (natAbs (q .x) ≤ 2 ^ 30) × (natAbs (q .y) ≤ 2 ^ 30)
   window-small =
-      let t = all-met (windowTests f planeNo pl ps kind w h x y mode sl) e in
-      let n = t .1 .1 .1 .1 .1 .1 in
-      (size-met 64 w (t .1 .0) .1, size-met 64 h (t .1 .1 .0) .1, place-met x (n .0), place-met y (n .1 .0))
+      let m = window-met p q sl e in
+      (size-met 64 (q .w) (m .width) .1, size-met 64 (q .h) (m .height) .1, place-met (q .x) (m .across), place-met (q .y) (m .down))
 
-  pub window-ready : Fetch (areaOf f planeNo kind w h x y) sl (windowSide kind w) pl ps
+  pub window-ready : Fetch (areaOf p q) sl (windowSide (q .kind) (q .w)) (length (p .plane)) (p .stride)
   window-ready =
-      let t = all-met (windowTests f planeNo pl ps kind w h x y mode sl) e in
-      let p = frame-met f planeNo (t .0) in
-      let a = size-met 64 w (t .1 .0) in
-      let b = size-met 64 h (t .1 .1 .0) in
-      let s = t .1 .1 .1 in
-      let r = s .1 .1 .1 .1 .1 .1 in
+      let m = window-met p q sl e in
+      let f = frame-met (p .frame) (p .planeNo) (m .frame) in
+      let a = size-met 64 (q .w) (m .width) in
+      let b = size-met 64 (q .h) (m .height) in
+      let g = margins (q .kind) in
       record {
         area = record {
           ww1 = omega (arith, a);
-          ww128 = omega (arith, a, margins kind);
+          ww128 = omega (arith, a, g);
           wh1 = omega (arith, b);
-          wh128 = omega (arith, b, margins kind);
-          iw1 = p .0;
-          iw14 = p .1;
-          ih1 = p .2;
-          ih14 = p .3;
-          left = start-near kind x (window-small .2);
-          top = start-near kind y (window-small .3);
+          wh128 = omega (arith, b, g);
+          iw1 = f .0;
+          iw14 = f .1;
+          ih1 = f .2;
+          ih14 = f .3;
+          left = start-near (q .kind) (q .x) (window-small .2);
+          top = start-near (q .kind) (q .y) (window-small .3);
         };
-        dst = record { wide = omega arith; most = omega (arith, a, margins kind); fits = holds-met sl (windowSide kind w) (windowSide kind w) (windowSide kind h) (r .1 .0) };
-        plane = rows-met pl ps (planeW f planeNo) (planeH f planeNo) (s .0) (r .0);
+        dst = record {
+          wide = omega arith;
+          most = omega (arith, a, g);
+          fits = holds-met sl (windowSide (q .kind) (q .w)) (windowSide (q .kind) (q .w)) (windowSide (q .kind) (q .h)) (m .scratch);
+        };
+        plane = rows-met (length (p .plane)) (p .stride) (lentW p) (lentH p) (m .carries) (m .plane);
       }
 
 -- ---- the answer
@@ -144,80 +190,75 @@ pub part-answer : {p q : Part} → p ≡ q → PartAnswer q (p .number) (p .buff
 part-answer e = rw e (refl, refl, refl, refl, refl)
 
 -- the number of an answer, whether the plane has the window or not
-pub answer-number : (n : ℕ) (planes : Bool) (ps ww wh : ℕ) (x y : ℤ) → orSame n (windowAt planes ps ww wh x y) (noPart n) .number ≡ n
+pub answer-number : (n : ℕ) (planes : Bool) (ps : ℕ) (a : Area) → orSame n (windowAt planes ps a) (noPart n) .number ≡ n
 unfolding windowAt orSame
-answer-number zero true ps ww wh x y = refl
-answer-number zero false ps ww wh x y = refl
-answer-number (suc n) planes ps ww wh x y = refl
+answer-number zero true ps a = refl
+answer-number zero false ps a = refl
+answer-number (suc n) planes ps a = refl
 
-module _ (f : Frame) (planeNo pl ps kind w h : ℕ) (x y : ℤ) (mode sl : ℕ) where
+module _ (p : LentPlane) (q : Asked) (sl : ℕ) where
   -- it is the tests'
-  pub window-number : windowOf f planeNo pl ps kind w h x y mode sl .number ≡ lowest (windowTests f planeNo pl ps kind w h x y mode sl)
+  pub window-number : windowOf p q sl .number ≡ lowest (windowTests p q sl)
   unfolding windowOf
-  window-number = answer-number (lowest (windowTests f planeNo pl ps kind w h x y mode sl)) (ownPlane f planeNo kind w h x y mode) _ _ _ _ _
+  window-number = answer-number (lowest (windowTests p q sl)) (ownPlane p q) (p .stride) (areaOf p q)
 
   -- where they are met, the answer is where the area lies
-  pub window-is : lowest (windowTests f planeNo pl ps kind w h x y mode sl) ≡ 0
-      → areaAt (areaOf f planeNo kind w h x y) mode ps ≡ windowOf f planeNo pl ps kind w h x y mode sl
+  pub window-is : lowest (windowTests p q sl) ≡ 0 → areaAt (areaOf p q) (q .mode) (p .stride) ≡ windowOf p q sl
   unfolding windowOf
   window-is e = sym (done _ _ _ e)
 
--- ---- an accepted call as the code has it: the area a, the part p and scratch d at the end
-pub record Accepted (f : Frame) (planeNo pl ps kind w h : ℕ) (x y : ℤ) (mode sl : ℕ) : Type 0 where
-  pub is : lowest (windowTests f planeNo pl ps kind w h x y mode sl) ≡ 0
+-- ---- an accepted call as the code has it: the area a, the part r and scratch d at the end
+pub record Accepted (p : LentPlane) (q : Asked) (sl : ℕ) : Type 0 where
+  pub is : lowest (windowTests p q sl) ≡ 0
 
-module _ {f : Frame} {planeNo pl ps kind w h : ℕ} {x y : ℤ} {mode sl : ℕ} (ok : Accepted f planeNo pl ps kind w h x y mode sl) where
-  pub accepted-small : (w ≤ 64) × (h ≤ 64) × (natAbs x ≤ 2 ^ 30) × (natAbs y ≤ 2 ^ 30)
-  accepted-small = window-small f planeNo pl ps kind w h x y mode sl (ok .is)
+module _ {p : LentPlane} {q : Asked} {sl : ℕ} (ok : Accepted p q sl) where
+  pub accepted-small : (q .w ≤ 64) × (q .h ≤ 64) × (natAbs (q .x) ≤ 2 ^ 30) × (natAbs (q .y) ≤ 2 ^ 30)
+  accepted-small = window-small p q sl (ok .is)
 
-  module _ {a : Area} (is : a ≡ areaOf f planeNo kind w h x y) where
-    pub accepted-ready : Fetch a sl (a .ww) pl ps
-    accepted-ready = rw is (window-ready f planeNo pl ps kind w h x y mode sl (ok .is))
+  module _ {a : Area} (is : a ≡ areaOf p q) where
+    pub accepted-ready : Fetch a sl (a .ww) (length (p .plane)) (p .stride)
+    accepted-ready = rw is (window-ready p q sl (ok .is))
 
-    pub accepted-part : {p : Part} → p ≡ areaAt a mode ps → p ≡ windowOf f planeNo pl ps kind w h x y mode sl
-    accepted-part q = q ∙ rw is (window-is f planeNo pl ps kind w h x y mode sl (ok .is))
+    pub accepted-part : {r : Part} → r ≡ areaAt a (q .mode) (p .stride) → r ≡ windowOf p q sl
+    accepted-part e = e ∙ rw is (window-is p q sl (ok .is))
 
-    pub accepted-scratch : (plane scratch : List ℕ) {p : Part} {d : List ℕ} → p ≡ areaAt a mode ps → d ≡ areaFetched a plane ps mode scratch
-        → d ≡ scratchOf (p .number) f planeNo plane ps kind w h x y mode scratch
+    pub accepted-scratch : (scratch : List ℕ) {r : Part} {d : List ℕ} → r ≡ areaAt a (q .mode) (p .stride)
+        → d ≡ areaFetched a (p .plane) (p .stride) (q .mode) scratch → d ≡ scratchOf (r .number) p q scratch
     unfolding scratchOf
-    accepted-scratch plane scratch {p} q full =
-        let n : p .number ≡ 0 = ap (λ (v : Part). v .number) (accepted-part q) ∙ window-number f planeNo pl ps kind w h x y mode sl ∙ ok .is in
+    accepted-scratch scratch {r} e full =
+        let n : r .number ≡ 0 = ap (λ (v : Part). v .number) (accepted-part e) ∙ window-number p q sl ∙ ok .is in
         full ∙ rw is (sym (done _ _ _ n))
 
 -- a refused call leaves scratch as it was
-pub scratch-kept : (n : ℕ) (f : Frame) (planeNo : ℕ) (plane : List ℕ) (ps kind w h : ℕ) (x y : ℤ) (mode : ℕ) (scratch : List ℕ) → (n ≡ 0 → ⊥)
-    → scratch ≡ scratchOf n f planeNo plane ps kind w h x y mode scratch
+pub scratch-kept : (n : ℕ) (p : LentPlane) (q : Asked) (scratch : List ℕ) → (n ≡ 0 → ⊥) → scratch ≡ scratchOf n p q scratch
 unfolding scratchOf
-scratch-kept n f planeNo plane ps kind w h x y mode scratch other = sym (refused n _ scratch other)
+scratch-kept n p q scratch other = sym (refused n _ scratch other)
 
 -- ---- where an area lies, by whether the plane has it
-in-scratch : (planes : Bool) (ps ww wh : ℕ) (x y : ℤ) → windowAt planes ps ww wh x y .buffer ≡ 2 → planes ≡ false
+in-scratch : (planes : Bool) (ps : ℕ) (a : Area) → windowAt planes ps a .buffer ≡ 2 → planes ≡ false
 unfolding windowAt
-in-scratch true ps ww wh x y e = absurd (omega arith)
-in-scratch false ps ww wh x y e = refl
+in-scratch true ps a e = absurd (omega arith)
+in-scratch false ps a e = refl
 
-in-plane : (planes : Bool) (ps ww wh : ℕ) (x y : ℤ) → (windowAt planes ps ww wh x y .buffer ≡ 2 → ⊥) → planes ≡ true
+in-plane : (planes : Bool) (ps : ℕ) (a : Area) → (windowAt planes ps a .buffer ≡ 2 → ⊥) → planes ≡ true
 unfolding windowAt
-in-plane true ps ww wh x y e = refl
-in-plane false ps ww wh x y e = absurd (e refl)
+in-plane true ps a e = refl
+in-plane false ps a e = absurd (e refl)
 
-pub own-at : (planes : Bool) (ps ww wh : ℕ) (x y : ℤ) {row column size : ℕ} → planes ≡ true → row ≡ up y → column ≡ up x → size ≡ partLen ps ww wh
-    → _≡_ {A = Part} (record { number = 0; buffer = 1; place = row * ps + column; stride = ps; len = size }) (windowAt planes ps ww wh x y)
+pub own-at : (planes : Bool) (ps : ℕ) (a : Area) {row column size : ℕ} → planes ≡ true → row ≡ up (a .top) → column ≡ up (a .left)
+    → size ≡ partLen ps (a .ww) (a .wh)
+    → _≡_ {A = Part} (record { number = 0; buffer = 1; place = row * ps + column; stride = ps; len = size }) (windowAt planes ps a)
 unfolding windowAt
-own-at planes ps ww wh x y e r c l = rw (e, r, c, l) refl
+own-at planes ps a e r c l = rw (e, r, c, l) refl
 
 module _ (a : Area) (mode ps : ℕ) {p : Part} (is : p ≡ areaAt a mode ps) (plane scratch : List ℕ) where
   -- scratch is filled
   pub area-filled : {d : List ℕ} → p .buffer ≡ 2 → d ≡ fill scratch (a .ww) (a .ww) (a .wh) (edge plane ps (a .iw) (a .ih) (a .left) (a .top))
       → d ≡ areaFetched a plane ps mode scratch
   unfolding fetched
-  area-filled two full =
-      let b = in-scratch (isPlanes mode (a .ww) (a .wh) (a .iw) (a .ih) (a .left) (a .top)) ps (a .ww) (a .wh) (a .left) (a .top) (rw is at two) in
-      full ∙ rw b refl
+  area-filled two full = let b = in-scratch (isPlanes mode a) ps a (rw is at two) in full ∙ rw b refl
 
   -- or stays as it was
   pub area-kept : (p .buffer ≡ 2 → ⊥) → scratch ≡ areaFetched a plane ps mode scratch
   unfolding fetched
-  area-kept other =
-      let b = in-plane (isPlanes mode (a .ww) (a .wh) (a .iw) (a .ih) (a .left) (a .top)) ps (a .ww) (a .wh) (a .left) (a .top) (rw is at other) in
-      rw b refl
+  area-kept other = let b = in-plane (isPlanes mode a) ps a (rw is at other) in rw b refl

@@ -6,16 +6,16 @@ use native.Mathlib.Omega.{arith}
 use borrow.Author.Tests.{ltb-true, le-leb}
 use lib.Dec.{ltb}
 use lib.IntN.{ℤ, pos, negsuc}
+use lib.ListN.{length}
 use lib.Signed.{leZ, ltZ}
 use Rattle.rows.specs.Numbers.{up}
 use Rattle.rows.proofs.Laws.Numbers.Signed.{le-yes, lt-yes, lt-no, one-part}
 use Rattle.rows.proofs.Laws.Blocks.Fill.{and-true}
 use Rattle.rows.proofs.Laws.Blocks.Places.{row-fits}
-use Rattle.blocks.specs.Refuse.{lowest, orSame}
+use Rattle.blocks.specs.Refuse.{lowest, orSame, strideOk, holds}
 use Rattle.blocks.specs.inner.Ready.{PartIn}
-use Rattle.blocks.specs.Window.{planeW, planeH, rowTests, noPart, rowAt}
-use Rattle.blocks.proofs.Laws.Calls.Refuse.{all-met, holds-met}
-use Rattle.blocks.specs.declared.frame.Frame.{Frame}
+use Rattle.blocks.specs.Window.{frameSizesOk, frameNamesOk, LentPlane, lentW, lentH, rowTests, noPart, rowAt}
+use Rattle.blocks.proofs.Laws.Calls.Refuse.{all-met, met-all, holds-met}
 
 -- ---- a row below 0 is none of h rows, and another is where it is below h
 pub below-none : (row : ℤ) (h : ℕ) → ltZ row (pos 0) ≡ true → false ≡ leZ (pos 0) row && ltZ row (pos h)
@@ -26,19 +26,36 @@ pub from-none : (row : ℤ) (h : ℕ) → ltZ row (pos 0) ≡ false → ltb (up 
 from-none (pos n) h e = rw (le-leb 0 n (omega arith)) refl
 from-none (negsuc n) h e = absurd (omega (arith, lt-no (negsuc n) (pos 0) e))
 
--- ---- an accepted row is there
-module _ (f : Frame) (planeNo pl ps : ℕ) (row : ℤ) where
-  pub row-there : lowest (rowTests f planeNo pl ps row) ≡ 0 → up row * ps + planeW f planeNo ≤ pl
-  row-there e =
-      let t = all-met (rowTests f planeNo pl ps row) e in
-      let r = and-true (leZ (pos 0) row) _ (t .1 .1 .1 .0) in
-      row-fits pl ps (planeW f planeNo) (planeH f planeNo) (up row) (holds-met pl ps (planeW f planeNo) (planeH f planeNo) (t .1 .1 .1 .1 .0))
-      (omega (arith, le-yes (pos 0) row (r .0), lt-yes row (pos (planeH f planeNo)) (r .1), one-part row))
+-- ---- what number 0 gives, each test by its name
+pub record RowMet (p : LentPlane) (row : ℤ) : Type 0 where
+  pub frame : frameSizesOk (p .frame) (p .planeNo) ≡ true
+  pub carries : strideOk (lentW p) (p .stride) ≡ true
+  pub names : frameNamesOk (p .frame) (p .planeNo) ≡ true
+  pub there : leZ (pos 0) row && ltZ row (pos (lentH p)) ≡ true
+  pub plane : holds (length (p .plane)) (p .stride) (lentW p) (lentH p) ≡ true
 
-  pub row-in-plane : (sl : ℕ) → PartIn (rowAt f planeNo pl ps row) pl sl
+module _ (p : LentPlane) (row : ℤ) where
+  pub row-met : lowest (rowTests p row) ≡ 0 → RowMet p row
+  row-met e =
+      let (frame, (carries, (names, (there, (plane, none))))) = all-met (rowTests p row) e in
+      record { frame = frame; carries = carries; names = names; there = there; plane = plane }
+
+  pub met-row : RowMet p row → lowest (rowTests p row) ≡ 0
+  met-row m = met-all (rowTests p row) (m .frame, (m .carries, (m .names, (m .there, (m .plane, tt)))))
+
+  -- an accepted row is there
+  pub row-there : lowest (rowTests p row) ≡ 0 → up row * p .stride + lentW p ≤ length (p .plane)
+  row-there e =
+      let m = row-met e in
+      let r = and-true (leZ (pos 0) row) _ (m .there) in
+      row-fits (length (p .plane)) (p .stride) (lentW p) (lentH p) (up row) (holds-met (length (p .plane)) (p .stride) (lentW p) (lentH p) (m .plane))
+      (omega (arith, le-yes (pos 0) row (r .0), lt-yes row (pos (lentH p)) (r .1), one-part row))
+
+  pub row-in-plane : (sl : ℕ) → PartIn (rowAt p row) (length (p .plane)) sl
   unfolding rowAt orSame
-  row-in-plane sl = go (lowest (rowTests f planeNo pl ps row)) row-there where
-    go : (n : ℕ) → (n ≡ 0 → up row * ps + planeW f planeNo ≤ pl)
-        → PartIn (orSame n (record { number = 0; buffer = 1; place = up row * ps; stride = ps; len = planeW f planeNo }) (noPart n)) pl sl
+  row-in-plane sl = go (lowest (rowTests p row)) row-there where
+    go : (n : ℕ) → (n ≡ 0 → up row * p .stride + lentW p ≤ length (p .plane))
+        → PartIn (orSame n (record { number = 0; buffer = 1; place = up row * p .stride; stride = p .stride; len = lentW p }) (noPart n))
+        (length (p .plane)) sl
     go zero there = record { plane = λ e. there refl; scratch = λ e. absurd (omega arith) }
     go (suc n) there = record { plane = λ e. absurd (omega arith); scratch = λ e. absurd (omega arith) }

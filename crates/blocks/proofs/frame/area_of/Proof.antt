@@ -21,7 +21,7 @@ top-is c =
     backs w64 (rw (back (s .fits .y)) at (c .window-start2 .ensures)) (start-fits (s .args .kind) (s .args .y) (s .pre .3))
 
 returns : tie.Need-returns
-returns c =
+returns c plane mode =
     let l = c .before in let p = l .before in let t = p .before .before in
     rw (top-is c, left-is l, p .plane-h .ensures, p .before .plane-w .ensures, t .window-side2 .ensures, t .before .window-side .ensures) refl
 

@@ -1,56 +1,71 @@
 use mathlib.Core.Path.{_≡_, sym, _∙_}
+use mathlib.Core.List.{List, []}
+use Prim.Native.Nat.{ℕ}
 use mir.Syntax.{w64}
 use borrow.Author.Needs.{needs}
 use Rattle.rows.proofs.Laws.Numbers.Signed.{back, fit}
 use Rattle.blocks.specs.Refuse.{lowest}
-use Rattle.blocks.proofs.Laws.Order.Ready.{shapeTests, numberTests, shape-small, numbers-motion, shape-stop, numbers-stop, order-go}
+use Rattle.blocks.specs.Window.{LentPlane}
+use Rattle.blocks.specs.Order.{Tables, Setting}
+use Rattle.blocks.specs.inner.Window.{lentOf}
+use Rattle.blocks.specs.inner.Order.{settingOf}
+use Rattle.blocks.proofs.Laws.Order.Ready.{shapeTests, numberTests, shape-met, numbers-met, shape-block, shape-stop, numbers-stop, order-go}
 use Rattle.blocks.proofs.order.check_order.Statement.{statement}
 use Rattle.blocks.proofs.order.check_order.Tie as tie
 
+-- the plane that is lent. The first two parts of the tests read none of its places
+abbrev named : tie.Start → LentPlane
+named c = lentOf (c .args .lent) []
+
 -- what the first part answers
-shape : (c : tie.After-order-shape) → let a = c .before .args in
-    c .order-shape .result ≡ lowest (shapeTests (a .lent .frame) (a .lent .«plane_no») (a .lent .stride) (a .o) (a .dst-stride))
+shape : (c : tie.After-order-shape) → let s = c .before in
+    c .order-shape .result ≡ lowest (shapeTests (named s) (s .args .o) (s .args .dst-stride))
 shape c = c .order-shape .ensures
 
-none : (c : tie.Else1) → let a = c .before .before .args in lowest (shapeTests (a .lent .frame) (a .lent .«plane_no») (a .lent .stride) (a .o)
-    (a .dst-stride)) ≡ 0
+none : (c : tie.Else1) → let s = c .before .before in lowest (shapeTests (named s) (s .args .o) (s .args .dst-stride)) ≡ 0
 none c = sym (shape (c .before)) ∙ c .if1 .left
 
 -- and the second
-numbers : (c : tie.After-order-numbers) → let a = c .before .before .before .before .before .args in
-    c .order-numbers .result ≡ lowest (numberTests (a .deep) (a .named) (a .lent .frame) (a .lent .«plane_no») (a .o))
+numbers : (c : tie.After-order-numbers) → let s = c .before .before .before .before .before in
+    c .order-numbers .result ≡ lowest (numberTests (s .args .deep) (s .args .named) (named s) (s .args .o))
 numbers c =
     let g = c .before .before .struct-told .given in
     rw (back (fit w64 (g .0 .1)), back (fit w64 (g .1 .0 .1))) at (c .order-numbers .ensures)
 
-no-number : (c : tie.Else2) → let a = c .before .before .before .before .before .before .args in lowest (numberTests (a .deep) (a .named)
-    (a .lent .frame) (a .lent .«plane_no») (a .o)) ≡ 0
+no-number : (c : tie.Else2) → let s = c .before .before .before .before .before .before in
+    lowest (numberTests (s .args .deep) (s .args .named) (named s) (s .args .o)) ≡ 0
 no-number c = sym (numbers (c .before)) ∙ c .if2 .left
 
+-- what is tested: a setting of any depth, plane and tables of the lengths that are handed
+abbrev tested : tie.Start → (depth : ℕ) (plane : List ℕ) → Tables → Setting
+tested c depth plane t = settingOf (c .args .deep) depth (c .args .lent) plane t
+
 returns : tie.Need-returns
-returns c = let e = shape (c .before) in e ∙ shape-stop _ _ _ _ _ _ _ _ _ _ _ _ _ (λ q. c .if1 .taken (e ∙ q))
+returns c depth plane tables l t =
+    let e = shape (c .before) in
+    e ∙ shape-stop (tested (c .before .before) depth plane tables) _ _ _ _ _ (λ q. c .if1 .taken (e ∙ q))
 
 returns-2 : tie.Need-returns-2
-returns-2 c =
-    let e = numbers (c .before) in
-    e ∙ numbers-stop _ _ _ _ _ _ _ _ _ _ _ _ _ (none (c .before .before .before .before)) (λ q. c .if2 .taken (e ∙ q))
+returns-2 c depth plane tables l t =
+    let e = numbers (c .before) in let n = c .before .before .before .before in
+    e ∙ numbers-stop (tested (n .before .before) depth plane tables) _ _ _ _ _ (none n) (λ q. c .if2 .taken (e ∙ q))
 
 window-held-requires : tie.Need-window-held-requires
 window-held-requires c κs =
-    let e = c .before .before .before .before .before .before in
-    let b = shape-small _ _ _ (e .before .before .args .o) _ (none e) in
+    let e = c .before .before .before .before .before .before in let s = e .before .before in
+    let b = shape-block (shape-met (named s) (s .args .o) _ (none e)) in
     (b .w64, b .h64)
 
 order-tables-requires : tie.Need-order-tables-requires
 order-tables-requires c κs =
-    let e = c .before .before .before in
-    numbers-motion _ _ _ _ (e .before .before .before .before .before .before .args .o) (no-number e)
+    let e = c .before .before .before in let s = e .before .before .before .before .before .before in
+    numbers-met _ _ (named s) (s .args .o) (no-number e) .motion
 
 returns-3 : tie.Need-returns-3
-returns-3 c =
-    let h = c .before .before .before in let t = h .before in
-    rw (c .order-tables .ensures, c .before .window-held .ensures, c .before .before .kind-number .ensures, h .held .ensures)
-    (order-go _ _ _ _ _ _ _ _ _ _ _ _ _ (none (t .before .before .before .before)) (no-number t))
+returns-3 c depth plane tables l t =
+    let h = c .before .before .before in let n = h .before in let e = n .before .before .before .before in
+    rw (c .order-tables .ensures, c .before .window-held .ensures, c .before .before .kind-number .ensures, h .held .ensures, ← l, ← t)
+    (order-go (tested (e .before .before) depth plane tables) _ _ _ _ _ (none e) (no-number n))
 
 pub check-order-spec : {M : Type 1} → statement M
 check-order-spec =

@@ -5,7 +5,7 @@ use Rattle.blocks.proofs.plane_row.check_row.Statement.{statement}
 use Rattle.blocks.proofs.plane_row.check_row.Tie as tie
 
 returns : tie.Need-returns
-returns c =
+returns c plane long =
     let s = c .before in let z = s .before in let n = z .before in let m = n .before in let r = m .before in
     let g = r .before in let d = g .before in let p = d .before in
     rw (
@@ -20,6 +20,7 @@ returns c =
       p .plane-h .ensures,
       p .before .plane-w .ensures,
       back (p .before .before .before .fits .row),
+      ← long,
     ) refl
 
 pub check-row-spec : {M : Type 1} → statement M

@@ -1,39 +1,48 @@
 use borrow.Author.Needs.{needs}
 use mathlib.Core.Path.{_≡_, sym, _∙_}
+use mathlib.Core.List.{List}
+use Prim.Native.Nat.{ℕ}
+use lib.ListN.{length}
 use Rattle.rows.proofs.Laws.Numbers.Signed.{back}
 use Rattle.blocks.specs.Refuse.{lowest}
-use Rattle.blocks.specs.Window.{windowTests, windowOf}
-use Rattle.blocks.specs.inner.Window.{areaOf}
-use Rattle.blocks.proofs.Laws.Window.Ready.{no-part-of, Accepted, accepted-small, accepted-ready, accepted-part}
+use Rattle.blocks.specs.Window.{windowTests, areaOf, windowOf}
+use Rattle.blocks.specs.inner.Window.{lentOf, asked}
+use Rattle.blocks.proofs.Laws.Window.Ready.{plane-of, no-part-of, Accepted, accepted-small, accepted-ready, accepted-part}
 use Rattle.blocks.proofs.window.find_window.Statement.{statement}
 use Rattle.blocks.proofs.window.find_window.Tie as tie
 
--- what the check answered is the number of the contract
-is : (c : tie.After-check-window) → let a = c .before .args in
-    c .check-window .result ≡ lowest (windowTests (a .lent .frame) (a .lent .«plane_no») (a .pl) (a .lent .stride) (a .kind) (a .w) (a .h) (a .x)
-    (a .y) (a .mode) (a .sl))
-is c = let f = c .before .fits in rw (back (f .x), back (f .y)) at (c .check-window .ensures)
+-- what the check answered is the number of the contract, of every plane of as many places
+is : (c : tie.After-check-window) (plane : List ℕ) → let a = c .before .args in length plane ≡ a .pl
+    → c .check-window .result ≡ lowest (windowTests (lentOf (a .lent) plane) (asked (a .kind) (a .w) (a .h) (a .x) (a .y) (a .mode)) (a .sl))
+is c plane l = let f = c .before .fits in rw (back (f .x), back (f .y)) at (c .check-window .ensures plane l)
 
 returns : tie.Need-returns
 unfolding windowOf
-returns c = let t = c .before in no-part-of _ (is (t .before)) (t .if1 .taken) (c .no-part .ensures)
+returns c plane l = let t = c .before in no-part-of _ (is (t .before) plane l) (t .if1 .taken) (c .no-part .ensures)
 
-accepted : (c : tie.Else1) → let a = c .before .before .args in
-    Accepted (a .lent .frame) (a .lent .«plane_no») (a .pl) (a .lent .stride) (a .kind) (a .w) (a .h) (a .x) (a .y) (a .mode) (a .sl)
-accepted c = record { is = sym (is (c .before)) ∙ c .if1 .left }
+accepted : (c : tie.Else1) (plane : List ℕ) → let a = c .before .before .args in length plane ≡ a .pl
+    → Accepted (lentOf (a .lent) plane) (asked (a .kind) (a .w) (a .h) (a .x) (a .y) (a .mode)) (a .sl)
+accepted c plane l = record { is = sym (is (c .before) plane l) ∙ c .if1 .left }
 
 area-of-requires : tie.Need-area-of-requires
-area-of-requires c κs = let f = c .before .before .fits in rw (back (f .x), back (f .y)) (accepted-small (accepted c))
+area-of-requires c κs =
+    let s = c .before .before in let (plane, long) = plane-of (s .args .pl) in
+    rw (back (s .fits .x), back (s .fits .y)) (accepted-small (accepted c plane long))
 
-area-is : (c : tie.After-area-of) → let a = c .before .before .before .args in
-    c .area-of .result ≡ areaOf (a .lent .frame) (a .lent .«plane_no») (a .kind) (a .w) (a .h) (a .x) (a .y)
-area-is c = let f = c .before .before .before .fits in rw (back (f .x), back (f .y)) at (c .area-of .ensures)
+area-is : (c : tie.After-area-of) (plane : List ℕ) → let a = c .before .before .before .args in
+    c .area-of .result ≡ areaOf (lentOf (a .lent) plane) (asked (a .kind) (a .w) (a .h) (a .x) (a .y) (a .mode))
+area-is c plane =
+    let s = c .before .before .before in
+    rw (back (s .fits .x), back (s .fits .y)) at (c .area-of .ensures plane (s .args .mode))
 
 locate-requires : tie.Need-locate-requires
-locate-requires c κs = let r = accepted-ready (accepted (c .before)) (area-is c) in (r .area, r .plane .most)
+locate-requires c κs =
+    let e = c .before in let (plane, long) = plane-of (e .before .before .args .pl) in
+    let r = accepted-ready (accepted e plane long) (area-is c plane) in
+    (r .area, r .plane .most)
 
 returns-2 : tie.Need-returns-2
-returns-2 c = let p = c .before in accepted-part (accepted (p .before)) (area-is p) (c .locate .ensures)
+returns-2 c plane l = let p = c .before in accepted-part (accepted (p .before) plane l) (area-is p plane) (c .locate .ensures)
 
 pub find-window-spec : {M : Type 1} → statement M
 find-window-spec =

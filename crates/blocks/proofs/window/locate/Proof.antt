@@ -35,7 +35,7 @@ add-place c =
 returns : tie.Need-returns
 returns c =
     let p = c .before in let r = p .before .before in let t = r .before .before in
-    own-at _ _ _ _ _ _ (sym (t .before .is-planes .ensures) ∙ t .if1 .taken) (row-is r) (column-is p) (c .part-len .ensures)
+    own-at _ _ _ (sym (t .before .is-planes .ensures) ∙ t .if1 .taken) (row-is r) (column-is p) (c .part-len .ensures)
 
 returns-2 : tie.Need-returns-2
 unfolding windowAt

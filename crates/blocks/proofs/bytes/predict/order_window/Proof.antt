@@ -1,14 +1,16 @@
 -- Made from crates/blocks/proofs/words/predict/order_window/Proof.antt by tools/sets: change that.
 use borrow.Author.Needs.{needs}
-use mathlib.Core.Path.{_≡_, sym, _∙_}
+use mathlib.Core.Path.{_≡_, refl, sym, _∙_}
+use Prim.Native.Nat.{ℕ}
 use lib.ListN.{length}
 use mir.Syntax.{w64}
-use Rattle.blocks.specs.Refuse.{lowest}
-use Rattle.blocks.specs.inner.Window.{areaOf}
-use Rattle.blocks.specs.Order.{kindNumber, orderTests}
+use Rattle.blocks.specs.Window.{areaOf}
+use Rattle.blocks.specs.inner.Window.{lentOf}
+use Rattle.blocks.specs.Order.{Tables, Setting, askedBy, orderNumber}
+use Rattle.blocks.specs.inner.Order.{settingOf, lengthsOf}
 use Rattle.blocks.proofs.Laws.Calls.Told.{told-one}
 use Rattle.blocks.proofs.Laws.Window.Ready.{Accepted, accepted-small, accepted-ready}
-use Rattle.blocks.proofs.Laws.Order.Run.{order-refused, order-accepted, order-fetched}
+use Rattle.blocks.proofs.Laws.Order.Run.{tables-of, refused-part, refused-scratch, order-accepted, fetched-part, fetched-scratch}
 use Rattle.blocks.proofs.bytes.predict.order_window.Statement.{statement}
 use Rattle.blocks.proofs.bytes.predict.order_window.Tie as tie
 
@@ -16,19 +18,18 @@ use Rattle.blocks.proofs.bytes.predict.order_window.Tie as tie
 abbrev entry : tie.After-check-order → tie.Start
 entry c = c .before .before .before
 
-none : (c : tie.Else1) → let a = entry (c .before) .args in
-    lowest (orderTests (a .deep) (a .named) (a .lent .frame) (a .lent .«plane_no») (length (a .plane .now)) (a .lent .stride) (a .o) (a .t .subpel)
-    (a .t .ext) (a .t .warp)
-    (length (a .scratch .now)) (a .dl) (a .dst-stride)) ≡ 0
-none c = sym (c .before .check-order .ensures) ∙ c .if1 .left
+-- what is tested: a setting of any depth and tables of the lengths that are handed
+abbrev tested : tie.Start → (depth : ℕ) → Tables → Setting
+tested c depth t = settingOf (c .args .deep) depth (c .args .lent) (c .args .plane .now) t
 
-accepted : (c : tie.Else1) → let a = entry (c .before) .args in let o = a .o in
-    Accepted (a .lent .frame) (a .lent .«plane_no») (length (a .plane .now)) (a .lent .stride) (kindNumber (o .kind)) (o .w) (o .h) (o .x) (o .y) 0
-    (length (a .scratch .now))
+none : (c : tie.Else1) (depth : ℕ) (t : Tables) → let s = entry (c .before) in lengthsOf t ≡ s .args .t
+    → orderNumber (tested s depth t) (s .args .named) (s .args .o) (length (s .args .scratch .now)) (s .args .dl) (s .args .dst-stride) ≡ 0
+none c depth t e = sym (c .before .check-order .ensures depth (entry (c .before) .args .plane .now) t refl e) ∙ c .if1 .left
+
+accepted : (c : tie.Else1) → let a = entry (c .before) .args in Accepted (lentOf (a .lent) (a .plane .now)) (askedBy (a .o)) (length (a .scratch .now))
 accepted c =
-    let a = entry (c .before) .args in
-    order-accepted (a .deep) (a .named) (a .lent .frame) (a .lent .«plane_no») (a .plane .now) (a .lent .stride) (a .o) (a .t .subpel) (a .t .ext)
-    (a .t .warp) (a .scratch .now) (a .dl) (a .dst-stride) (none c)
+    let s = entry (c .before) in let (t, long) = tables-of (s .args .t) in
+    order-accepted (tested s 0 t) (s .args .named) (s .args .o) (s .args .scratch .now) (s .args .dl) (s .args .dst-stride) (none c 0 t long)
 
 area-of-requires : tie.Need-area-of-requires
 area-of-requires c κs =
@@ -36,21 +37,29 @@ area-of-requires c κs =
     rw (told-one w64 (o .x) (g .0 .1), told-one w64 (o .y) (g .1 .0 .1)) (accepted-small (accepted e))
 
 area-is : (c : tie.After-area-of) → let a = entry (c .before .before .before .before .before) .args in
-    c .area-of .result ≡ areaOf (a .lent .frame) (a .lent .«plane_no») (kindNumber (a .o .kind)) (a .o .w) (a .o .h) (a .o .x) (a .o .y)
+    c .area-of .result ≡ areaOf (lentOf (a .lent) (a .plane .now)) (askedBy (a .o))
 area-is c =
-    let k = c .before .before .before in let o = entry (k .before .before) .args .o in let g = c .before .struct-told2 .given in
-    rw (k .kind-number .ensures, told-one w64 (o .x) (g .0 .1), told-one w64 (o .y) (g .1 .0 .1)) at (c .area-of .ensures)
+    let k = c .before .before .before in let a = entry (k .before .before) .args in let g = c .before .struct-told2 .given in
+    rw (k .kind-number .ensures, told-one w64 (a .o .x) (g .0 .1), told-one w64 (a .o .y) (g .1 .0 .1)) at (c .area-of .ensures (a .plane .now) 0)
 
 fetch-requires : tie.Need-fetch-requires
 fetch-requires c κs = let a = c .before in accepted-ready (accepted (a .before .before .before .before)) (area-is a)
 
 returns : tie.Need-returns
-returns c = let t = c .before in order-refused _ _ _ _ _ _ (t .before .check-order .ensures) (t .if1 .taken) (c .no-part .ensures)
+returns c =
+    let t = c .before in let a = entry (t .before) .args in let p = lentOf (a .lent) (a .plane .now) in (
+      λ depth tables l.
+          refused-part p (a .o) (t .if1 .taken) (c .no-part .ensures) (t .before .check-order .ensures depth (a .plane .now) tables refl l),
+      refused-scratch p (a .o) (t .if1 .taken) (c .no-part .ensures) (a .scratch .now),
+    )
 
 returns-2 : tie.Need-returns-2
 returns-2 c =
-    let g = c .before .before in let a = g .before .before in let e = a .before .before .before .before in
-    order-fetched _ _ _ _ _ _ _ _ _ _ _ _ _ (none e) (area-is a) (g .fetch .ensures)
+    let g = c .before .before in let a = g .before .before in let e = a .before .before .before .before in let s = entry (e .before) in (
+      λ depth tables l.
+          fetched-part (tested s depth tables) _ _ (s .args .scratch .now) _ _ (none e depth tables l) (area-is a) (g .fetch .ensures .0),
+      fetched-scratch _ _ _ (accepted e) (area-is a) (g .fetch .ensures .0) (g .fetch .ensures .1),
+    )
 
 pub order-window-spec : {M : Type 1} → statement M
 order-window-spec =

@@ -1,4 +1,5 @@
 use borrow.Author.Needs.{needs}
+use mathlib.Core.Path.{refl}
 use Rattle.rows.proofs.Laws.Numbers.Signed.{back}
 use Rattle.blocks.proofs.Laws.Window.Ready.{part-answer}
 use Rattle.blocks.proofs.words.plane_row.hv_row_16bpc.Statement.{statement}
@@ -9,4 +10,4 @@ hv-row-16bpc-spec =
     tie.close
     (tie.spec
     (λ c κs. search needs)  -- row-at-requires
-    (λ c. part-answer (rw (back (c .before .before .fits .row)) at (c .row-at .ensures))))  -- returns
+    (λ c. let s = c .before .before in part-answer (rw (back (s .fits .row)) at (c .row-at .ensures (s .args .plane .now) refl))))  -- returns

@@ -1,17 +1,17 @@
 use borrow.Author.Needs.{needs}
-use mathlib.Core.Path.{_≡_, ap, _∙_}
+use mathlib.Core.Path.{_≡_, refl, ap, _∙_}
 use mathlib.Core.List.{[]}
-use lib.ListN.{length}
 use Rattle.rows.proofs.Laws.Numbers.Signed.{back}
 use Rattle.blocks.specs.Window.{rowAt, partOf}
+use Rattle.blocks.specs.inner.Window.{lentOf}
 use Rattle.blocks.proofs.Laws.Window.Rows.{row-in-plane}
 use Rattle.blocks.specs.declared.window.Part.{Part}
 use Rattle.blocks.proofs.words.plane_row.row_part.Statement.{statement}
 use Rattle.blocks.proofs.words.plane_row.row_part.Tie as tie
 
 answer : (c : tie.After-row-at) → let a = c .before .before .args in
-    c .row-at .result ≡ rowAt (a .lent .frame) (a .lent .«plane_no») (length (a .plane .now)) (a .lent .stride) (a .row)
-answer c = rw (back (c .before .before .fits .row)) at (c .row-at .ensures)
+    c .row-at .result ≡ rowAt (lentOf (a .lent) (a .plane .now)) (a .row)
+answer c = let s = c .before .before in rw (back (s .fits .row)) at (c .row-at .ensures (s .args .plane .now) refl)
 
 returns : tie.Need-returns
 returns c =
@@ -23,5 +23,5 @@ row-part-spec =
     tie.close
     (tie.spec
     (λ c κs. search needs) (λ c. search needs) (λ c. search needs) (λ c. search needs)  -- row-at, sub-pick, part-pick-start, part-pick-end
-    (λ c κs. rw (answer (c .before)) (row-in-plane _ _ _ _ _ _))  -- pick-requires
+    (λ c κs. rw (answer (c .before)) (row-in-plane _ _ _))  -- pick-requires
     returns)

@@ -1,8 +1,9 @@
 use borrow.Author.Needs.{needs}
-use mathlib.Core.Path.{_≡_, ap, _∙_}
+use mathlib.Core.Path.{_≡_, refl, ap, _∙_}
 use lib.ListN.{length}
 use Rattle.rows.proofs.Laws.Numbers.Signed.{back}
 use Rattle.blocks.specs.Window.{windowOf, partOf}
+use Rattle.blocks.specs.inner.Window.{lentOf, asked}
 use Rattle.blocks.proofs.Laws.Window.Holds.{window-in}
 use Rattle.blocks.specs.declared.window.Part.{Part}
 use Rattle.blocks.proofs.words.window.window_part.Statement.{statement}
@@ -10,9 +11,10 @@ use Rattle.blocks.proofs.words.window.window_part.Tie as tie
 
 answer : (c : tie.After-find-window) → let a = c .before .before .before .args in
     c .find-window .result
-    ≡ windowOf (a .lent .frame) (a .lent .«plane_no») (length (a .plane .now)) (a .lent .stride) (a .kind) (a .w) (a .h) (a .x) (a .y) (a .mode)
-    (length (a .scratch .now))
-answer c = let f = c .before .before .before .fits in rw (back (f .x), back (f .y)) at (c .find-window .ensures)
+    ≡ windowOf (lentOf (a .lent) (a .plane .now)) (asked (a .kind) (a .w) (a .h) (a .x) (a .y) (a .mode)) (length (a .scratch .now))
+answer c =
+    let s = c .before .before .before in
+    rw (back (s .fits .x), back (s .fits .y)) at (c .find-window .ensures (s .args .plane .now) refl)
 
 returns : tie.Need-returns
 returns c =
@@ -24,5 +26,5 @@ window-part-spec =
     tie.close
     (tie.spec
     (λ c κs. search needs)  -- find-window-requires
-    (λ c κs. rw (answer c) (window-in _ _ _ _ _ _ _ _ _ _ _))  -- pick-requires
+    (λ c κs. rw (answer c) (window-in _ _ _))  -- pick-requires
     returns)
