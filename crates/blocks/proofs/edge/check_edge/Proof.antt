@@ -1,6 +1,5 @@
 use borrow.Author.Needs.{needs}
-use mir.Syntax.{w64}
-use Rattle.blocks.proofs.Laws.Calls.Told.{told-one}
+use Rattle.blocks.proofs.Laws.Calls.Told.{left-passed, top-passed}
 use Rattle.blocks.proofs.edge.check_edge.Statement.{statement}
 use Rattle.blocks.proofs.edge.check_edge.Tie as tie
 
@@ -15,8 +14,8 @@ returns c =
       p .places .ensures,
       h .held2 .ensures,
       h .before .held .ensures,
-      told-one w64 (a .left) (t .struct-told .given .1 .1 .1 .1 .0 .1),
-      told-one w64 (a .top) (t .struct-told .given .1 .1 .1 .1 .1 .0 .1),
+      left-passed a (t .struct-told .given),
+      top-passed a (t .struct-told .given),
     )
 
 pub check-edge-spec : {M : Type 1} → statement M

@@ -3,12 +3,12 @@ use mathlib.Core.List.{List, []}
 use Prim.Native.Nat.{ℕ}
 use mir.Syntax.{w64}
 use borrow.Author.Needs.{needs}
-use Rattle.rows.proofs.Laws.Numbers.Signed.{back, fit}
 use Rattle.blocks.specs.Refuse.{lowest}
 use Rattle.blocks.specs.Window.{LentPlane}
 use Rattle.blocks.specs.Order.{Tables, Setting}
 use Rattle.blocks.specs.inner.Window.{lentOf}
 use Rattle.blocks.specs.inner.Order.{settingOf}
+use Rattle.blocks.proofs.Laws.Calls.Told.{told-back}
 use Rattle.blocks.proofs.Laws.Order.Ready.{shapeTests, numberTests, shape-met, numbers-met, shape-block, shape-stop, numbers-stop, order-go}
 use Rattle.blocks.proofs.order.check_order.Statement.{statement}
 use Rattle.blocks.proofs.order.check_order.Tie as tie
@@ -30,7 +30,7 @@ numbers : (c : tie.After-order-numbers) → let s = c .before .before .before .b
     c .order-numbers .result ≡ lowest (numberTests (s .args .deep) (s .args .named) (named s) (s .args .o))
 numbers c =
     let g = c .before .before .struct-told .given in
-    rw (back (fit w64 (g .0 .1)), back (fit w64 (g .1 .0 .1))) at (c .order-numbers .ensures)
+    rw (told-back w64 g, told-back w64 (g .1)) at (c .order-numbers .ensures)
 
 no-number : (c : tie.Else2) → let s = c .before .before .before .before .before .before in
     lowest (numberTests (s .args .deep) (s .args .named) (named s) (s .args .o)) ≡ 0

@@ -1,19 +1,18 @@
 use mathlib.Core.Path.{refl}
-use mir.Syntax.{w64}
 use Rattle.blocks.specs.Window.{isPlanes}
-use Rattle.blocks.proofs.Laws.Calls.Told.{told-one}
+use Rattle.blocks.proofs.Laws.Calls.Told.{left-passed, top-passed}
 use Rattle.blocks.proofs.window.is_planes.Statement.{statement}
 use Rattle.blocks.proofs.window.is_planes.Tie as tie
 
 inside-requires : tie.Need-inside-requires
 inside-requires c κs =
     let p = c .before .pre in
-    rw (told-one w64 (c .before .args .a .left) (c .struct-told .given .1 .1 .1 .1 .0 .1)) (p .left, p .ww128, p .iw14)
+    rw (left-passed (c .before .args .a) (c .struct-told .given)) (p .left, p .ww128, p .iw14)
 
 inside-requires-2 : tie.Need-inside-requires-2
 inside-requires-2 c κs =
     let s = c .before .before .before in let p = s .pre in
-    rw (told-one w64 (s .args .a .top) (c .struct-told2 .given .1 .1 .1 .1 .1 .0 .1)) (p .top, p .wh128, p .ih14)
+    rw (top-passed (s .args .a) (c .struct-told2 .given)) (p .top, p .wh128, p .ih14)
 
 returns : tie.Need-returns
 unfolding isPlanes
@@ -22,8 +21,8 @@ returns c =
     rw (
       c .inside2 .ensures,
       t .before .inside .ensures,
-      told-one w64 (a .top) (t .struct-told2 .given .1 .1 .1 .1 .1 .0 .1),
-      told-one w64 (a .left) (u .struct-told .given .1 .1 .1 .1 .0 .1),
+      top-passed a (t .struct-told2 .given),
+      left-passed a (u .struct-told .given),
     ) refl
 
 pub is-planes-spec : {M : Type 1} → statement M

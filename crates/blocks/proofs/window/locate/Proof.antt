@@ -3,11 +3,10 @@ use Prim.Native.Nat.{_+_, _*_, _^_, _≤_}
 use native.Mathlib.Nat.{mul-le-mul-right}
 use native.Mathlib.Omega.{arith}
 use borrow.Author.Needs.{needs}
-use mir.Syntax.{w64}
 use Rattle.rows.specs.Numbers.{up}
 use Rattle.rows.proofs.Laws.Numbers.Signed.{abs-parts}
 use Rattle.blocks.specs.Window.{windowAt}
-use Rattle.blocks.proofs.Laws.Calls.Told.{told-one}
+use Rattle.blocks.proofs.Laws.Calls.Told.{left-passed, top-passed}
 use Rattle.blocks.proofs.Laws.Window.Ready.{own-at}
 use Rattle.blocks.proofs.window.locate.Statement.{statement}
 use Rattle.blocks.proofs.window.locate.Tie as tie
@@ -17,10 +16,10 @@ abbrev entry : tie.After-up64 → tie.Start
 entry c = c .before .before .before .before
 
 row-is : (c : tie.After-up64) → c .up64 .result ≡ up (entry c .args .a .top)
-row-is c = c .up64 .ensures ∙ ap up (told-one w64 (entry c .args .a .top) (c .before .struct-told .given .1 .1 .1 .1 .1 .0 .1))
+row-is c = c .up64 .ensures ∙ ap up (top-passed (entry c .args .a) (c .before .struct-told .given))
 
 column-is : (c : tie.After-up642) → c .up642 .result ≡ up (entry (c .before .before) .args .a .left)
-column-is c = c .up642 .ensures ∙ ap up (told-one w64 (entry (c .before .before) .args .a .left) (c .before .struct-told2 .given .1 .1 .1 .1 .0 .1))
+column-is c = c .up642 .ensures ∙ ap up (left-passed (entry (c .before .before) .args .a) (c .before .struct-told2 .given))
 
 small : (c : tie.After-up64) → c .up64 .result * entry c .args .plane-stride ≤ (2 ^ 30 + 3) * entry c .args .plane-stride
 small c =

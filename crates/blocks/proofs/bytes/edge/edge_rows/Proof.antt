@@ -3,11 +3,10 @@ use borrow.Author.Needs.{needs}
 use Prim.Native.Nat.{_+_, _-_, _*_, _≤_}
 use native.Mathlib.Omega.{arith}
 use lib.ListN.{length}
-use mir.Syntax.{w64}
 use Rattle.rows.specs.Edge.{edge}
 use Rattle.blocks.proofs.Laws.Loops.Rows.{Filled, filled-none, filled-more, filled-all, filled-span, row-in}
 use Rattle.blocks.proofs.Laws.Edge.Ready.{turn, row-is}
-use Rattle.blocks.proofs.Laws.Calls.Told.{told-one}
+use Rattle.blocks.proofs.Laws.Calls.Told.{left-passed, top-passed}
 use Rattle.blocks.proofs.bytes.edge.edge_rows.Statement.{statement}
 use Rattle.blocks.proofs.bytes.edge.edge_rows.Tie as tie
 
@@ -34,22 +33,22 @@ row c = let t = c .before .before in turn (entry t .pre) (t .if1 .taken) (c .nea
 nearest-row-requires : tie.Need-nearest-row-requires Inv-loop μ-loop
 nearest-row-requires c κs =
     let s = entry (c .before) in let p = s .pre .area in
-    let y = told-one w64 (s .args .a .top) (c .struct-told .given .1 .1 .1 .1 .1 .0 .1) in
+    let y = top-passed (s .args .a) (c .struct-told .given) in
     (rw y (p .top), omega (arith, p, c .before .if1 .taken), p .ih1, p .ih14)
 
 edge-row-requires : tie.Need-edge-row-requires Inv-loop μ-loop
 edge-row-requires c κs =
     let l = c .before .before .before in let t = l .before .before in let p = entry t .pre in
     let n = filled-span 0 (t .before .before .loop .inv) (p .dst) (t .if1 .taken) in
-    let x = told-one w64 (entry t .args .a .left) (c .struct-told2 .given .1 .1 .1 .1 .0 .1) in
+    let x = left-passed (entry t .args .a) (c .struct-told2 .given) in
     (omega (arith, p .area), omega (arith, p .area), row l .1, omega (arith, n, p .area), rw x (omega (arith, p .area .left)))
 
 loop-again : tie.Need-loop-again Inv-loop μ-loop
 loop-again c =
     let g = c .before .before in let l = g .before .before .before .before in let t = l .before .before in let p = entry t .pre in
     let a = entry t .args .a in
-    let x = told-one w64 (a .left) (g .before .struct-told2 .given .1 .1 .1 .1 .0 .1) in
-    let y = told-one w64 (a .top) (l .before .struct-told .given .1 .1 .1 .1 .1 .0 .1) in
+    let x = left-passed a (g .before .struct-told2 .given) in
+    let y = top-passed a (l .before .struct-told .given) in
     filled-more 0 _ (t .before .before .loop .inv) (p .area .ww1) (p .dst) (t .if1 .taken)
     (row-is _ _ _ _ _ _ _ _ (rw y at (l .nearest-row .ensures .0)) (rw x at (g .edge-row .ensures)))
 

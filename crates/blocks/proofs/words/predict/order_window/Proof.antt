@@ -7,7 +7,7 @@ use Rattle.blocks.specs.Window.{areaOf}
 use Rattle.blocks.specs.inner.Window.{lentOf}
 use Rattle.blocks.specs.Order.{Tables, Setting, askedBy, orderNumber}
 use Rattle.blocks.specs.inner.Order.{settingOf, lengthsOf}
-use Rattle.blocks.proofs.Laws.Calls.Told.{told-one}
+use Rattle.blocks.proofs.Laws.Calls.Told.{told-back}
 use Rattle.blocks.proofs.Laws.Window.Ready.{Accepted, accepted-small, accepted-ready}
 use Rattle.blocks.proofs.Laws.Order.Run.{tables-of, refused-part, refused-scratch, order-accepted, fetched-part, fetched-scratch}
 use Rattle.blocks.proofs.words.predict.order_window.Statement.{statement}
@@ -32,14 +32,14 @@ accepted c =
 
 area-of-requires : tie.Need-area-of-requires
 area-of-requires c κs =
-    let e = c .before .before .before in let o = entry (e .before) .args .o in let g = c .struct-told2 .given in
-    rw (told-one w64 (o .x) (g .0 .1), told-one w64 (o .y) (g .1 .0 .1)) (accepted-small (accepted e))
+    let g = c .struct-told2 .given in
+    rw (told-back w64 g, told-back w64 (g .1)) (accepted-small (accepted (c .before .before .before)))
 
 area-is : (c : tie.After-area-of) → let a = entry (c .before .before .before .before .before) .args in
     c .area-of .result ≡ areaOf (lentOf (a .lent) (a .plane .now)) (askedBy (a .o))
 area-is c =
     let k = c .before .before .before in let a = entry (k .before .before) .args in let g = c .before .struct-told2 .given in
-    rw (k .kind-number .ensures, told-one w64 (a .o .x) (g .0 .1), told-one w64 (a .o .y) (g .1 .0 .1)) at (c .area-of .ensures (a .plane .now) 0)
+    rw (k .kind-number .ensures, told-back w64 g, told-back w64 (g .1)) at (c .area-of .ensures (a .plane .now) 0)
 
 fetch-requires : tie.Need-fetch-requires
 fetch-requires c κs = let a = c .before in accepted-ready (accepted (a .before .before .before .before)) (area-is a)
