@@ -24,7 +24,7 @@ use Rattle.blocks.specs.declared.order.BilinMotion.{BilinMotion}
 use Rattle.blocks.specs.declared.warp.Shears.{Shears}
 use Rattle.blocks.proofs.Laws.Subpel.Ready.{held}
 use Rattle.blocks.proofs.Laws.Bilinear.Ready.{sixteenth-met}
-use Rattle.blocks.proofs.Laws.Calls.Told.{Told, passed, told-back}
+use Rattle.blocks.proofs.Laws.Calls.Told.{Told, passed, told-back, told-one}
 use Rattle.blocks.proofs.Laws.Warp.Ready.{passes}
 
 -- ---- a window's places hold those of each tap, with a filter on an axis where x or y is 1
@@ -74,15 +74,15 @@ pub warp-passed : {k : Kind} {m : Shears} {A B C D E F G : Type 0} → k ≡ War
       mx = passed w32 (m .mx);
       my = passed w32 (m .my);
     })
-warp-passed e g =
-    let n = g .1 .1 .1 .1 in
+warp-passed {m = m} e g =
+    let ((before-a, a), ((before-b, b), ((before-c, c), ((before-d, d), ((before-x, x), ((before-y, y), rest)))))) = g in
     rw (
-      told-back w16 g,
-      told-back w16 (g .1),
-      told-back w16 (g .1 .1),
-      told-back w16 (g .1 .1 .1),
-      told-back w32 n,
-      told-back w32 (n .1),
+      told-one w16 (m .a) a,
+      told-one w16 (m .b) b,
+      told-one w16 (m .c) c,
+      told-one w16 (m .d) d,
+      told-one w32 (m .mx) x,
+      told-one w32 (m .my) y,
     ) e
 
 -- ---- what each kind's rows rely on
