@@ -1,13 +1,9 @@
 // Prediction orders, run: the window of one, and the block that its kind makes of it.
-ghost use mathlib.Core.Path.{_≡_};
-ghost use Prim.Native.Nat.{ℕ};
 ghost use lib.Dec.{leb};
-ghost use lib.ListN.{length};
 ghost use Rattle.rows.specs.Numbers.{up};
 ghost use Rattle.blocks.specs.words.Depth.{depthOk};
-ghost use Rattle.blocks.specs.Order.{kindOf, Tables, orderNumber, orderScratch, OrderPutAnswer, OrderPrepAnswer};
-ghost use Rattle.blocks.specs.inner.Window.{lentOf};
-ghost use Rattle.blocks.specs.inner.Order.{settingOf, lengthsOf, orderPart};
+ghost use Rattle.blocks.specs.Order.{kindOf, OrderPutAnswer, OrderPrepAnswer};
+ghost use Rattle.blocks.specs.inner.Order.{OrderWindow};
 use super::depth::depth_numbers;
 use super::depth::depth_ok;
 use super::kinds::prep_kind;
@@ -38,10 +34,7 @@ fn order_window(
     dl: usize,
     dst_stride: usize,
 ) -> Part
-    ensures { λ r. ⌜ ((depth : ℕ) (tables : Tables) → lengthsOf tables ≡ t
-        → r ≡ orderPart (orderNumber (settingOf deep depth lent (now (plane .entry)) tables) named o (length (now (scratch .entry))) dl «dst_stride»)
-        (lentOf lent (now (plane .entry))) o)
-        × (now (scratch .exit) ≡ orderScratch (r .number) (lentOf lent (now (plane .entry))) o (now (scratch .entry))) ⌝ }
+    ensures { λ r. ⌜ OrderWindow deep named lent (now (plane .entry)) o t (now (scratch .entry)) dl «dst_stride» r (now (scratch .exit)) ⌝ }
 {
     let number = check_order(
         deep,

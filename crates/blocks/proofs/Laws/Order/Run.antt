@@ -16,7 +16,7 @@ use Rattle.blocks.specs.Window.{LentPlane, areaOf, noPart, windowOf, scr
 use Rattle.blocks.specs.inner.Window.{lentOf, areaAt, areaFetched}
 use Rattle.blocks.specs.Order.{kindNumber, kindOf, Tables, Setting, askedBy, putRule, prepRule, putPicture, prepPicture, planeOf, orderNumber}
 use Rattle.blocks.specs.Order.{orderScratch, orderDst, orderTmp, OrderPutAnswer, OrderPrepAnswer}
-use Rattle.blocks.specs.inner.Order.{settingOf, lengthsOf, orderPart}
+use Rattle.blocks.specs.inner.Order.{settingOf, lengthsOf, orderPart, OrderWindow}
 use Rattle.blocks.proofs.Laws.Calls.Refuse.{done, refused}
 use Rattle.blocks.proofs.Laws.Window.Ready.{no-part-of, answer-number, window-number, window-is, Accepted, accepted-scratch, scratch-kept}
 use Rattle.blocks.proofs.Laws.Window.Holds.{picked-in, Picked, picked}
@@ -66,7 +66,7 @@ tables-of t =
     (record { subpel = row (t .subpel); ext = row (t .ext); warp = row (t .warp) }, rw (long (t .subpel), long (t .ext), long (t .warp)) refl)
 
 -- the number of what is read is the tests'
-pub part-number : (n : ℕ) (p : LentPlane) (o : Order) {r : Part} → r ≡ orderPart n p o → r .number ≡ n
+part-number : (n : ℕ) (p : LentPlane) (o : Order) {r : Part} → r ≡ orderPart n p o → r .number ≡ n
 unfolding orderPart
 part-number n p o e = ap (λ (v : Part). v .number) e ∙ answer-number n _ _ _
 
@@ -96,19 +96,21 @@ pub fetched-scratch : (p : LentPlane) (o : Order) (scratch : List ℕ) {a : Area
 unfolding orderScratch
 fetched-scratch p o scratch ok is e full = accepted-scratch ok is scratch e full
 
--- from what the order's window ensures, of the depth and the tables, where its number is 0
-pub ordered : (depth : ℕ) (t : Tables) (deep named : Bool) (lent : Reference) (plane : List ℕ) (o : Order) (scratch : List ℕ) (dl ds : ℕ) (r : Part)
-    (filled : List ℕ)
-    → ((depth : ℕ) (u : Tables) → lengthsOf u ≡ lengthsOf t
-    → r ≡ orderPart (orderNumber (settingOf deep depth lent plane u) named o (length scratch) dl ds) (lentOf lent plane) o)
-    × (filled ≡ orderScratch (r .number) (lentOf lent plane) o scratch) → r .number ≡ 0
-    → Ordered (settingOf deep depth lent plane t) named o scratch dl ds r filled
-unfolding orderPart orderScratch
-ordered depth t deep named lent plane o scratch dl ds r filled e z =
-    let s = settingOf deep depth lent plane t in
-    let n : orderNumber s named o (length scratch) dl ds ≡ 0 = sym (part-number _ (s .lent) o (e .0 depth t refl)) ∙ z in
-    let is = window-is (s .lent) (askedBy o) (length scratch) (order-window (order-met s named o (length scratch) dl ds n)) in
-    record { number = n; answer = e .0 depth t refl ∙ done _ _ _ n ∙ is; full = e .1 }
+-- from what its tests and its window gave, at a depth and with tables of these lengths, where the number is 0
+module _ {deep named : Bool} {lent : Reference} {plane : List ℕ} {o : Order} {t : TableLengths} {scratch : List ℕ} {dl ds : ℕ} {r : Part} {filled : List ℕ}
+    (depth : ℕ) (tables : Tables) (long : lengthsOf tables ≡ t) (w : OrderWindow deep named lent plane o t scratch dl ds r filled) where
+  abbrev setting : Setting
+  setting = settingOf deep depth lent plane tables
+
+  pub ordered-number : r .number ≡ orderNumber setting named o (length scratch) dl ds
+  ordered-number = part-number _ (setting .lent) o (w .part depth tables long)
+
+  pub ordered : r .number ≡ 0 → Ordered setting named o scratch dl ds r filled
+  unfolding orderPart orderScratch
+  ordered z =
+      let n : orderNumber setting named o (length scratch) dl ds ≡ 0 = sym ordered-number ∙ z in
+      let is = window-is (setting .lent) (askedBy o) (length scratch) (order-window (order-met setting named o (length scratch) dl ds n)) in
+      record { number = n; answer = w .part depth tables long ∙ done _ _ _ n ∙ is; full = w .full }
 
 module _ {s : Setting} {named : Bool} {o : Order} {scratch : List ℕ} {dl ds : ℕ} {r : Part} {filled : List ℕ}
     (q : Ordered s named o scratch dl ds r filled) where

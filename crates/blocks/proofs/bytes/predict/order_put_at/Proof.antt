@@ -10,7 +10,7 @@ use Rattle.blocks.specs.bytes.Depth.{depthOk}
 use Rattle.blocks.specs.Order.{kindOf, Tables}
 use Rattle.blocks.proofs.Laws.bytes.Deep.{deep-bits, deep-bias, deep-max}
 use Rattle.blocks.proofs.Laws.Calls.Told.{passed}
-use Rattle.blocks.proofs.Laws.Order.Run.{part-number, ordered, ordered-deep, order-part, order-rows, put-done, put-refused, order-passed}
+use Rattle.blocks.proofs.Laws.Order.Run.{ordered-number, ordered, ordered-deep, order-part, order-rows, put-done, put-refused, order-passed}
 use Rattle.blocks.proofs.Laws.Order.Run.{setting-passed, put-passed}
 use Rattle.blocks.proofs.bytes.predict.order_put_at.Statement.{statement}
 use Rattle.blocks.proofs.bytes.predict.order_put_at.Tie as tie
@@ -39,35 +39,35 @@ deep : (c : tie.Then1) → depthOk (passed w32 (entry (window c) .args .depth)) 
 deep c =
     let w = window c in
     sym (w .before .before .depth-ok .ensures)
-    ∙ ordered-deep (ordered (depth w) (tables w) _ _ _ _ _ _ _ _ _ _ (w .order-window .ensures) (c .if1 .taken))
+    ∙ ordered-deep (ordered (depth w) (tables w) refl (w .order-window .ensures) (c .if1 .taken))
 
 pick-requires : tie.Need-pick-requires
 pick-requires c κs =
     let t = c .before .before in let w = window t in
-    order-part (ordered (depth w) (tables w) _ _ _ _ _ _ _ _ _ _ (w .order-window .ensures) (t .if1 .taken))
+    order-part (ordered (depth w) (tables w) refl (w .order-window .ensures) (t .if1 .taken))
 
 put-kind-requires : tie.Need-put-kind-requires
 put-kind-requires c κs =
     let s = c .before in let d = s .before .before in let t = d .before in let p = deep t in let w = window t in
-    let r = order-rows (ordered (depth w) (tables w) _ _ _ _ _ _ _ _ _ _ (w .order-window .ensures) (t .if1 .taken)) (s .pick .ensures) in
+    let r = order-rows (ordered (depth w) (tables w) refl (w .order-window .ensures) (t .if1 .taken)) (s .pick .ensures) in
     rw (d .depth-numbers .ensures) (r .0, r .1, deep-bits _ p, deep-bias _ p, deep-max _ p)
 
 returns : tie.Need-returns
 returns c =
     let k = c .before .before in let s = k .before .before in let d = s .before .before in let t = d .before in
     let w = window t in let f = entry w .fits in
-    let q = ordered (depth w) (tables w) _ _ _ _ _ _ _ _ _ _ (w .order-window .ensures) (t .if1 .taken) in
+    let q = ordered (depth w) (tables w) refl (w .order-window .ensures) (t .if1 .taken) in
     let e = rw (d .depth-numbers .ensures) at (k .put-kind .ensures) in
     put-passed _ _ _ _ _ (setting-passed _ _ (w .before .before .depth-ok .ensures ∙ ap depthOk (back (f .depth))) (ap up (back (f .depth))))
     (order-passed _ _ (back (f .x)) (back (f .y)) (kind-is w)) _ _
-    (put-done _ _ _ _ _ _ (part-number _ _ _ (w .order-window .ensures .0 (depth w) (tables w) refl)) q (s .pick .ensures) e)
+    (put-done _ _ _ _ _ _ (ordered-number (depth w) (tables w) refl (w .order-window .ensures)) q (s .pick .ensures) e)
 
 returns-2 : tie.Need-returns-2
 returns-2 c =
     let w = c .before .before .before .before in let f = entry w .fits in
     put-passed _ _ _ _ _ (setting-passed _ _ (w .before .before .depth-ok .ensures ∙ ap depthOk (back (f .depth))) (ap up (back (f .depth))))
     (order-passed _ _ (back (f .x)) (back (f .y)) (kind-is w)) _ _
-    (put-refused _ _ _ _ _ _ (part-number _ _ _ (w .order-window .ensures .0 (depth w) (tables w) refl)) (w .order-window .ensures .1) (c .if1 .left))
+    (put-refused _ _ _ _ _ _ (ordered-number (depth w) (tables w) refl (w .order-window .ensures)) (w .order-window .ensures .full) (c .if1 .left))
 
 pub order-put-at-spec : {M : Type 1} → statement M
 order-put-at-spec =

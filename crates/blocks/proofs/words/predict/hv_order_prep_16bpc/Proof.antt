@@ -9,7 +9,7 @@ use Rattle.blocks.specs.words.Depth.{depthOk}
 use Rattle.blocks.specs.Order.{kindOf, Tables}
 use Rattle.blocks.proofs.Laws.words.Deep.{deep-bits, deep-bias}
 use Rattle.blocks.proofs.Laws.Calls.Told.{passed}
-use Rattle.blocks.proofs.Laws.Order.Run.{part-number, ordered, ordered-deep, order-part, order-rows, prep-done, prep-refused, order-passed}
+use Rattle.blocks.proofs.Laws.Order.Run.{ordered-number, ordered, ordered-deep, order-part, order-rows, prep-done, prep-refused, order-passed}
 use Rattle.blocks.proofs.Laws.Order.Run.{setting-passed, prep-passed}
 use Rattle.blocks.proofs.words.predict.hv_order_prep_16bpc.Statement.{statement}
 use Rattle.blocks.proofs.words.predict.hv_order_prep_16bpc.Tie as tie
@@ -38,35 +38,35 @@ deep : (c : tie.Then1) → depthOk (passed w32 (entry (window c) .args .depth)) 
 deep c =
     let w = window c in
     sym (w .before .before .depth-ok .ensures)
-    ∙ ordered-deep (ordered (depth w) (tables w) _ _ _ _ _ _ _ _ _ _ (w .order-window .ensures) (c .if1 .taken))
+    ∙ ordered-deep (ordered (depth w) (tables w) refl (w .order-window .ensures) (c .if1 .taken))
 
 pick-requires : tie.Need-pick-requires
 pick-requires c κs =
     let t = c .before .before in let w = window t in
-    order-part (ordered (depth w) (tables w) _ _ _ _ _ _ _ _ _ _ (w .order-window .ensures) (t .if1 .taken))
+    order-part (ordered (depth w) (tables w) refl (w .order-window .ensures) (t .if1 .taken))
 
 prep-kind-requires : tie.Need-prep-kind-requires
 prep-kind-requires c κs =
     let s = c .before in let d = s .before .before in let t = d .before in let p = deep t in let w = window t in
-    let r = order-rows (ordered (depth w) (tables w) _ _ _ _ _ _ _ _ _ _ (w .order-window .ensures) (t .if1 .taken)) (s .pick .ensures) in
+    let r = order-rows (ordered (depth w) (tables w) refl (w .order-window .ensures) (t .if1 .taken)) (s .pick .ensures) in
     rw (d .depth-numbers .ensures) (r .0, r .1, deep-bits _ p, deep-bias _ p)
 
 returns : tie.Need-returns
 returns c =
     let k = c .before in let s = k .before .before in let d = s .before .before in let t = d .before in
     let w = window t in let f = entry w .fits in
-    let q = ordered (depth w) (tables w) _ _ _ _ _ _ _ _ _ _ (w .order-window .ensures) (t .if1 .taken) in
+    let q = ordered (depth w) (tables w) refl (w .order-window .ensures) (t .if1 .taken) in
     let e = rw (d .depth-numbers .ensures) at (k .prep-kind .ensures) in
     prep-passed _ _ _ _ _ (setting-passed _ _ (w .before .before .depth-ok .ensures ∙ ap depthOk (back (f .depth))) (ap up (back (f .depth))))
     (order-passed _ _ (back (f .x)) (back (f .y)) (kind-is w)) _ _
-    (prep-done _ _ _ _ _ _ (part-number _ _ _ (w .order-window .ensures .0 (depth w) (tables w) refl)) q (s .pick .ensures) e)
+    (prep-done _ _ _ _ _ _ (ordered-number (depth w) (tables w) refl (w .order-window .ensures)) q (s .pick .ensures) e)
 
 returns-2 : tie.Need-returns-2
 returns-2 c =
     let w = c .before .before .before .before in let f = entry w .fits in
     prep-passed _ _ _ _ _ (setting-passed _ _ (w .before .before .depth-ok .ensures ∙ ap depthOk (back (f .depth))) (ap up (back (f .depth))))
     (order-passed _ _ (back (f .x)) (back (f .y)) (kind-is w)) _ _
-    (prep-refused _ _ _ _ _ _ (part-number _ _ _ (w .order-window .ensures .0 (depth w) (tables w) refl)) (w .order-window .ensures .1) (c .if1 .left))
+    (prep-refused _ _ _ _ _ _ (ordered-number (depth w) (tables w) refl (w .order-window .ensures)) (w .order-window .ensures .full) (c .if1 .left))
 
 pub hv-order-prep-16bpc-spec : {M : Type 1} → statement M
 hv-order-prep-16bpc-spec =

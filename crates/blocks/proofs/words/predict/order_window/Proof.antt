@@ -46,19 +46,21 @@ fetch-requires c κs = let a = c .before in accepted-ready (accepted (a .before 
 
 returns : tie.Need-returns
 returns c =
-    let t = c .before in let a = entry (t .before) .args in let p = lentOf (a .lent) (a .plane .now) in (
-      λ depth tables l.
-          refused-part p (a .o) (t .if1 .taken) (c .no-part .ensures) (t .before .check-order .ensures depth (a .plane .now) tables refl l),
-      refused-scratch p (a .o) (t .if1 .taken) (c .no-part .ensures) (a .scratch .now),
-    )
+    let t = c .before in let a = entry (t .before) .args in let p = lentOf (a .lent) (a .plane .now) in
+    record {
+      part = λ depth tables l.
+          refused-part p (a .o) (t .if1 .taken) (c .no-part .ensures) (t .before .check-order .ensures depth (a .plane .now) tables refl l);
+      full = refused-scratch p (a .o) (t .if1 .taken) (c .no-part .ensures) (a .scratch .now);
+    }
 
 returns-2 : tie.Need-returns-2
 returns-2 c =
-    let g = c .before .before in let a = g .before .before in let e = a .before .before .before .before in let s = entry (e .before) in (
-      λ depth tables l.
-          fetched-part (tested s depth tables) _ _ (s .args .scratch .now) _ _ (none e depth tables l) (area-is a) (g .fetch .ensures .0),
-      fetched-scratch _ _ _ (accepted e) (area-is a) (g .fetch .ensures .0) (g .fetch .ensures .1),
-    )
+    let g = c .before .before in let a = g .before .before in let e = a .before .before .before .before in let s = entry (e .before) in
+    record {
+      part = λ depth tables l.
+          fetched-part (tested s depth tables) _ _ (s .args .scratch .now) _ _ (none e depth tables l) (area-is a) (g .fetch .ensures .0);
+      full = fetched-scratch _ _ _ (accepted e) (area-is a) (g .fetch .ensures .0) (g .fetch .ensures .1);
+    }
 
 pub order-window-spec : {M : Type 1} → statement M
 order-window-spec =
