@@ -18,6 +18,29 @@ use rows::w_mask::four_row;
 use rows::w_mask::pair_row;
 use rows::w_mask::weight_row;
 
+// h rows of w places, a stride apart.
+pub struct Layout {
+    pub stride: usize,
+    pub w: usize,
+    pub h: usize,
+}
+
+// A mask's stride, and whether one of its places stands for two columns, and for two rows. The sign goes beside it: out of a record's field the compiler
+// doesn't keep a row's sums in sixteen bits.
+pub struct MaskForm {
+    pub stride: usize,
+    pub ss_hor: bool,
+    pub ss_ver: bool,
+}
+
+// The lengths of what a call is lent.
+pub struct WMaskLengths {
+    pub dst: usize,
+    pub tmp1: usize,
+    pub tmp2: usize,
+    pub mask: usize,
+}
+
 // Even where the flag is set.
 fn even_ok(flag: bool, n: usize) -> bool
     ensures { λ r. ⌜ r ≡ evenOk flag n ⌝ }
@@ -49,54 +72,46 @@ fn mask_numbers(deep: bool, sign: i32, ss_hor: bool, ss_ver: bool, rest: u32) ->
     )
 }
 
-fn mask_buffers(
-    dl: usize,
-    dst_stride: usize,
-    l1: usize,
-    l2: usize,
-    w: usize,
-    h: usize,
-    ml: usize,
-    mask_stride: usize,
-    mw: usize,
-    mh: usize,
-) -> u32
-    ensures { λ r. ⌜ r ≡ need (holdsAll l1 w h) 5 (need (holdsAll l2 w h) 5 (need (holds dl «dst_stride» w h) 6 (need (holds ml «mask_stride» mw mh) 6 0))) ⌝ }
+fn mask_buffers(l: WMaskLengths, block: Layout, mask: Layout) -> u32
+    ensures { λ r. ⌜ r ≡ need (holdsAll (l .tmp1) (block .w) (block .h)) 5 (need (holdsAll (l .tmp2) (block .w) (block .h)) 5
+        (need (holds (l .dst) (block .stride) (block .w) (block .h)) 6 (need (holds (l .mask) (mask .stride) (mask .w) (mask .h)) 6 0))) ⌝ }
 {
-    let written = held(dl, dst_stride, w, h, 6, held(ml, mask_stride, mw, mh, 6, 0));
-    held(l1, w, w, h, 5, held(l2, w, w, h, 5, written))
+    let kept = held(l.mask, mask.stride, mask.w, mask.h, 6, 0);
+    let written = held(l.dst, block.stride, block.w, block.h, 6, kept);
+    let second = held(l.tmp2, block.w, block.w, block.h, 5, written);
+    held(l.tmp1, block.w, block.w, block.h, 5, second)
 }
 
 pub fn check_w_mask(
     deep: bool,
-    dl: usize,
-    dst_stride: usize,
-    l1: usize,
-    l2: usize,
-    w: usize,
-    h: usize,
-    ml: usize,
+    l: WMaskLengths,
+    block: Layout,
     mask_stride: usize,
     sign: i32,
     ss_hor: bool,
     ss_ver: bool,
 ) -> u32
-    ensures { λ r. ⌜ r ≡ lowest (wMaskTests deep dl «dst_stride» l1 l2 w h ml «mask_stride» sign «ss_hor» «ss_ver») ⌝ }
+    ensures { λ r. ⌜ r ≡ lowest (wMaskTests deep (l .dst) (block .stride) (l .tmp1) (l .tmp2) (block .w) (block .h) (l .mask) «mask_stride»
+        sign «ss_hor» «ss_ver») ⌝ }
 {
+    let w = block.w;
+    let h = block.h;
     let mw = mask_side(ss_hor, w);
     let mh = mask_side(ss_ver, h);
-    let buffers = mask_buffers(dl, dst_stride, l1, l2, w, h, ml, mask_stride, mw, mh);
+    let mask = Layout {
+        stride: mask_stride,
+        w: mw,
+        h: mh,
+    };
+    let buffers = mask_buffers(l, block, mask);
     let numbers = mask_numbers(deep, sign, ss_hor, ss_ver, buffers);
-    let strides = stride(w, dst_stride, stride(mw, mask_stride, numbers));
-    sizes(
-        w,
-        h,
-        needed(
-            even_ok(ss_hor, w),
-            1,
-            needed(even_ok(ss_ver, h), 1, strides),
-        ),
-    )
+    let strides = stride(w, block.stride, stride(mw, mask_stride, numbers));
+    let even = needed(
+        even_ok(ss_hor, w),
+        1,
+        needed(even_ok(ss_ver, h), 1, strides),
+    );
+    sizes(w, h, even)
 }
 
 // The mask doesn't depend on the pixels' type, so it is written on its own, by one text for both sets. Where it doesn't keep each weight,
@@ -185,28 +200,28 @@ fn keep_fours(
 // The way that the flags name.
 pub fn keep_mask(
     mask: &mut [u8],
-    mask_stride: usize,
+    form: MaskForm,
     tmp1: &[i16],
     tmp2: &[i16],
     w: usize,
     h: usize,
     sign: u32,
-    ss_hor: bool,
-    ss_ver: bool,
     depth: u32,
     bits: u32,
 )
-    requires { ⌜ Weighing (length (now tmp1)) (length (now tmp2)) w h (length (now mask)) «mask_stride» (maskSide «ss_hor» w) (maskSide «ss_ver» h)
-        × (flagsOk «ss_hor» «ss_ver» ≡ true) × (sign ≤ 1) × Depths depth bits ⌝ }
+    requires { ⌜ Weighing (length (now tmp1)) (length (now tmp2)) w h (length (now mask)) (form .stride)
+        (maskSide (form .«ss_hor») w) (maskSide (form .«ss_ver») h)
+        × (flagsOk (form .«ss_hor») (form .«ss_ver») ≡ true) × (sign ≤ 1) × Depths depth bits ⌝ }
     ensures { λ _. ⌜ now (mask .exit)
-        ≡ fill (now (mask .entry)) «mask_stride» (maskSide «ss_hor» w) (maskSide «ss_ver» h) (maskAt sign «ss_hor» «ss_ver»
+        ≡ fill (now (mask .entry)) (form .stride) (maskSide (form .«ss_hor») w) (maskSide (form .«ss_ver») h)
+        (maskAt sign (form .«ss_hor») (form .«ss_ver»)
         (λ i j. both (weightOf depth bits) (now (tmp1 .entry)) (now (tmp2 .entry)) (j * w) i)) ⌝ }
 {
-    if ss_ver {
-        keep_fours(mask, mask_stride, tmp1, tmp2, w, h, sign, depth, bits);
-    } else if ss_hor {
-        keep_pairs(mask, mask_stride, tmp1, tmp2, w, h, sign, depth, bits);
+    if form.ss_ver {
+        keep_fours(mask, form.stride, tmp1, tmp2, w, h, sign, depth, bits);
+    } else if form.ss_hor {
+        keep_pairs(mask, form.stride, tmp1, tmp2, w, h, sign, depth, bits);
     } else {
-        keep_each(mask, mask_stride, tmp1, tmp2, w, h, depth, bits);
+        keep_each(mask, form.stride, tmp1, tmp2, w, h, depth, bits);
     }
 }

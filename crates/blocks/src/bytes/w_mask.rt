@@ -17,6 +17,9 @@ use super::depth::depth_numbers;
 use super::depth::depth_ok;
 use crate::numbers::up32;
 use crate::refuse::DepthNumbers;
+use crate::w_mask::Layout;
+use crate::w_mask::MaskForm;
+use crate::w_mask::WMaskLengths;
 use crate::w_mask::check_w_mask;
 use crate::w_mask::keep_mask;
 use rows::bytes::combine::mask_row;
@@ -66,46 +69,35 @@ fn weighed_rows(
 fn w_mask_rows(
     n: DepthNumbers,
     dst: &mut [Pixel],
-    dst_stride: usize,
+    block: Layout,
     tmp1: &[i16],
     tmp2: &[i16],
-    w: usize,
-    h: usize,
     mask: &mut [u8],
-    mask_stride: usize,
+    form: MaskForm,
     sign: u32,
-    ss_hor: bool,
-    ss_ver: bool,
     depth: u32,
 )
-    requires { ⌜ Rows (length (now dst)) «dst_stride» w h
-        × Weighing (length (now tmp1)) (length (now tmp2)) w h (length (now mask)) «mask_stride» (maskSide «ss_hor» w) (maskSide «ss_ver» h)
-        × (flagsOk «ss_hor» «ss_ver» ≡ true) × (sign ≤ 1) × Deep depth × BitsOk (n .bits) × BiasOk (n .bias) × MaxOk (n .max) ⌝ }
+    requires { ⌜ Rows (length (now dst)) (block .stride) (block .w) (block .h)
+        × Weighing (length (now tmp1)) (length (now tmp2)) (block .w) (block .h) (length (now mask)) (form .stride)
+        (maskSide (form .«ss_hor») (block .w)) (maskSide (form .«ss_ver») (block .h))
+        × (flagsOk (form .«ss_hor») (form .«ss_ver») ≡ true) × (sign ≤ 1) × Deep depth × BitsOk (n .bits) × BiasOk (n .bias) × MaxOk (n .max) ⌝ }
     ensures { λ _. ⌜ (now (dst .exit)
-        ≡ fill (now (dst .entry)) «dst_stride» w h
-        (λ i j. both (masked (n .max) (n .bits) (n .bias) (both (weightOf depth (n .bits)) (now (tmp1 .entry)) (now (tmp2 .entry)) (j * w) i))
-        (now (tmp1 .entry)) (now (tmp2 .entry)) (j * w) i))
+        ≡ fill (now (dst .entry)) (block .stride) (block .w) (block .h)
+        (λ i j. both (masked (n .max) (n .bits) (n .bias) (both (weightOf depth (n .bits)) (now (tmp1 .entry)) (now (tmp2 .entry)) (j * block .w) i))
+        (now (tmp1 .entry)) (now (tmp2 .entry)) (j * block .w) i))
         × (now (mask .exit)
-        ≡ fill (now (mask .entry)) «mask_stride» (maskSide «ss_hor» w) (maskSide «ss_ver» h) (maskAt sign «ss_hor» «ss_ver»
-        (λ i j. both (weightOf depth (n .bits)) (now (tmp1 .entry)) (now (tmp2 .entry)) (j * w) i))) ⌝ }
+        ≡ fill (now (mask .entry)) (form .stride) (maskSide (form .«ss_hor») (block .w)) (maskSide (form .«ss_ver») (block .h))
+        (maskAt sign (form .«ss_hor») (form .«ss_ver»)
+        (λ i j. both (weightOf depth (n .bits)) (now (tmp1 .entry)) (now (tmp2 .entry)) (j * block .w) i))) ⌝ }
 {
-    keep_mask(
-        mask,
-        mask_stride,
-        tmp1,
-        tmp2,
-        w,
-        h,
-        sign,
-        ss_hor,
-        ss_ver,
-        depth,
-        n.bits,
-    );
-    if ss_hor {
-        weighed_rows(n, dst, dst_stride, tmp1, tmp2, w, h, depth);
+    let ds = block.stride;
+    let w = block.w;
+    let h = block.h;
+    keep_mask(mask, form, tmp1, tmp2, w, h, sign, depth, n.bits);
+    if form.ss_hor {
+        weighed_rows(n, dst, ds, tmp1, tmp2, w, h, depth);
     } else {
-        mask_rows(n, dst, dst_stride, tmp1, tmp2, w, h, mask, mask_stride);
+        mask_rows(n, dst, ds, tmp1, tmp2, w, h, mask, form.stride);
     }
 }
 
@@ -126,15 +118,21 @@ pub fn w_mask_at(
     ensures { λ r. ⌜ WMaskAnswer (depthOk depth) (up depth) (now (dst .entry)) «dst_stride» (now (tmp1 .entry)) (now (tmp2 .entry)) w h (now (mask .entry))
         «mask_stride» sign «ss_hor» «ss_ver» r (now (dst .exit)) (now (mask .exit)) ⌝ }
 {
-    let number = check_w_mask(
-        depth_ok(depth),
-        dst.len(),
-        dst_stride,
-        tmp1.len(),
-        tmp2.len(),
+    let block = Layout {
+        stride: dst_stride,
         w,
         h,
-        mask.len(),
+    };
+    let lengths = WMaskLengths {
+        dst: dst.len(),
+        tmp1: tmp1.len(),
+        tmp2: tmp2.len(),
+        mask: mask.len(),
+    };
+    let number = check_w_mask(
+        depth_ok(depth),
+        lengths,
+        block,
         mask_stride,
         sign,
         ss_hor,
@@ -142,21 +140,13 @@ pub fn w_mask_at(
     );
     if number == 0 {
         let n = depth_numbers(depth);
-        w_mask_rows(
-            n,
-            dst,
-            dst_stride,
-            tmp1,
-            tmp2,
-            w,
-            h,
-            mask,
-            mask_stride,
-            up32(sign),
+        let form = MaskForm {
+            stride: mask_stride,
             ss_hor,
             ss_ver,
-            up32(depth),
-        );
+        };
+        let s = up32(sign);
+        w_mask_rows(n, dst, block, tmp1, tmp2, mask, form, s, up32(depth));
     }
     number
 }

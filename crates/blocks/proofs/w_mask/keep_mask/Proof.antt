@@ -8,7 +8,7 @@ use Rattle.blocks.proofs.w_mask.keep_mask.Statement.{statement}
 use Rattle.blocks.proofs.w_mask.keep_mask.Tie as tie
 
 -- with ss_ver, ss_hor
-hor : (c : tie.Then1) → c .before .before .args .ss-hor ≡ true
+hor : (c : tie.Then1) → c .before .before .args .form .«ss_hor» ≡ true
 hor c = flags-met _ _ (c .before .before .pre .1) (c .if1 .taken)
 
 keep-fours-requires : tie.Need-keep-fours-requires

@@ -35,8 +35,8 @@ deep c = c .depth-numbers .ensures ∙ ap (λ (d : ℤ). numbersOf (up d)) (back
 abbrev from : tie.After-up322 → tie.After-depth-numbers
 from c = c .before .before .before .before
 
-sign : (c : tie.After-up322) → c .before .up32 .result ≡ up (entry (from c .before .before) .args .sign)
-sign c = c .before .up32 .ensures ∙ ap up (back (entry (from c .before .before) .fits .sign))
+sign : (c : tie.After-up322) → c .before .before .before .up32 .result ≡ up (entry (from c .before .before) .args .sign)
+sign c = c .before .before .before .up32 .ensures ∙ ap up (back (entry (from c .before .before) .fits .sign))
 
 depth : (c : tie.After-up322) → c .up322 .result ≡ up (entry (from c .before .before) .args .depth)
 depth c = c .up322 .ensures ∙ ap up (back (entry (from c .before .before) .fits .depth))
