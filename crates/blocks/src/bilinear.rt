@@ -17,6 +17,19 @@ use crate::refuse::sizes;
 use crate::refuse::stride;
 use rows::bilinear::mid_bilin_prep_row;
 
+// How a row is made of pairs: the second of each stands a step on and has f sixteenths, and their sum is rounded by n bits.
+pub struct PairWay {
+    pub step: usize,
+    pub f: u32,
+    pub n: u32,
+}
+
+// A pixel's own rounding after that, of v to (v + r) >> k.
+pub struct LastRounding {
+    pub r: u32,
+    pub k: u32,
+}
+
 // A fraction of sixteenths.
 pub fn sixteenth_ok(f: i32) -> bool
     ensures { λ r. ⌜ r ≡ sixteenthOk f ⌝ }

@@ -17,6 +17,8 @@ use super::copy::prep_rows;
 use super::copy::put_rows;
 use super::depth::depth_numbers;
 use super::depth::depth_ok;
+use crate::bilinear::LastRounding;
+use crate::bilinear::PairWay;
 use crate::bilinear::check_bilin;
 use crate::bilinear::mid_bilin_prep_rows;
 use crate::numbers::up32;
@@ -37,21 +39,29 @@ fn put_bilin_axis(
     ss: usize,
     w: usize,
     h: usize,
-    step: usize,
-    f: u32,
-    n: u32,
-    r: u32,
-    k: u32,
+    by: PairWay,
+    last: LastRounding,
     max: u16,
 )
-    requires { ⌜ Pairs (length (now dst)) ds (length (now src)) ss step w h f n × (n + k ≡ 4) × (half n + r * 2 ^ n ≤ 15) × MaxOk max ⌝ }
-    ensures { λ _. ⌜ now (dst .exit)
-        ≡ fill (now (dst .entry)) ds w h (λ i j. clip max (shrZ (R n (bilinAt (px (now (src .entry))) (j * ss + i) step f) +ℤ pos r) (2 ^ k))) ⌝ }
+    requires { ⌜ Pairs (length (now dst)) ds (length (now src)) ss (by .step) w h (by .f) (by .n) × (by .n + last .k ≡ 4)
+        × (half (by .n) + last .r * 2 ^ by .n ≤ 15) × MaxOk max ⌝ }
+    ensures { λ _. ⌜ now (dst .exit) ≡ fill (now (dst .entry)) ds w h
+        (λ i j. clip max (shrZ (R (by .n) (bilinAt (px (now (src .entry))) (j * ss + i) (by .step) (by .f)) +ℤ pos (last .r)) (2 ^ last .k))) ⌝ }
 {
     let mut y = 0;
     while y < h {
         let d = y * ds;
-        put_bilin_row(&mut dst[d..d + w], src, y * ss, step, f, n, r, k, max);
+        put_bilin_row(
+            &mut dst[d..d + w],
+            src,
+            y * ss,
+            by.step,
+            by.f,
+            by.n,
+            last.r,
+            last.k,
+            max,
+        );
         y += 1;
     }
 }
@@ -64,19 +74,17 @@ fn prep_bilin_axis(
     ss: usize,
     w: usize,
     h: usize,
-    step: usize,
-    f: u32,
-    n: u32,
+    by: PairWay,
     bias: i16,
 )
-    requires { ⌜ Pairs (length (now tmp)) ts (length (now src)) ss step w h f n × (n ≤ 4) ⌝ }
-    ensures { λ _. ⌜ now (tmp .exit)
-        ≡ fill (now (tmp .entry)) ts w h (λ i j. minus16 (low16 (R n (bilinAt (px (now (src .entry))) (j * ss + i) step f))) bias) ⌝ }
+    requires { ⌜ Pairs (length (now tmp)) ts (length (now src)) ss (by .step) w h (by .f) (by .n) × (by .n ≤ 4) ⌝ }
+    ensures { λ _. ⌜ now (tmp .exit) ≡ fill (now (tmp .entry)) ts w h
+        (λ i j. minus16 (low16 (R (by .n) (bilinAt (px (now (src .entry))) (j * ss + i) (by .step) (by .f)))) bias) ⌝ }
 {
     let mut y = 0;
     while y < h {
         let d = y * ts;
-        prep_bilin_row(&mut tmp[d..d + w], src, y * ss, step, f, n, bias);
+        prep_bilin_row(&mut tmp[d..d + w], src, y * ss, by.step, by.f, by.n, bias);
         y += 1;
     }
 }
@@ -120,7 +128,12 @@ fn put_bilin_both(
 {
     let b = bits_of(n.bits);
     let mut mid = [0i16; 4160];
-    prep_bilin_axis(&mut mid, 64, src, ss, w, h + 1, 1, f, 4 - b, 0);
+    let by = PairWay {
+        step: 1,
+        f,
+        n: 4 - b,
+    };
+    prep_bilin_axis(&mut mid, 64, src, ss, w, h + 1, by, 0);
     mid_bilin_rows(dst, ds, &mid, w, h, g, 4 + b, n.max);
 }
 
@@ -142,7 +155,12 @@ fn prep_bilin_both(
     let b = bits_of(n.bits);
     let p = bias_of(n.bias);
     let mut mid = [0i16; 4160];
-    prep_bilin_axis(&mut mid, 64, src, ss, w, h + 1, 1, f, 4 - b, 0);
+    let by = PairWay {
+        step: 1,
+        f,
+        n: 4 - b,
+    };
+    prep_bilin_axis(&mut mid, 64, src, ss, w, h + 1, by, 0);
     mid_bilin_prep_rows(tmp, ts, &mid, w, h, g, 4, p as i16);
 }
 
@@ -166,11 +184,25 @@ pub fn put_bilin_rows(
         if g != 0 {
             put_bilin_both(n, dst, ds, src, ss, w, h, f, g);
         } else {
-            let r = half_power(b);
-            put_bilin_axis(dst, ds, src, ss, w, h, 1, f, 4 - b, r, b, n.max);
+            let by = PairWay {
+                step: 1,
+                f,
+                n: 4 - b,
+            };
+            let last = LastRounding {
+                r: half_power(b),
+                k: b,
+            };
+            put_bilin_axis(dst, ds, src, ss, w, h, by, last, n.max);
         }
     } else if g != 0 {
-        put_bilin_axis(dst, ds, src, ss, w, h, ss, g, 4, 0, 0, n.max);
+        let by = PairWay {
+            step: ss,
+            f: g,
+            n: 4,
+        };
+        let last = LastRounding { r: 0, k: 0 };
+        put_bilin_axis(dst, ds, src, ss, w, h, by, last, n.max);
     } else {
         put_rows(dst, ds, src, ss, w, h);
     }
@@ -197,10 +229,20 @@ pub fn prep_bilin_rows(
         if g != 0 {
             prep_bilin_both(n, tmp, ts, src, ss, w, h, f, g);
         } else {
-            prep_bilin_axis(tmp, ts, src, ss, w, h, 1, f, 4 - b, p as i16);
+            let by = PairWay {
+                step: 1,
+                f,
+                n: 4 - b,
+            };
+            prep_bilin_axis(tmp, ts, src, ss, w, h, by, p as i16);
         }
     } else if g != 0 {
-        prep_bilin_axis(tmp, ts, src, ss, w, h, ss, g, 4 - b, p as i16);
+        let by = PairWay {
+            step: ss,
+            f: g,
+            n: 4 - b,
+        };
+        prep_bilin_axis(tmp, ts, src, ss, w, h, by, p as i16);
     } else {
         prep_rows(n, tmp, ts, src, ss, w, h);
     }

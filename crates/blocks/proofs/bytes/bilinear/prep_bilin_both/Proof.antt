@@ -42,7 +42,7 @@ pub prep-bilin-both-spec : {M : Type 1} → statement M
 prep-bilin-both-spec =
     tie.close
     (tie.spec
-    (λ c κs. search needs) (λ c κs. search needs) (λ c. search needs)  -- bits-of, bias-of, slice-aggregate-prep-bilin-axis
+    (λ c κs. search needs) (λ c κs. search needs) (λ c. search needs) (λ c. search needs)  -- bits-of, bias-of, 4 - b, slice-aggregate-prep-bilin-axis
     (λ c. omega (arith, entry c .pre .0 .block))  -- add-prep-bilin-axis
-    (λ c. search needs) first-requires (λ c. search needs)  -- sub-prep-bilin-axis, slice-aggregate-mid-bilin-prep-rows
+    first-requires (λ c. search needs)  -- slice-aggregate-mid-bilin-prep-rows
     (λ c. search needs) second-requires (λ c. search needs) returns)  -- cast-mid-bilin-prep-rows, same-length

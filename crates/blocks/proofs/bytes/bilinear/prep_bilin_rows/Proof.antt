@@ -65,8 +65,8 @@ pub prep-bilin-rows-spec : {M : Type 1} → statement M
 prep-bilin-rows-spec =
     tie.close
     (tie.spec
-    (λ c κs. search needs) (λ c κs. search needs) both-requires (λ c. search needs)  -- bits-of, bias-of, sub-prep-bilin-axis
-    (λ c. search needs) across-requires (λ c. search needs) (λ c. search needs) downward-requires  -- cast-prep-bilin-axis, sub-prep-bilin-axis
+    (λ c κs. search needs) (λ c κs. search needs) both-requires (λ c. search needs)  -- bits-of, bias-of, 4 - b
+    (λ c. search needs) across-requires (λ c. search needs) (λ c. search needs) downward-requires  -- cast-prep-bilin-axis, 4 - b
     copied-requires (λ c. search needs)  -- same-length
     (λ c. c .before .prep-bilin-both .ensures)  -- returns
     (λ c. search needs) returns-2 (λ c. search needs) returns-3 (λ c. search needs) returns-4)  -- same-length

@@ -15,18 +15,18 @@ use Rattle.blocks.proofs.words.bilinear.prep_bilin_axis.Statement.{stat
 use Rattle.blocks.proofs.words.bilinear.prep_bilin_axis.Tie as tie
 
 abbrev Inv-loop : tie.InvT-loop
-Inv-loop tmp₀ ds src ss w h step f n bias y₀ tmp y =
-    Filled ds w (λ i j. minus16 (low16 (R n (bilinAt (px src) (j * ss + i) step f))) (toZ w16 bias)) tmp₀ h y tmp
+Inv-loop tmp₀ ds src ss w h by bias y₀ tmp y =
+    Filled ds w (λ i j. minus16 (low16 (R (by .n) (bilinAt (px src) (j * ss + i) (by .step) (by .f)))) (toZ w16 bias)) tmp₀ h y tmp
 
 abbrev μ-loop : tie.MeasureT-loop
-μ-loop tmp₀ ds src ss w h step f n bias y₀ tmp y = h - y
+μ-loop tmp₀ ds src ss w h by bias y₀ tmp y = h - y
 
 -- the function's entry, from a turn of the loop
 abbrev entry : tie.In-loop Inv-loop μ-loop → tie.Start Inv-loop μ-loop
 entry c = c .before .before .before
 
 row : (c : tie.In-loop Inv-loop μ-loop) → let a = entry c .args in
-    Turn (c .before .loop .tmp) (a .ts) (length (a .src .now)) (a .ss) (a .step) (a .w) (c .before .loop .y)
+    Turn (c .before .loop .tmp) (a .ts) (length (a .src .now)) (a .ss) (a .by .step) (a .w) (c .before .loop .y)
 row c = turn (pos 0) (entry c .pre .0) (c .before .loop .inv) (c .loop-test .taken)
 
 pub prep-bilin-axis-spec : {M : Type 1} → statement M

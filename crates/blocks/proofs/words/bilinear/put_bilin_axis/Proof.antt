@@ -13,18 +13,18 @@ use Rattle.blocks.proofs.words.bilinear.put_bilin_axis.Statement.{state
 use Rattle.blocks.proofs.words.bilinear.put_bilin_axis.Tie as tie
 
 abbrev Inv-loop : tie.InvT-loop
-Inv-loop dst₀ ds src ss w h step f n r k max y₀ dst y =
-    Filled ds w (λ i j. clip max (shrZ (R n (bilinAt (px src) (j * ss + i) step f) +ℤ pos r) (2 ^ k))) dst₀ h y dst
+Inv-loop dst₀ ds src ss w h by last max y₀ dst y =
+    Filled ds w (λ i j. clip max (shrZ (R (by .n) (bilinAt (px src) (j * ss + i) (by .step) (by .f)) +ℤ pos (last .r)) (2 ^ last .k))) dst₀ h y dst
 
 abbrev μ-loop : tie.MeasureT-loop
-μ-loop dst₀ ds src ss w h step f n r k max y₀ dst y = h - y
+μ-loop dst₀ ds src ss w h by last max y₀ dst y = h - y
 
 -- the function's entry, from a turn of the loop
 abbrev entry : tie.In-loop Inv-loop μ-loop → tie.Start Inv-loop μ-loop
 entry c = c .before .before .before .before
 
 row : (c : tie.In-loop Inv-loop μ-loop) → let a = entry c .args in
-    Turn (c .before .loop .dst) (a .ds) (length (a .src .now)) (a .ss) (a .step) (a .w) (c .before .loop .y)
+    Turn (c .before .loop .dst) (a .ds) (length (a .src .now)) (a .ss) (a .by .step) (a .w) (c .before .loop .y)
 row c = turn 0 (entry c .pre .0) (c .before .loop .inv) (c .loop-test .taken)
 
 pub put-bilin-axis-spec : {M : Type 1} → statement M

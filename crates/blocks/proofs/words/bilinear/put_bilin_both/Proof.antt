@@ -34,7 +34,7 @@ pub put-bilin-both-spec : {M : Type 1} → statement M
 put-bilin-both-spec =
     tie.close
     (tie.spec
-    (λ c κs. search needs) (λ c. search needs)  -- bits-of, slice-aggregate-prep-bilin-axis
+    (λ c κs. search needs) (λ c. search needs) (λ c. search needs)  -- bits-of, 4 - b, slice-aggregate-prep-bilin-axis
     (λ c. omega (arith, entry c .pre .0 .block))  -- add-prep-bilin-axis
-    (λ c. search needs) first-requires (λ c. search needs)  -- sub-prep-bilin-axis, slice-aggregate-mid-bilin-rows
+    first-requires (λ c. search needs)  -- slice-aggregate-mid-bilin-rows
     (λ c. search needs) second-requires (λ c. search needs) returns)  -- add-mid-bilin-rows, same-length

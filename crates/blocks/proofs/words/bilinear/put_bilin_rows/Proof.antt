@@ -57,7 +57,7 @@ pub put-bilin-rows-spec : {M : Type 1} → statement M
 put-bilin-rows-spec =
     tie.close
     (tie.spec
-    (λ c κs. search needs) both-requires (λ c κs. search needs) (λ c. search needs) across-requires  -- bits-of, half-power, sub-put-bilin-axis
+    (λ c κs. search needs) both-requires (λ c. search needs) (λ c κs. search needs) across-requires  -- bits-of, 4 - b, half-power
     downward-requires copied-requires (λ c. search needs)  -- same-length
     (λ c. c .before .before .put-bilin-both .ensures)  -- returns
     (λ c. search needs) returns-2 (λ c. search needs) returns-3 (λ c. search needs) returns-4)  -- same-length
