@@ -41,14 +41,12 @@ place-met x e = leb-true (natAbs x) (2 ^ 30) e
 pub edge-ready : (bw bh iw ih : ℕ) (x y : ℤ) (dl ds pl ps : ℕ) → lowest (edgeTests bw bh iw ih x y dl ds pl ps) ≡ 0
     → Fetch (record { ww = bw; wh = bh; iw = iw; ih = ih; left = x; top = y }) dl ds pl ps
 edge-ready bw bh iw ih x y dl ds pl ps e =
-    let m = all-met (edgeTests bw bh iw ih x y dl ds pl ps) e in
-    let a = size-met 128 bw (m .0) in
-    let b = size-met 128 bh (m .1 .0) in
-    let p = m .1 .1 in
-    let c = size-met 16384 iw (p .0) in
-    let d = size-met 16384 ih (p .1 .0) in
-    let t = p .1 .1 in
-    let n = t .1 .1 in
+    let (width, (height, (across, (down, (dst, (plane, others)))))) = all-met (edgeTests bw bh iw ih x y dl ds pl ps) e in
+    let (column, (row, (read, (written, none)))) = others in
+    let a = size-met 128 bw width in
+    let b = size-met 128 bh height in
+    let c = size-met 16384 iw across in
+    let d = size-met 16384 ih down in
     record {
       area = record {
         ww1 = a .0;
@@ -59,11 +57,11 @@ edge-ready bw bh iw ih x y dl ds pl ps e =
         iw14 = c .1;
         ih1 = d .0;
         ih14 = d .1;
-        left = omega (arith, place-met x (n .0));
-        top = omega (arith, place-met y (n .1 .0));
+        left = omega (arith, place-met x column);
+        top = omega (arith, place-met y row);
       };
-      dst = rows-met dl ds bw bh (t .0) (n .1 .1 .1 .0);
-      plane = rows-met pl ps iw ih (t .1 .0) (n .1 .1 .0);
+      dst = rows-met dl ds bw bh dst written;
+      plane = rows-met pl ps iw ih plane read;
     }
 
 -- ---- a turn at row j

@@ -13,7 +13,7 @@ use Rattle.rows.proofs.Laws.Blocks.Fill.{fill-same}
 use Rattle.blocks.specs.Refuse.{orSame}
 use Rattle.blocks.specs.inner.Ready.{Rows, Windowed, PartIn}
 use Rattle.blocks.specs.Window.{LentPlane, areaOf, noPart, windowOf, scratchOf, partOf, aroundPart}
-use Rattle.blocks.specs.inner.Window.{lentOf, areaAt, areaFetched}
+use Rattle.blocks.specs.inner.Window.{areaAt, areaFetched}
 use Rattle.blocks.specs.Order.{kindNumber, kindOf, Tables, Setting, askedBy, putRule, prepRule, putPicture, prepPicture, planeOf, orderNumber}
 use Rattle.blocks.specs.Order.{orderScratch, orderDst, orderTmp, OrderPutAnswer, OrderPrepAnswer}
 use Rattle.blocks.specs.inner.Order.{settingOf, lengthsOf, orderPart, OrderWindow}
