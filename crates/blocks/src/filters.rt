@@ -9,6 +9,7 @@ ghost use Rattle.blocks.specs.Subpel.{typeOk, fractionOk, subpelOk, filt
 ghost use Rattle.blocks.specs.inner.Subpel.{axisOf, filterOf, Held, tapsOf, byOne, planOf};
 use crate::numbers::on_axis;
 use crate::numbers::up32;
+use crate::refuse::Layout;
 use crate::refuse::held;
 use crate::refuse::needed;
 use crate::refuse::reads_around;
@@ -83,25 +84,32 @@ fn tables(m: SubpelMotion, tl: usize, el: usize, rest: u32) -> u32
 pub fn check_8tap(
     deep: bool,
     dl: usize,
-    dst_stride: usize,
     sl: usize,
     src_off: usize,
-    src_stride: usize,
-    w: usize,
-    h: usize,
+    l: Layout,
     m: SubpelMotion,
     tl: usize,
     el: usize,
 ) -> u32
-    ensures { λ r. ⌜ r ≡ lowest (subpelTests deep dl «dst_stride» sl «src_off» «src_stride» w h
+    ensures { λ r. ⌜ r ≡ lowest (subpelTests deep dl (l .«dst_stride») sl «src_off» (l .«src_stride») (l .w) (l .h)
         (m .mx) (m .my) (m .«filter_type») tl el) ⌝ }
 {
-    let shape = sizes(w, h, stride(w, dst_stride, stride(w, src_stride, 0)));
+    let w = l.w;
+    let h = l.h;
+    let shape = sizes(w, h, stride(w, l.dst_stride, stride(w, l.src_stride, 0)));
     if shape != 0 {
         return shape;
     }
-    let reads = reads_taps(sl, src_off, src_stride, w, h, on_axis(m.mx), on_axis(m.my));
-    let buffers = needed(reads, 5, held(dl, dst_stride, w, h, 6, 0));
+    let reads = reads_taps(
+        sl,
+        src_off,
+        l.src_stride,
+        w,
+        h,
+        on_axis(m.mx),
+        on_axis(m.my),
+    );
+    let buffers = needed(reads, 5, held(dl, l.dst_stride, w, h, 6, 0));
     needed(deep, 3, motion(m, tables(m, tl, el, buffers)))
 }
 

@@ -19,6 +19,7 @@ use crate::order::TableLengths;
 use crate::order::check_order;
 use crate::order::kind_number;
 use crate::order::kind_of;
+use crate::refuse::Layout;
 use crate::window::Part;
 use crate::window::no_part;
 use rows::bytes::pixel::Pixel;
@@ -137,9 +138,14 @@ pub fn order_put_at(
     );
     if part.number == 0 {
         let n = depth_numbers(depth);
-        let s = part.stride;
+        let l = Layout {
+            w,
+            h,
+            src_stride: part.stride,
+            dst_stride,
+        };
         let src = pick(part, plane, scratch);
-        put_kind(n, k, src, s, w, h, subpel, ext, warp, dst, dst_stride);
+        put_kind(n, k, src, l, subpel, ext, warp, dst);
     }
     part.number
 }
@@ -224,9 +230,14 @@ pub fn order_prep_at(
     );
     if part.number == 0 {
         let n = depth_numbers(depth);
-        let s = part.stride;
+        let l = Layout {
+            w,
+            h,
+            src_stride: part.stride,
+            dst_stride: tmp_stride,
+        };
         let src = pick(part, plane, scratch);
-        prep_kind(n, k, src, s, w, h, subpel, ext, warp, tmp, tmp_stride);
+        prep_kind(n, k, src, l, subpel, ext, warp, tmp);
     }
     part.number
 }

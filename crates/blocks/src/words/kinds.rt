@@ -17,6 +17,7 @@ use super::warp::warp_put;
 use crate::numbers::up32;
 use crate::order::Kind;
 use crate::refuse::DepthNumbers;
+use crate::refuse::Layout;
 use rows::words::pixel::Pixel;
 
 // The block as put.
@@ -24,30 +25,31 @@ pub fn put_kind(
     d: DepthNumbers,
     k: Kind,
     src: &[Pixel],
-    s: usize,
-    w: usize,
-    h: usize,
+    l: Layout,
     subpel: &[i8],
     ext: &[i8],
     warp: &[i8],
     dst: &mut [Pixel],
-    dst_stride: usize,
 )
-    requires { ⌜ Windowed k (length (now src)) s w h (length (now subpel)) (length (now ext)) (length (now warp))
-        × Rows (length (now dst)) «dst_stride» w h × BitsOk (d .bits) × BiasOk (d .bias) × MaxOk (d .max) ⌝ }
-    ensures { λ _. ⌜ now (dst .exit) ≡ fill (now (dst .entry)) «dst_stride» w h (λ i j. putRule (d .max) (d .bits)
-        (now (subpel .entry)) (now (ext .entry)) (now (warp .entry)) k w h i j (aroundPart (kindNumber k) (now (src .entry)) s i j)) ⌝ }
+    requires { ⌜ Windowed k (length (now src)) (l .«src_stride») (l .w) (l .h) (length (now subpel)) (length (now ext)) (length (now warp))
+        × Rows (length (now dst)) (l .«dst_stride») (l .w) (l .h) × BitsOk (d .bits) × BiasOk (d .bias) × MaxOk (d .max) ⌝ }
+    ensures { λ _. ⌜ now (dst .exit) ≡ fill (now (dst .entry)) (l .«dst_stride») (l .w) (l .h)
+        (λ i j. putRule (d .max) (d .bits) (now (subpel .entry)) (now (ext .entry)) (now (warp .entry)) k (l .w) (l .h) i j
+        (aroundPart (kindNumber k) (now (src .entry)) (l .«src_stride») i j)) ⌝ }
 {
+    let w = l.w;
+    let h = l.h;
+    let s = l.src_stride;
     let o = 3 * s + 3; // the block's first pixel, behind a margin of 3
     match k {
-        Kind::Copy => put_rows(dst, dst_stride, src, s, w, h),
-        Kind::Subpel(m) => put_8tap_rows(d, dst, dst_stride, src, o, s, w, h, m, subpel, ext),
+        Kind::Copy => put_rows(dst, l.dst_stride, src, s, w, h),
+        Kind::Subpel(m) => put_8tap_rows(d, dst, src, o, l, m, subpel, ext),
         Kind::Bilinear(m) => {
             let f = up32(m.mx);
             let g = up32(m.my);
-            put_bilin_rows(d, dst, dst_stride, src, s, w, h, f, g)
+            put_bilin_rows(d, dst, l.dst_stride, src, s, w, h, f, g)
         }
-        Kind::Warp(m) => warp_put(d, dst, dst_stride, src, s, o, m, warp),
+        Kind::Warp(m) => warp_put(d, dst, l.dst_stride, src, s, o, m, warp),
     }
 }
 
@@ -56,29 +58,30 @@ pub fn prep_kind(
     d: DepthNumbers,
     k: Kind,
     src: &[Pixel],
-    s: usize,
-    w: usize,
-    h: usize,
+    l: Layout,
     subpel: &[i8],
     ext: &[i8],
     warp: &[i8],
     tmp: &mut [i16],
-    tmp_stride: usize,
 )
-    requires { ⌜ Windowed k (length (now src)) s w h (length (now subpel)) (length (now ext)) (length (now warp))
-        × Rows (length (now tmp)) «tmp_stride» w h × BitsOk (d .bits) × BiasOk (d .bias) ⌝ }
-    ensures { λ _. ⌜ now (tmp .exit) ≡ fill (now (tmp .entry)) «tmp_stride» w h (λ i j. prepRule (d .bits) (d .bias)
-        (now (subpel .entry)) (now (ext .entry)) (now (warp .entry)) k w h i j (aroundPart (kindNumber k) (now (src .entry)) s i j)) ⌝ }
+    requires { ⌜ Windowed k (length (now src)) (l .«src_stride») (l .w) (l .h) (length (now subpel)) (length (now ext)) (length (now warp))
+        × Rows (length (now tmp)) (l .«dst_stride») (l .w) (l .h) × BitsOk (d .bits) × BiasOk (d .bias) ⌝ }
+    ensures { λ _. ⌜ now (tmp .exit) ≡ fill (now (tmp .entry)) (l .«dst_stride») (l .w) (l .h)
+        (λ i j. prepRule (d .bits) (d .bias) (now (subpel .entry)) (now (ext .entry)) (now (warp .entry)) k (l .w) (l .h) i j
+        (aroundPart (kindNumber k) (now (src .entry)) (l .«src_stride») i j)) ⌝ }
 {
+    let w = l.w;
+    let h = l.h;
+    let s = l.src_stride;
     let o = 3 * s + 3; // the block's first pixel, behind a margin of 3
     match k {
-        Kind::Copy => prep_rows(d, tmp, tmp_stride, src, s, w, h),
-        Kind::Subpel(m) => prep_8tap_rows(d, tmp, tmp_stride, src, o, s, w, h, m, subpel, ext),
+        Kind::Copy => prep_rows(d, tmp, l.dst_stride, src, s, w, h),
+        Kind::Subpel(m) => prep_8tap_rows(d, tmp, src, o, l, m, subpel, ext),
         Kind::Bilinear(m) => {
             let f = up32(m.mx);
             let g = up32(m.my);
-            prep_bilin_rows(d, tmp, tmp_stride, src, s, w, h, f, g)
+            prep_bilin_rows(d, tmp, l.dst_stride, src, s, w, h, f, g)
         }
-        Kind::Warp(m) => warp_prep(d, tmp, tmp_stride, src, s, o, m, warp),
+        Kind::Warp(m) => warp_prep(d, tmp, l.dst_stride, src, s, o, m, warp),
     }
 }

@@ -17,6 +17,7 @@ use crate::filters::SubpelMotion;
 use crate::filters::check_8tap;
 use crate::filters::plan_8tap;
 use crate::refuse::DepthNumbers;
+use crate::refuse::Layout;
 use crate::subpel::mid_prep_lines;
 use rows::numbers::half_power;
 use rows::words::copy::copy_row;
@@ -156,70 +157,70 @@ fn mid_lines(
 pub fn put_8tap_rows(
     d: DepthNumbers,
     dst: &mut [Pixel],
-    dst_stride: usize,
     src: &[Pixel],
     o: usize,
-    s: usize,
-    w: usize,
-    h: usize,
+    l: Layout,
     m: SubpelMotion,
     subpel: &[i8],
     ext: &[i8],
 )
-    requires { ⌜ Block w h × Rows (length (now dst)) «dst_stride» w h
-        × Taps (length (now src)) o s w h (m .mx) (m .my) (m .«filter_type») (length (now subpel)) (length (now ext))
+    requires { ⌜ Block (l .w) (l .h) × Rows (length (now dst)) (l .«dst_stride») (l .w) (l .h)
+        × Taps (length (now src)) o (l .«src_stride») (l .w) (l .h) (m .mx) (m .my) (m .«filter_type») (length (now subpel)) (length (now ext))
         × BitsOk (d .bits) × BiasOk (d .bias) × MaxOk (d .max) ⌝ }
     ensures { λ _. ⌜ now (dst .exit)
-        ≡ fill (now (dst .entry)) «dst_stride» w h
-        (λ i j. put8Rule (d .max) (d .bits) (now (subpel .entry)) (now (ext .entry)) (m .mx) (m .my) (m .«filter_type») w h
-        (around 3 (now (src .entry)) o s i j)) ⌝ }
+        ≡ fill (now (dst .entry)) (l .«dst_stride») (l .w) (l .h)
+        (λ i j. put8Rule (d .max) (d .bits) (now (subpel .entry)) (now (ext .entry)) (m .mx) (m .my) (m .«filter_type») (l .w) (l .h)
+        (around 3 (now (src .entry)) o (l .«src_stride») i j)) ⌝ }
 {
     let bits = d.bits;
+    let w = l.w;
+    let h = l.h;
+    let s = l.src_stride;
     let p = plan_8tap(o, s, w, h, m, bits, subpel, ext);
     if p.both {
         let n = p.bits;
         let g = p.second;
         let mut mid = [0i16; 4544];
         prep_lines(&mut mid, 64, src, s, p, bits, 0, w, h + 7);
-        mid_lines(dst, dst_stride, &mid, &g, n + bits, d.max, w, h);
+        mid_lines(dst, l.dst_stride, &mid, &g, n + bits, d.max, w, h);
         return;
     }
-    put_lines(dst, dst_stride, src, s, p, d.max, w, h);
+    put_lines(dst, l.dst_stride, src, s, p, d.max, w, h);
 }
 
 // The same of intermediates.
 pub fn prep_8tap_rows(
     d: DepthNumbers,
     tmp: &mut [i16],
-    tmp_stride: usize,
     src: &[Pixel],
     o: usize,
-    s: usize,
-    w: usize,
-    h: usize,
+    l: Layout,
     m: SubpelMotion,
     subpel: &[i8],
     ext: &[i8],
 )
-    requires { ⌜ Block w h × Rows (length (now tmp)) «tmp_stride» w h
-        × Taps (length (now src)) o s w h (m .mx) (m .my) (m .«filter_type») (length (now subpel)) (length (now ext))
+    requires { ⌜ Block (l .w) (l .h) × Rows (length (now tmp)) (l .«dst_stride») (l .w) (l .h)
+        × Taps (length (now src)) o (l .«src_stride») (l .w) (l .h) (m .mx) (m .my) (m .«filter_type») (length (now subpel)) (length (now ext))
         × BitsOk (d .bits) × BiasOk (d .bias) ⌝ }
     ensures { λ _. ⌜ now (tmp .exit)
-        ≡ fill (now (tmp .entry)) «tmp_stride» w h
-        (λ i j. prep8Rule (d .bits) (d .bias) (now (subpel .entry)) (now (ext .entry)) (m .mx) (m .my) (m .«filter_type») w h
-        (around 3 (now (src .entry)) o s i j)) ⌝ }
+        ≡ fill (now (tmp .entry)) (l .«dst_stride») (l .w) (l .h)
+        (λ i j. prep8Rule (d .bits) (d .bias) (now (subpel .entry)) (now (ext .entry)) (m .mx) (m .my) (m .«filter_type») (l .w) (l .h)
+        (around 3 (now (src .entry)) o (l .«src_stride») i j)) ⌝ }
 {
     let bits = d.bits;
+    let w = l.w;
+    let h = l.h;
+    let s = l.src_stride;
     let p = plan_8tap(o, s, w, h, m, bits, subpel, ext);
     if p.both {
         let n = p.bits;
         let g = p.second;
         let mut mid = [0i16; 4544];
         prep_lines(&mut mid, 64, src, s, p, bits, 0, w, h + 7);
-        mid_prep_lines(tmp, tmp_stride, &mid, &g, n, d.bias, w, h);
+        mid_prep_lines(tmp, l.dst_stride, &mid, &g, n, d.bias, w, h);
         return;
     }
-    prep_lines(tmp, tmp_stride, src, s, p, bits, d.bias, w, h);
+    prep_lines(tmp, l.dst_stride, src, s, p, bits, d.bias, w, h);
 }
 
 #[no_mangle]
@@ -241,6 +242,12 @@ pub extern "C" fn hv_put_8tap_16bpc(
     ensures { λ r. ⌜ Put8Answer (depthOk depth) (up depth) (now (dst .entry)) «dst_stride» (now (src .entry)) «src_off» «src_stride» w h mx my «filter_type»
         (now (subpel .entry)) (now (ext .entry)) r (now (dst .exit)) ⌝ }
 {
+    let l = Layout {
+        w,
+        h,
+        src_stride,
+        dst_stride,
+    };
     let m = SubpelMotion {
         mx,
         my,
@@ -249,31 +256,16 @@ pub extern "C" fn hv_put_8tap_16bpc(
     let number = check_8tap(
         depth_ok(depth),
         dst.len(),
-        dst_stride,
         src.len(),
         src_off,
-        src_stride,
-        w,
-        h,
+        l,
         m,
         subpel.len(),
         ext.len(),
     );
     if number == 0 {
         let d = depth_numbers(depth);
-        put_8tap_rows(
-            d,
-            dst,
-            dst_stride,
-            src,
-            src_off,
-            src_stride,
-            w,
-            h,
-            m,
-            subpel,
-            ext,
-        );
+        put_8tap_rows(d, dst, src, src_off, l, m, subpel, ext);
     }
     number
 }
@@ -297,6 +289,12 @@ pub extern "C" fn hv_prep_8tap_16bpc(
     ensures { λ r. ⌜ Prep8Answer (depthOk depth) (up depth) (now (tmp .entry)) «tmp_stride» (now (src .entry)) «src_off» «src_stride» w h mx my «filter_type»
         (now (subpel .entry)) (now (ext .entry)) r (now (tmp .exit)) ⌝ }
 {
+    let l = Layout {
+        w,
+        h,
+        src_stride,
+        dst_stride: tmp_stride,
+    };
     let m = SubpelMotion {
         mx,
         my,
@@ -305,31 +303,16 @@ pub extern "C" fn hv_prep_8tap_16bpc(
     let number = check_8tap(
         depth_ok(depth),
         tmp.len(),
-        tmp_stride,
         src.len(),
         src_off,
-        src_stride,
-        w,
-        h,
+        l,
         m,
         subpel.len(),
         ext.len(),
     );
     if number == 0 {
         let d = depth_numbers(depth);
-        prep_8tap_rows(
-            d,
-            tmp,
-            tmp_stride,
-            src,
-            src_off,
-            src_stride,
-            w,
-            h,
-            m,
-            subpel,
-            ext,
-        );
+        prep_8tap_rows(d, tmp, src, src_off, l, m, subpel, ext);
     }
     number
 }

@@ -11,10 +11,10 @@ use Rattle.blocks.proofs.filters.check_8tap.Tie as tie
 
 -- what the first part answers
 shape : (c : tie.After-sizes) → let a = c .before .before .before .args in
-    c .sizes .result ≡ lowest (shapeTests (a .dst-stride) (a .src-stride) (a .w) (a .h))
+    c .sizes .result ≡ lowest (shapeTests (a .l .«dst_stride») (a .l .«src_stride») (a .l .w) (a .l .h))
 shape c = rw (c .sizes .ensures, c .before .stride2 .ensures, c .before .before .stride .ensures)
 
-none : (c : tie.Else1) → let a = c .before .before .before .before .args in lowest (shapeTests (a .dst-stride) (a .src-stride) (a .w) (a .h)) ≡ 0
+none : (c : tie.Else1) → let a = c .before .before .before .before .args in lowest (shapeTests (a .l .«dst_stride») (a .l .«src_stride») (a .l .w) (a .l .h)) ≡ 0
 none c = sym (shape (c .before)) ∙ c .if1 .left
 
 reads-taps-requires : tie.Need-reads-taps-requires

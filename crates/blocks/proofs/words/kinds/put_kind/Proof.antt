@@ -52,7 +52,7 @@ bilin-returns c =
     let a = b .before .before in
     let k = a .before .before .before in
     let e = rw (a .up32 .ensures, b .up322 .ensures) at (c .before .before .put-bilin-rows .ensures) in
-    rw (bilin-passed (k .k2 .given .1) (b .before .struct-told2 .given), no-margin (k .before .before .before .before .args .s)) e
+    rw (bilin-passed (k .k2 .given .1) (b .before .struct-told2 .given), no-margin (k .before .before .before .before .args .l .«src_stride»)) e
 
 warp-returns : tie.Need-returns-4
 unfolding putRule before

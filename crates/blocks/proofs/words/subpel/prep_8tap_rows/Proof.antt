@@ -9,7 +9,7 @@ abbrev begin : tie.After-plan-8tap → tie.Start
 begin c = c .before .before
 
 planned : (c : tie.After-plan-8tap) → let a = begin c .args in
-    Planned (a .subpel .now) (a .ext .now) (a .o) (a .s) (a .w) (a .h) (a .m .mx) (a .m .my) (a .m .«filter_type») (a .d .bits) (c .plan-8tap .result)
+    Planned (a .subpel .now) (a .ext .now) (a .o) (a .l .«src_stride») (a .l .w) (a .l .h) (a .m .mx) (a .m .my) (a .m .«filter_type») (a .d .bits) (c .plan-8tap .result)
 planned c = record { is = c .plan-8tap .ensures }
 
 plan-8tap-requires : tie.Need-plan-8tap-requires
