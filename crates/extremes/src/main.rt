@@ -181,25 +181,35 @@ fn run_subpel() {
     let f = &[-128i8; 8];
     let g = &[127i8; 8];
     let mut d8 = [0u8; 1];
-    tap_row8(&mut d8, &[255u8; 8], 0, 1, g, 34, 6, 255);
+    tap_row8(&mut d8, &[255u8; 8], 0, 1, g, false, 34, 6, 255);
     row8(b"tap_row8", &d8);
-    mid_row8(&mut d8, &[-32768i16; 8], 0, 1, f, 1024, 11, 255);
+    mid_row8(&mut d8, &[-32768i16; 8], 0, 1, f, false, 1024, 11, 255);
     row8(b"mid_row8", &d8);
     let mut d16 = [0u16; 1];
-    tap_row16(&mut d16, &[65535u16; 8], 0, 1, f, 64, 7, 4095);
+    tap_row16(&mut d16, &[65535u16; 8], 0, 1, f, false, 64, 7, 4095);
     row16(b"tap_row16", &d16);
-    mid_row16(&mut d16, &[32767i16; 8], 0, 1, g, 512, 10, 1023);
+    mid_row16(&mut d16, &[32767i16; 8], 0, 1, g, false, 512, 10, 1023);
     row16(b"mid_row16", &d16);
 }
 
 fn run_subpel_mids() {
     let g = &[127i8; 8];
     let mut t = [0i16; 1];
-    tap_mid_row8(&mut t, &[255u8; 8], 0, 1, g, 2, 2, 0);
+    tap_mid_row8(&mut t, &[255u8; 8], 0, 1, g, false, 2, 2, 0);
     mids(b"tap_mid_row8", &t);
-    tap_mid_row16(&mut t, &[65535u16; 8], 0, 1, g, 4, 3, 8192);
+    tap_mid_row16(&mut t, &[65535u16; 8], 0, 1, g, false, 4, 3, 8192);
     mids(b"tap_mid_row16", &t);
-    mid_prep_row(&mut t, &[-32768i16; 8], 0, 1, &[-128i8; 8], 32, 6, 8192);
+    mid_prep_row(
+        &mut t,
+        &[-32768i16; 8],
+        0,
+        1,
+        &[-128i8; 8],
+        false,
+        32,
+        6,
+        8192,
+    );
     mids(b"mid_prep_row", &t);
 }
 

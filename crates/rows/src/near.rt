@@ -33,19 +33,6 @@ pub fn is_near(f: &[i8; 8]) -> bool
     s <= 128
 }
 
-// The same where sums are also rounded in sixteen bits: r is 127 at most, and n 8.
-pub fn is_short(f: &[i8; 8], r: u32, n: u32) -> bool
-    ensures { λ b. ⌜ (b ≡ true → Near (now (f .entry)) × (r ≤ 127) × (n ≤ 8)) ⌝ }
-{
-    if r > 127 {
-        false
-    } else if n > 8 {
-        false
-    } else {
-        is_near(f)
-    }
-}
-
 // acc + f x, in sixteen bits
 fn near_tap(acc: i16, f: i8, x: i16) -> i16
     requires { ⌜ (natAbs acc + natAbs f * 255 ≤ 32640) × (natAbs x ≤ 255) ⌝ }

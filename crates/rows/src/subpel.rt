@@ -10,7 +10,6 @@ ghost use Rattle.rows.specs.Numbers.{at, low16, minus16};
 ghost use Rattle.rows.specs.Places.{rowOf};
 ghost use Rattle.rows.specs.Subpel.{filter, S, tapped};
 ghost use Rattle.rows.specs.inner.Subpel.{Near, Short, Rounds};
-use crate::near::is_short;
 use crate::near::near_highs_i16;
 use crate::near::near_i16;
 use crate::near::near_kept;
@@ -158,18 +157,19 @@ pub fn mid_prep_row(
     o: usize,
     step: usize,
     f: &[i8; 8],
+    near: bool,
     r: u32,
     n: u32,
     bias: i16,
 )
-    requires { ⌜ (o + length (now tmp) + 7 * step ≤ length (now mid)) × (r < 2 ^ 20) × (n < 32) ⌝ }
+    requires { ⌜ (o + length (now tmp) + 7 * step ≤ length (now mid)) × (r ≤ 127) × (n ≤ 8) × (near ≡ true → Near (now f)) ⌝ }
     ensures { λ _. ⌜ now (tmp .exit) ≡ rowOf (length (now (tmp .entry)))
         (λ i. minus16 (low16 (tapped (now (f .entry)) r n (λ t. at (now (mid .entry)) (o + i + t * step)))) bias) ⌝ }
 {
     let by = Way { step, r, n };
     if tmp.len() < 8 {
         mid_prep_by(tmp, mid, o, f, false, by, bias);
-    } else if is_short(f, r, n) {
+    } else if near {
         mid_prep_by(tmp, mid, o, f, true, by, bias);
     } else {
         mid_prep_by(tmp, mid, o, f, false, by, bias);

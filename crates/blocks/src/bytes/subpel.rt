@@ -1,11 +1,13 @@
 // Made from crates/blocks/src/words/subpel.rt by tools/sets: change that.
 // put_8tap and prep_8tap: blocks filtered by eight taps along the rows, down the columns, both ways or not at all.
 ghost use mathlib.Core.Path.{_≡_};
-ghost use Prim.Native.Nat.{_+_, _-_, _*_, _^_, _≤_, _<_};
+ghost use mathlib.Core.Bool.{true};
+ghost use Prim.Native.Nat.{_+_, _-_, _*_, _≤_};
 ghost use lib.ListN.{length, getD};
 ghost use Rattle.rows.specs.Numbers.{up, at, half, clip};
 ghost use Rattle.rows.specs.Places.{rowOf, fill, around};
 ghost use Rattle.rows.specs.Subpel.{tapped};
+ghost use Rattle.rows.specs.inner.Subpel.{Near};
 ghost use Rattle.rows.specs.inner.bytes.Pixel.{BitsOk, BiasOk, MaxOk};
 ghost use Rattle.blocks.specs.bytes.Depth.{depthOk};
 ghost use Rattle.blocks.specs.inner.Ready.{Block, Rows, Taps, Lines};
@@ -27,6 +29,7 @@ use rows::bytes::pixel::bias_of;
 use rows::bytes::subpel::mid_row;
 use rows::bytes::subpel::tap_mid_row;
 use rows::bytes::subpel::tap_row;
+use rows::near::is_near;
 use rows::numbers::half_power;
 
 // A row by one filter at most: without one, step is 0.
@@ -36,18 +39,19 @@ fn put_line_row(
     o: usize,
     step: usize,
     f: &[i8; 8],
+    near: bool,
     r: u32,
     n: u32,
     max: u16,
 )
-    requires { ⌜ (o + length (now dst) + 7 * step ≤ length (now src)) × (r < 2 ^ 20) × (n < 32) × MaxOk max ⌝ }
+    requires { ⌜ (o + length (now dst) + 7 * step ≤ length (now src)) × (r ≤ 127) × (n ≤ 8) × (near ≡ true → Near (now f)) × MaxOk max ⌝ }
     ensures { λ _. ⌜ now (dst .exit)
         ≡ rowOf (length (now (dst .entry))) (λ i. putLine max (now (f .entry)) r n step (λ t. getD (now (src .entry)) (o + i + t * step) 0)) ⌝ }
 {
     if step == 0 {
         copy_row(dst, src, o);
     } else {
-        tap_row(dst, src, o, step, f, r, n, max);
+        tap_row(dst, src, o, step, f, near, r, n, max);
     }
 }
 
@@ -58,18 +62,20 @@ fn prep_line_row(
     o: usize,
     step: usize,
     f: &[i8; 8],
+    near: bool,
     n: u32,
     bits: u32,
     bias: u32,
 )
-    requires { ⌜ (o + length (now tmp) + 7 * step ≤ length (now src)) × (1 ≤ n) × (n ≤ 11) × BitsOk bits × BiasOk bias ⌝ }
+    requires { ⌜ (o + length (now tmp) + 7 * step ≤ length (now src)) × (n ≤ 7) × (near ≡ true → Near (now f)) × BitsOk bits × BiasOk bias ⌝ }
     ensures { λ _. ⌜ now (tmp .exit)
         ≡ rowOf (length (now (tmp .entry))) (λ i. prepLine bits bias (now (f .entry)) n step (λ t. getD (now (src .entry)) (o + i + t * step) 0)) ⌝ }
 {
     if step == 0 {
         prep_row(tmp, src, o, bits, bias);
     } else {
-        tap_mid_row(tmp, src, o, step, f, half_power(n), n, bias_of(bias) as i16);
+        let r = half_power(n);
+        tap_mid_row(tmp, src, o, step, f, near, r, n, bias_of(bias) as i16);
     }
 }
 
@@ -84,18 +90,29 @@ fn put_lines(
     w: usize,
     h: usize,
 )
-    requires { ⌜ Lines (length (now dst)) «dst_stride» (length (now src)) (p .start) «src_stride» (p .step) w h × (p .round < 2 ^ 20) × (6 ≤ p .bits)
+    requires { ⌜ Lines (length (now dst)) «dst_stride» (length (now src)) (p .start) «src_stride» (p .step) w h × (p .round ≤ 127) × (6 ≤ p .bits)
         × (p .bits ≤ 7) × MaxOk max ⌝ }
     ensures { λ _. ⌜ now (dst .exit)
         ≡ fill (now (dst .entry)) «dst_stride» w h
         (λ i j. putLine max (p .first) (p .round) (p .bits) (p .step) (along (now (src .entry)) (p .start) «src_stride» (p .step) i j)) ⌝ }
 {
     let f = p.first;
+    let near = is_near(&f);
     let mut y = 0;
     while y < h {
         let d = y * dst_stride;
         let s = p.start + y * src_stride;
-        put_line_row(&mut dst[d..d + w], src, s, p.step, &f, p.round, p.bits, max);
+        put_line_row(
+            &mut dst[d..d + w],
+            src,
+            s,
+            p.step,
+            &f,
+            near,
+            p.round,
+            p.bits,
+            max,
+        );
         y += 1;
     }
 }
@@ -119,12 +136,13 @@ fn prep_lines(
         (λ i j. prepLine bits bias (p .first) (p .bits - bits) (p .step) (along (now (src .entry)) (p .start) «src_stride» (p .step) i j)) ⌝ }
 {
     let f = p.first;
+    let near = is_near(&f);
     let n = p.bits - bits;
     let mut y = 0;
     while y < h {
         let d = y * tmp_stride;
         let s = p.start + y * src_stride;
-        prep_line_row(&mut tmp[d..d + w], src, s, p.step, &f, n, bits, bias);
+        prep_line_row(&mut tmp[d..d + w], src, s, p.step, &f, near, n, bits, bias);
         y += 1;
     }
 }
@@ -146,10 +164,11 @@ fn mid_lines(
         (λ i j. clip max (tapped (now (f .entry)) (half n) n (λ t. at (now (mid .entry)) (j * 64 + i + t * 64)))) ⌝ }
 {
     let r = half_power(n);
+    let near = is_near(f);
     let mut y = 0;
     while y < h {
         let d = y * dst_stride;
-        mid_row(&mut dst[d..d + w], mid, y * 64, 64, f, r, n, max);
+        mid_row(&mut dst[d..d + w], mid, y * 64, 64, f, near, r, n, max);
         y += 1;
     }
 }

@@ -14,11 +14,10 @@ ghost use Rattle.rows.specs.inner.bytes.Sums.{NearOk};
 use super::pixel::Pixel;
 use super::pixel::clip;
 use super::sums::by_eight;
-use super::sums::near_way;
+use super::sums::few;
+use super::sums::few_mids;
 use super::sums::rounded_taps;
 use super::sums::tap_mid_px;
-use crate::near::is_near;
-use crate::near::is_short;
 use crate::subpel::Way;
 use crate::subpel::rounded;
 use crate::subpel::sum_i16;
@@ -82,26 +81,27 @@ fn tap_by(dst: &mut [Pixel], src: &[Pixel], o: usize, f: &[i8; 8], near: bool, b
     }
 }
 
-// Pixels from pixels: put, one axis.
+// Pixels from pixels: put, one axis. That the taps are near is asked once for a block, and handed down.
 pub fn tap_row(
     dst: &mut [Pixel],
     src: &[Pixel],
     o: usize,
     step: usize,
     f: &[i8; 8],
+    near: bool,
     r: u32,
     n: u32,
     max: u16,
 )
-    requires { ⌜ (o + length (now dst) + 7 * step ≤ length (now src)) × (r < 2 ^ 20) × (n < 32) × MaxOk max ⌝ }
+    requires { ⌜ (o + length (now dst) + 7 * step ≤ length (now src)) × (r ≤ 127) × (n ≤ 8) × (near ≡ true → Near (now f)) × MaxOk max ⌝ }
     ensures { λ _. ⌜ now (dst .exit) ≡ rowOf (length (now (dst .entry)))
         (λ i. numbers.clip max (tapped (now (f .entry)) r n (λ t. px (now (src .entry)) (o + i + t * step)))) ⌝ }
 {
     let by = Way { step, r, n };
     let w = dst.len();
-    if w < 8 {
+    if few(w) {
         tap_by(dst, src, o, f, false, by, max);
-    } else if near_way(f, r, n) {
+    } else if near {
         if by_eight(w) {
             let line = near_eight(src, o, f, by, max);
             take_eight(dst, &line);
@@ -135,19 +135,20 @@ pub fn tap_mid_row(
     o: usize,
     step: usize,
     f: &[i8; 8],
+    near: bool,
     r: u32,
     n: u32,
     bias: i16,
 )
-    requires { ⌜ (o + length (now tmp) + 7 * step ≤ length (now src)) × (r < 2 ^ 20) × (n < 32) ⌝ }
+    requires { ⌜ (o + length (now tmp) + 7 * step ≤ length (now src)) × (r ≤ 127) × (n ≤ 8) × (near ≡ true → Near (now f)) ⌝ }
     ensures { λ _. ⌜ now (tmp .exit) ≡ rowOf (length (now (tmp .entry)))
         (λ i. minus16 (low16 (tapped (now (f .entry)) r n (λ t. px (now (src .entry)) (o + i + t * step)))) bias) ⌝ }
 {
     let by = Way { step, r, n };
     let w = tmp.len();
-    if w < 8 {
+    if few_mids(w) {
         tap_mid_by(tmp, src, o, f, false, by, bias);
-    } else if is_short(f, r, n) {
+    } else if near {
         if by_eight(w) {
             let line = near_eight_mid(src, o, f, by, bias);
             take_eight_mid(tmp, &line);
@@ -183,18 +184,19 @@ pub fn mid_row(
     o: usize,
     step: usize,
     f: &[i8; 8],
+    near: bool,
     r: u32,
     n: u32,
     max: u16,
 )
-    requires { ⌜ (o + length (now dst) + 7 * step ≤ length (now mid)) × (r < 2 ^ 20) × (n < 32) × MaxOk max ⌝ }
+    requires { ⌜ (o + length (now dst) + 7 * step ≤ length (now mid)) × (r < 2 ^ 20) × (n < 32) × (near ≡ true → Near (now f)) × MaxOk max ⌝ }
     ensures { λ _. ⌜ now (dst .exit) ≡ rowOf (length (now (dst .entry)))
         (λ i. numbers.clip max (tapped (now (f .entry)) r n (λ t. at (now (mid .entry)) (o + i + t * step)))) ⌝ }
 {
     let by = Way { step, r, n };
-    if dst.len() < 8 {
+    if few_mids(dst.len()) {
         mid_by(dst, mid, o, f, false, by, max);
-    } else if is_near(f) {
+    } else if near {
         mid_by(dst, mid, o, f, true, by, max);
     } else {
         mid_by(dst, mid, o, f, false, by, max);

@@ -10,7 +10,6 @@ ghost use Rattle.rows.specs.inner.Subpel.{Near, Short, Rounds};
 ghost use Rattle.rows.specs.inner.bytes.Sums.{NearOk};
 use super::pixel::Pixel;
 use super::taps::taps;
-use crate::near::is_short;
 use crate::near::near_rounded;
 use crate::near::near_tap_u8;
 use crate::numbers::keep16;
@@ -32,11 +31,18 @@ fn near_sum(src: &[Pixel], o: usize, step: usize, f: &[i8; 8]) -> i16
     s
 }
 
-// Whether pixels are made the near way.
-pub fn near_way(f: &[i8; 8], r: u32, n: u32) -> bool
-    ensures { λ b. ⌜ (b ≡ true → NearOk (now (f .entry)) r n) ⌝ }
+// Whether a row of n pixels is too short for the near way: of bytes none is, for the loop is faster.
+pub fn few(n: usize) -> bool
+    ensures { λ b. ⌜ (b ≡ true → n < 8) ⌝ }
 {
-    is_short(f, r, n)
+    false
+}
+
+// The same of a row of intermediates, or made of them: four are taken at once too.
+pub fn few_mids(n: usize) -> bool
+    ensures { λ b. ⌜ (b ≡ true → n < 8) ⌝ }
+{
+    n < 4
 }
 
 // Whether a row of n pixels is made as eight at once.

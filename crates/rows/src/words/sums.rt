@@ -10,7 +10,6 @@ ghost use Rattle.rows.specs.Subpel.{S, tapped};
 ghost use Rattle.rows.specs.inner.Subpel.{Near, Short, Rounds, byteOf};
 ghost use Rattle.rows.specs.inner.words.Sums.{NearOk};
 use super::pixel::Pixel;
-use crate::near::is_near;
 use crate::near::near_kept;
 use crate::near::near_tap_u8;
 use crate::near::near_whole;
@@ -77,11 +76,18 @@ fn far_taps(src: &[Pixel], o: usize, step: usize, f: &[i8; 8]) -> i32
     s
 }
 
-// Whether pixels are made the near way.
-pub fn near_way(f: &[i8; 8], r: u32, n: u32) -> bool
-    ensures { λ b. ⌜ (b ≡ true → NearOk (now (f .entry)) r n) ⌝ }
+// Whether a row of n pixels is too short for the near way, whose loop takes eight at once.
+pub fn few(n: usize) -> bool
+    ensures { λ b. ⌜ (b ≡ true → n < 8) ⌝ }
 {
-    is_near(f)
+    n < 8
+}
+
+// The same of a row of intermediates, or made of them.
+pub fn few_mids(n: usize) -> bool
+    ensures { λ b. ⌜ (b ≡ true → n < 8) ⌝ }
+{
+    n < 8
 }
 
 // Whether a row of n pixels is made as eight at once: of 16-bit pixels none is, for the loop is faster.

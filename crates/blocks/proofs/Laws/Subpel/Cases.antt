@@ -3,7 +3,6 @@ use mathlib.Core.Path.{_≡_, refl, sym, ap, ap₂, _∙_}
 use mathlib.Core.Bool.{Bool, true, false, true≢false}
 use mathlib.Core.List.{List}
 use Prim.Native.Nat.{ℕ, zero, suc, _+_, _-_, _*_, _^_, _≤_, _<_, min}
-use native.Mathlib.Nat.{pow-le-pow-right}
 use native.Mathlib.Omega.{arith}
 use lib.IntN.{ℤ, pos, negsuc}
 use lib.ListN.{length, getD}
@@ -19,10 +18,7 @@ use Rattle.blocks.specs.Subpel.{put8Rule, prep8Rule}
 use Rattle.blocks.specs.inner.Subpel.{tapsOf, planOf, putLine, prepLine, along}
 use Rattle.blocks.specs.declared.filters.Plan.{Plan}
 use Rattle.blocks.proofs.Laws.Subpel.Choice.{bits-fit}
-use Rattle.blocks.proofs.Laws.Subpel.Lines.{put-some, prep-some}
-
-half-le : (n : ℕ) → n ≤ 11 → half n ≤ 1024
-half-le n h = let q : 2 ^ n ≤ 2 ^ 11 = pow-le-pow-right {n = 2} (omega arith) h in omega arith
+use Rattle.blocks.proofs.Laws.Subpel.Lines.{put-some, prep-some, half-le}
 
 -- the rows that a plan's first filter makes
 abbrev pub rowsOf : Bool → ℕ → ℕ
@@ -51,12 +47,12 @@ module _ (o s w h : ℕ) (subpel ext : List ℤ) (t : ℤ) (N B : ℕ) where
   plan-bits (suc x) zero = refl
   plan-bits (suc x) (suc y) = refl
 
-  pub plan-round : (x y : ℕ) → N ≤ 11 → P x y .round < 2 ^ 20
+  pub plan-round : (x y : ℕ) → N ≤ 7 → 1 ≤ B → P x y .round ≤ 127
   unfolding planOf
-  plan-round zero zero b = omega (arith, half-le N b)
-  plan-round zero (suc y) b = omega (arith, half-le N b)
-  plan-round (suc x) zero b = omega (arith, half-le N b, half-le (N - B) (omega arith))
-  plan-round (suc x) (suc y) b = omega (arith, half-le N b, half-le (N - B) (omega arith))
+  plan-round zero zero n b = omega (arith, half-le N 7 n)
+  plan-round zero (suc y) n b = omega (arith, half-le N 7 n)
+  plan-round (suc x) zero n b = omega (arith, half-le N 7 n, half-le (N - B) 6 (omega arith))
+  plan-round (suc x) (suc y) n b = omega (arith, half-le N 7 n, half-le (N - B) 6 (omega arith))
 
   -- both filters
   pub record Both (x y : ℕ) (p : Plan) : Type 0 where
@@ -158,16 +154,16 @@ module _ {subpel ext : List ℤ} {o s w h : ℕ} {mx my t : ℤ} {B : ℕ} {p : 
   pub bits-in : (6 ≤ p .bits) × (p .bits ≤ 7)
   bits-in = rw bits (bits-fit t)
 
+  pub round-in : 1 ≤ B → p .round ≤ 127
+  round-in b = rw (z .is) (plan-round o s w h subpel ext t (filterBits t) B (up mx) (up my) (bits-fit t .1) b)
+
 module _ {subpel ext : List ℤ} {o s w h : ℕ} {mx my t : ℤ} {B : ℕ} {p : Plan} {sl tl el : ℕ}
     (z : Planned subpel ext o s w h mx my t B p) (b : Block w h) (k : Taps sl o s w h mx my t tl el) where
   reach : p .start + (rowsOf (p .both) h - 1) * s + w + 7 * p .step ≤ sl
   reach = rw (z .is) (plan-reach o s w h subpel ext t (filterBits t) B sl (b .w1) (b .h1) (up mx) (up my) (k .before, k .last))
 
-  pub one-ready : {dl ds : ℕ} → Rows dl ds w h → p .both ≡ false → Lines dl ds sl (p .start) s (p .step) w h × (p .round < 2 ^ 20)
-  one-ready r e = (
-    record { w1 = b .w1; dst = r; src = rw e at reach },
-    rw (z .is) (plan-round o s w h subpel ext t (filterBits t) B (up mx) (up my) (omega (arith, bits-fit t))),
-  )
+  pub one-ready : {dl ds : ℕ} → Rows dl ds w h → p .both ≡ false → Lines dl ds sl (p .start) s (p .step) w h
+  one-ready r e = record { w1 = b .w1; dst = r; src = rw e at reach }
 
   -- with both, into the intermediates, and from them
   pub first-ready : p .both ≡ true → Lines 4544 64 sl (p .start) s (p .step) w (h + 7)

@@ -1,7 +1,8 @@
 -- 8-tap: the rows of a block by one filter at most, and the turns of the loops over them. Assumes nothing.
 use mathlib.Core.Path.{_≡_, refl, ap}
 use mathlib.Core.List.{List}
-use Prim.Native.Nat.{ℕ, zero, suc, _+_, _-_, _*_, _≤_, _<_}
+use Prim.Native.Nat.{ℕ, zero, suc, _+_, _-_, _*_, _^_, _≤_, _<_}
+use native.Mathlib.Nat.{pow-le-pow-right}
 use native.Mathlib.Omega.{arith}
 use lib.IntN.{ℤ, pos}
 use lib.ListN.{length, getD}
@@ -13,6 +14,13 @@ use Rattle.rows.proofs.Laws.Blocks.Places.{row-same, row-fits}
 use Rattle.blocks.specs.inner.Ready.{Lines}
 use Rattle.blocks.specs.inner.Subpel.{putLine, prepLine}
 use Rattle.blocks.proofs.Laws.Loops.Rows.{Filled, filled-span, row-in}
+
+-- ---- the rounding of a shift by n
+pub half-le : (n k : ℕ) → n ≤ k → 2 * half n ≤ 2 ^ k
+half-le n k h = let q : 2 ^ n ≤ 2 ^ k = pow-le-pow-right {n = 2} (omega arith) h in omega arith
+
+pub half-short : {r n : ℕ} → r ≡ half n → n ≤ 7 → r ≤ 127
+half-short {r} {n} e h = omega (arith, half-le n 7 h)
 
 -- ---- in a turn at row y of a loop, the row is within both buffers, and the part lent is as long as the row
 module _ {A : Type 0} where

@@ -11,9 +11,8 @@ mid-prep-row-spec =
     tie.close
     (tie.spec
     (λ c κs. (omega arith, omega arith, λ e. absurd (subst T (sym e) tt)))  -- mid-prep-by-requires
-    (λ c κs. search needs)  -- is-short-requires
-    (λ c κs. (omega arith, omega arith, λ e. c .before .before .is-short .ensures (c .before .if2 .taken)))  -- mid-prep-by-requires-2
+    (λ c κs. (omega arith, omega arith, λ e. (c .before .before .before .pre .3 (c .before .if2 .taken), omega arith, omega arith)))  -- mid-prep-by-requires-2
     (λ c κs. (omega arith, omega arith, λ e. absurd (subst T (sym e) tt)))  -- mid-prep-by-requires-3
     (λ c. search needs) (λ c. rw (back (c .before .before .before .before .fits .bias)) at (c .before .mid-prep-by .ensures))  -- returns
-    (λ c. search needs) (λ c. rw (back (c .before .before .before .before .before .before .fits .bias)) at (c .before .mid-prep-by2 .ensures))  -- returns-2
-    (λ c. search needs) (λ c. rw (back (c .before .before .before .before .before .before .fits .bias)) at (c .before .mid-prep-by3 .ensures)))  -- returns-3
+    (λ c. search needs) (λ c. rw (back (c .before .before .before .before .before .fits .bias)) at (c .before .mid-prep-by2 .ensures))  -- returns-2
+    (λ c. search needs) (λ c. rw (back (c .before .before .before .before .before .fits .bias)) at (c .before .mid-prep-by3 .ensures)))  -- returns-3

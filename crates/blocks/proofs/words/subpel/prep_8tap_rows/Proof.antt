@@ -23,12 +23,7 @@ prep-lines-requires c κs =
 mid-prep-lines-requires : tie.Need-mid-prep-lines-requires
 mid-prep-lines-requires c κs =
     let m = c .before .before .before .before in let d = m .before .before .before .before in let s = begin d in
-    let n = bits-in (planned d) in (
-      second-ready (planned d) (s .pre .0) (s .pre .2) (s .pre .1) (m .prep-lines .kept .0),
-      omega (arith, s .pre .3),
-      omega (arith, s .pre .3),
-      omega arith,
-    )
+    (second-ready (planned d) (s .pre .0) (s .pre .2) (s .pre .1) (m .prep-lines .kept .0), bits-in (planned d) .1, omega arith)
 
 returns : tie.Need-returns
 returns c =
@@ -41,7 +36,7 @@ prep-lines-requires-last : tie.Need-prep-lines-requires-2
 prep-lines-requires-last c κs =
     let t = c .before in let d = t .before in let s = begin d in let n = bits-in (planned d) in
     let r = one-ready (planned d) (s .pre .0) (s .pre .2) (s .pre .1) (t .if1 .left) in
-    (r .0, n .0, n .1, s .pre .3, s .pre .4)
+    (r, n .0, n .1, s .pre .3, s .pre .4)
 
 returns-2 : tie.Need-returns-2
 returns-2 c =

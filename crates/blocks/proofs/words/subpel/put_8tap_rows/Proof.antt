@@ -1,7 +1,7 @@
 use mathlib.Core.Path.{refl, _∙_}
 use native.Mathlib.Omega.{arith}
 use borrow.Author.Needs.{needs}
-use Rattle.blocks.proofs.Laws.Subpel.Cases.{Planned, bits-in, one-ready, first-ready, second-ready, put-block, put-two}
+use Rattle.blocks.proofs.Laws.Subpel.Cases.{Planned, bits-in, round-in, one-ready, first-ready, second-ready, put-block, put-two}
 use Rattle.blocks.proofs.words.subpel.put_8tap_rows.Statement.{statement}
 use Rattle.blocks.proofs.words.subpel.put_8tap_rows.Tie as tie
 
@@ -36,7 +36,7 @@ put-lines-requires-last : tie.Need-put-lines-requires
 put-lines-requires-last c κs =
     let t = c .before in let d = t .before in let s = begin d in let n = bits-in (planned d) in
     let r = one-ready (planned d) (s .pre .0) (s .pre .2) (s .pre .1) (t .if1 .left) in
-    (r .0, r .1, n .0, n .1, s .pre .5)
+    (r, round-in (planned d) (omega (arith, s .pre .3)), n .0, n .1, s .pre .5)
 
 returns-2 : tie.Need-returns-2
 returns-2 c =

@@ -22,5 +22,5 @@ put-line-row-spec =
     tie.close
     (tie.spec
     (λ c κs. omega arith)  -- copy-row-requires
-    (λ c κs. omega arith)  -- tap-row-requires
+    (λ c κs. c .before .before .before .before .pre)  -- tap-row-requires
     (λ c. search needs) returns (λ c. search needs) returns-2)  -- same-length

@@ -1,9 +1,8 @@
 -- Made from crates/rows/proofs/words/subpel/mid_row/Proof.antt by tools/sets: change that.
 use lib.Dec.{T}
-use mathlib.Core.Path.{_∙_, sym, subst}
+use mathlib.Core.Path.{sym, subst}
 use native.Mathlib.Omega.{arith}
 use borrow.Author.Needs.{needs}
-use borrow.Author.Tests.{leb-true}
 use Rattle.rows.proofs.bytes.subpel.mid_row.Statement.{statement}
 use Rattle.rows.proofs.bytes.subpel.mid_row.Tie as tie
 
@@ -11,9 +10,9 @@ pub mid-row-spec : {M : Type 1} → statement M
 mid-row-spec =
     tie.close
     (tie.spec
+    (λ c κs. search needs)  -- few_mids(..)
     (λ c κs. (omega arith, omega arith, λ e. absurd (subst T (sym e) tt), omega arith))  -- mid-by-requires
-    (λ c κs. search needs)  -- is-near-requires
-    (λ c κs. (omega arith, omega arith, λ e. leb-true _ _ (sym (c .before .before .is-near .ensures) ∙ c .before .if2 .taken), omega arith))  -- mid-by-requires-2
+    (λ c κs. (omega arith, omega arith, λ e. c .before .before .before .before .before .pre .3 (c .before .if2 .taken), omega arith))  -- mid-by-requires-2
     (λ c κs. (omega arith, omega arith, λ e. absurd (subst T (sym e) tt), omega arith))  -- mid-by-requires-3
     (λ c. search needs) (λ c. search needs)  -- returns
     (λ c. search needs) (λ c. search needs)  -- returns-2
