@@ -19,7 +19,7 @@ use rows::w_mask::pair_row;
 use rows::w_mask::weight_row;
 
 // h rows of w places, a stride apart.
-pub struct Layout {
+pub struct Extent {
     pub stride: usize,
     pub w: usize,
     pub h: usize,
@@ -72,7 +72,7 @@ fn mask_numbers(deep: bool, sign: i32, ss_hor: bool, ss_ver: bool, rest: u32) ->
     )
 }
 
-fn mask_buffers(l: WMaskLengths, block: Layout, mask: Layout) -> u32
+fn mask_buffers(l: WMaskLengths, block: Extent, mask: Extent) -> u32
     ensures { λ r. ⌜ r ≡ need (holdsAll (l .tmp1) (block .w) (block .h)) 5 (need (holdsAll (l .tmp2) (block .w) (block .h)) 5
         (need (holds (l .dst) (block .stride) (block .w) (block .h)) 6 (need (holds (l .mask) (mask .stride) (mask .w) (mask .h)) 6 0))) ⌝ }
 {
@@ -85,7 +85,7 @@ fn mask_buffers(l: WMaskLengths, block: Layout, mask: Layout) -> u32
 pub fn check_w_mask(
     deep: bool,
     l: WMaskLengths,
-    block: Layout,
+    block: Extent,
     mask_stride: usize,
     sign: i32,
     ss_hor: bool,
@@ -98,7 +98,7 @@ pub fn check_w_mask(
     let h = block.h;
     let mw = mask_side(ss_hor, w);
     let mh = mask_side(ss_ver, h);
-    let mask = Layout {
+    let mask = Extent {
         stride: mask_stride,
         w: mw,
         h: mh,

@@ -17,7 +17,7 @@ use super::depth::depth_numbers;
 use super::depth::depth_ok;
 use crate::numbers::up32;
 use crate::refuse::DepthNumbers;
-use crate::w_mask::Layout;
+use crate::w_mask::Extent;
 use crate::w_mask::MaskForm;
 use crate::w_mask::WMaskLengths;
 use crate::w_mask::check_w_mask;
@@ -69,7 +69,7 @@ fn weighed_rows(
 fn w_mask_rows(
     n: DepthNumbers,
     dst: &mut [Pixel],
-    block: Layout,
+    block: Extent,
     tmp1: &[i16],
     tmp2: &[i16],
     mask: &mut [u8],
@@ -118,7 +118,7 @@ pub fn w_mask_at(
     ensures { λ r. ⌜ WMaskAnswer (depthOk depth) (up depth) (now (dst .entry)) «dst_stride» (now (tmp1 .entry)) (now (tmp2 .entry)) w h (now (mask .entry))
         «mask_stride» sign «ss_hor» «ss_ver» r (now (dst .exit)) (now (mask .exit)) ⌝ }
 {
-    let block = Layout {
+    let block = Extent {
         stride: dst_stride,
         w,
         h,
