@@ -24,7 +24,7 @@ prep-lines-requires c κs =
 mid-prep-lines-requires : tie.Need-mid-prep-lines-requires
 mid-prep-lines-requires c κs =
     let m = c .before .before .before .before in let d = m .before .before .before .before in let s = begin d in
-    (second-ready (planned d) (s .pre .0) (s .pre .2) (s .pre .1) (m .prep-lines .kept .0), bits-in (planned d) .1, omega arith)
+    (second-ready (planned d) (s .pre .0) (s .pre .2) (s .pre .1) (m .prep-lines .kept .0), omega (arith, bits-in (planned d)), omega arith)
 
 returns : tie.Need-returns
 returns c =
