@@ -13,6 +13,7 @@ use crate::numbers::within;
 use crate::refuse::held;
 use crate::refuse::needed;
 use crate::refuse::stride;
+use rows::warp::Slope;
 use rows::warp::filter_no;
 use rows::warp::warp_prep_row;
 
@@ -138,14 +139,13 @@ pub fn warp_prep_rows(
     tmp_stride: usize,
     mid: &[i16],
     table: &[i8],
-    m: i32,
-    a: i16,
-    b: i16,
+    by: Slope,
     bias: u32,
 )
-    requires { ⌜ Rows (length (now tmp)) «tmp_stride» 8 8 × (length (now mid) ≡ 120) × Pass (length (now table) / 8) m a b 8 × (bias ≤ 8192) ⌝ }
+    requires { ⌜ Rows (length (now tmp)) «tmp_stride» 8 8 × (length (now mid) ≡ 120) × Pass (length (now table) / 8) (by .m) (by .a) (by .b) 8
+        × (bias ≤ 8192) ⌝ }
     ensures { λ _. ⌜ now (tmp .exit) ≡ fill (now (tmp .entry)) «tmp_stride» 8 8
-        (λ i j. minus16 (low16 (warped (now (table .entry)) m a b 7 j i (λ v. at (now (mid .entry)) (j + i * 15 + v)))) (pos bias)) ⌝ }
+        (λ i j. minus16 (low16 (warped (now (table .entry)) (by .m) (by .a) (by .b) 7 j i (λ v. at (now (mid .entry)) (j + i * 15 + v)))) (pos bias)) ⌝ }
 {
     let mut y = 0;
     while y < 8 {
@@ -155,9 +155,7 @@ pub fn warp_prep_rows(
             mid,
             y,
             table,
-            m,
-            a,
-            b,
+            by,
             y as u32,
             7,
             bias as i16,

@@ -26,6 +26,7 @@ use rows::w_mask::abs_diff16;
 use rows::w_mask::four_row;
 use rows::w_mask::pair_row;
 use rows::w_mask::weight_row;
+use rows::warp::Slope;
 use rows::warp::warp_prep_row;
 use rows::words::bilinear::mid_bilin_row as mid_bilin_row16;
 use rows::words::bilinear::prep_bilin_row as prep_bilin_row16;
@@ -248,19 +249,20 @@ fn run_warp() {
     let low: &[i8] = &[-128i8; 1544];
     let high: &[i8] = &[127i8; 1544];
     let least: &[i16] = &[-32768i16; 113];
+    let flat = Slope { m: 0, a: 0, b: 0 };
     let mut mid = [0i16; 15];
-    warp_column8(&mut mid, &[255u8; 120], 0, 8, high, 0, 0, 0, 7, 3);
+    warp_column8(&mut mid, &[255u8; 120], 0, 8, high, flat, 7, 3);
     mids(b"warp_column8", &mid);
-    warp_column16(&mut mid, &[65535u16; 120], 0, 8, high, 0, 0, 0, 7, 5);
+    warp_column16(&mut mid, &[65535u16; 120], 0, 8, high, flat, 7, 5);
     mids(b"warp_column16", &mid);
     let mut d8 = [0u8; 8];
-    warp_put_row8(&mut d8, least, 0, low, 0, 0, 0, 7, 11, 255);
+    warp_put_row8(&mut d8, least, 0, low, flat, 7, 11, 255);
     row8(b"warp_put_row8", &d8);
     let mut d16 = [0u16; 8];
-    warp_put_row16(&mut d16, &[32767i16; 113], 0, high, 0, 0, 0, 7, 9, 4095);
+    warp_put_row16(&mut d16, &[32767i16; 113], 0, high, flat, 7, 9, 4095);
     row16(b"warp_put_row16", &d16);
     let mut tmp = [0i16; 8];
-    warp_prep_row(&mut tmp, least, 0, low, 0, 0, 0, 7, 7, 8192);
+    warp_prep_row(&mut tmp, least, 0, low, flat, 7, 7, 8192);
     mids(b"warp_prep_row", &tmp);
 }
 

@@ -16,6 +16,13 @@ use crate::numbers::wrapping_sub16;
 use crate::subpel::rounded;
 use crate::subpel::taps_i16;
 
+// Which filters a pass has: m for the first place, a more for each column, b more for each row, in parts of 1024.
+pub struct Slope {
+    pub m: i32,
+    pub a: i16,
+    pub b: i16,
+}
+
 // 192 + ((m + c a + r b + 512) >> 10)
 pub fn filter_no(m: i32, a: i16, b: i16, r: u32, c: u32) -> i32
     requires { ⌜ (natAbs m ≤ 2 ^ 20) × (r ≤ 14) × (c ≤ 7) ⌝ }
@@ -25,11 +32,11 @@ pub fn filter_no(m: i32, a: i16, b: i16, r: u32, c: u32) -> i32
 }
 
 // The filter of column c of row r, which is in the table.
-pub fn filter_for<'a>(table: &'a [i8], m: i32, a: i16, b: i16, r: u32, c: u32) -> &'a [i8]
-    requires { ⌜ (natAbs m ≤ 2 ^ 20) × (r ≤ 14) × (c ≤ 7) × (isThere (length (now table) / 8) (filterNo m a b r c) ≡ true) ⌝ }
-    ensures { λ f. ⌜ now f ≡ filter (now (table .entry)) (natAbs (filterNo m a b r c)) ⌝ }
+pub fn filter_for<'a>(table: &'a [i8], by: Slope, r: u32, c: u32) -> &'a [i8]
+    requires { ⌜ (natAbs (by .m) ≤ 2 ^ 20) × (r ≤ 14) × (c ≤ 7) × (isThere (length (now table) / 8) (filterNo (by .m) (by .a) (by .b) r c) ≡ true) ⌝ }
+    ensures { λ f. ⌜ now f ≡ filter (now (table .entry)) (natAbs (filterNo (by .m) (by .a) (by .b) r c)) ⌝ }
 {
-    let q = 8 * filter_no(m, a, b, r, c) as usize;
+    let q = 8 * filter_no(by.m, by.a, by.b, r, c) as usize;
     &table[q..q + 8]
 }
 
@@ -47,21 +54,19 @@ pub fn warp_prep_row(
     mid: &[i16],
     o: usize,
     table: &[i8],
-    m: i32,
-    a: i16,
-    b: i16,
+    by: Slope,
     r: u32,
     n: u32,
     bias: i16,
 )
-    requires { ⌜ (length (now tmp) ≡ 8) × (o + 7 * 15 + 8 ≤ length (now mid)) × (natAbs m ≤ 2 ^ 20) × (r ≤ 14) × (1 ≤ n) × (n ≤ 11) ⌝ }
-    requires { ⌜ RowThere (length (now table) / 8) m a b r ⌝ }
+    requires { ⌜ (length (now tmp) ≡ 8) × (o + 7 * 15 + 8 ≤ length (now mid)) × (natAbs (by .m) ≤ 2 ^ 20) × (r ≤ 14) × (1 ≤ n) × (n ≤ 11) ⌝ }
+    requires { ⌜ RowThere (length (now table) / 8) (by .m) (by .a) (by .b) r ⌝ }
     ensures { λ _. ⌜ now (tmp .exit) ≡ rowOf 8
-        (λ c. minus16 (low16 (warped (now (table .entry)) m a b n r c (λ t. at (now (mid .entry)) (o + c * 15 + t)))) bias) ⌝ }
+        (λ c. minus16 (low16 (warped (now (table .entry)) (by .m) (by .a) (by .b) n r c (λ t. at (now (mid .entry)) (o + c * 15 + t)))) bias) ⌝ }
 {
     let mut c = 0;
     while c < 8 {
-        let f = filter_for(table, m, a, b, r, c as u32);
+        let f = filter_for(table, by, r, c as u32);
         let v = wrapping_sub16(warp_kept(taps_i16(mid, o + c * 15, 1, f), n), bias);
         tmp[c] = v;
         c += 1;

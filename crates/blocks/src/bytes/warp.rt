@@ -19,22 +19,14 @@ use crate::warp::warp_prep_rows;
 use rows::bytes::pixel::Pixel;
 use rows::bytes::warp::warp_column;
 use rows::bytes::warp::warp_put_row;
+use rows::warp::Slope;
 
 // The first pass: fifteen rows of eight intermediates, column after column; the first tap of the first stands at place o.
-fn warp_mid(
-    mid: &mut [i16],
-    src: &[Pixel],
-    o: usize,
-    s: usize,
-    table: &[i8],
-    m: i32,
-    a: i16,
-    b: i16,
-    bits: u32,
-)
-    requires { ⌜ (length (now mid) ≡ 120) × (o + 14 * s + 15 ≤ length (now src)) × Pass (length (now table) / 8) m a b 15 × BitsOk bits ⌝ }
+fn warp_mid(mid: &mut [i16], src: &[Pixel], o: usize, s: usize, table: &[i8], by: Slope, bits: u32)
+    requires { ⌜ (length (now mid) ≡ 120) × (o + 14 * s + 15 ≤ length (now src)) × Pass (length (now table) / 8) (by .m) (by .a) (by .b) 15
+        × BitsOk bits ⌝ }
     ensures { λ _. ⌜ now (mid .exit) ≡ fill (now (mid .entry)) 15 15 8
-        (λ r i. low16 (warped (now (table .entry)) m a b (7 - bits) r i (λ u. px (now (src .entry)) (o + i + r * s + u)))) ⌝ }
+        (λ r i. low16 (warped (now (table .entry)) (by .m) (by .a) (by .b) (7 - bits) r i (λ u. px (now (src .entry)) (o + i + r * s + u)))) ⌝ }
 {
     let mut x = 0;
     while x < 8 {
@@ -45,9 +37,7 @@ fn warp_mid(
             o + x,
             s,
             table,
-            m,
-            a,
-            b,
+            by,
             x as u32,
             7 - bits,
         );
@@ -61,15 +51,14 @@ fn warp_put_rows(
     dst_stride: usize,
     mid: &[i16],
     table: &[i8],
-    m: i32,
-    a: i16,
-    b: i16,
+    by: Slope,
     bits: u32,
     max: u16,
 )
-    requires { ⌜ Rows (length (now dst)) «dst_stride» 8 8 × (length (now mid) ≡ 120) × Pass (length (now table) / 8) m a b 8 × BitsOk bits × MaxOk max ⌝ }
+    requires { ⌜ Rows (length (now dst)) «dst_stride» 8 8 × (length (now mid) ≡ 120) × Pass (length (now table) / 8) (by .m) (by .a) (by .b) 8
+        × BitsOk bits × MaxOk max ⌝ }
     ensures { λ _. ⌜ now (dst .exit) ≡ fill (now (dst .entry)) «dst_stride» 8 8
-        (λ i j. clip max (low16 (warped (now (table .entry)) m a b (7 + bits) j i (λ v. at (now (mid .entry)) (j + i * 15 + v))))) ⌝ }
+        (λ i j. clip max (low16 (warped (now (table .entry)) (by .m) (by .a) (by .b) (7 + bits) j i (λ v. at (now (mid .entry)) (j + i * 15 + v))))) ⌝ }
 {
     let mut y = 0;
     while y < 8 {
@@ -79,9 +68,7 @@ fn warp_put_rows(
             mid,
             y,
             table,
-            m,
-            a,
-            b,
+            by,
             y as u32,
             7 + bits,
             max,
@@ -106,19 +93,20 @@ pub fn warp_put(
         (λ i j. warpPut (n .max) (n .bits) (now (warp .entry)) (m .mx) (m .my) (m .a) (m .b) (m .c) (m .d) i j
         (around 3 (now (src .entry)) «src_off» «src_stride» i j)) ⌝ }
 {
+    let o = src_off - (3 * src_stride + 3);
+    let first = Slope {
+        m: m.mx,
+        a: m.a,
+        b: m.b,
+    };
     let mut mid = [0i16; 120];
-    warp_mid(
-        &mut mid,
-        src,
-        src_off - (3 * src_stride + 3),
-        src_stride,
-        warp,
-        m.mx,
-        m.a,
-        m.b,
-        n.bits,
-    );
-    warp_put_rows(dst, dst_stride, &mid, warp, m.my, m.c, m.d, n.bits, n.max);
+    warp_mid(&mut mid, src, o, src_stride, warp, first, n.bits);
+    let second = Slope {
+        m: m.my,
+        a: m.c,
+        b: m.d,
+    };
+    warp_put_rows(dst, dst_stride, &mid, warp, second, n.bits, n.max);
 }
 
 pub fn warp_prep(
@@ -137,19 +125,20 @@ pub fn warp_prep(
         (λ i j. warpPrep (n .bits) (n .bias) (now (warp .entry)) (m .mx) (m .my) (m .a) (m .b) (m .c) (m .d) i j
         (around 3 (now (src .entry)) «src_off» «src_stride» i j)) ⌝ }
 {
+    let o = src_off - (3 * src_stride + 3);
+    let first = Slope {
+        m: m.mx,
+        a: m.a,
+        b: m.b,
+    };
     let mut mid = [0i16; 120];
-    warp_mid(
-        &mut mid,
-        src,
-        src_off - (3 * src_stride + 3),
-        src_stride,
-        warp,
-        m.mx,
-        m.a,
-        m.b,
-        n.bits,
-    );
-    warp_prep_rows(tmp, tmp_stride, &mid, warp, m.my, m.c, m.d, n.bias);
+    warp_mid(&mut mid, src, o, src_stride, warp, first, n.bits);
+    let second = Slope {
+        m: m.my,
+        a: m.c,
+        b: m.d,
+    };
+    warp_prep_rows(tmp, tmp_stride, &mid, warp, second, n.bias);
 }
 
 pub fn warp_affine_8x8_at(

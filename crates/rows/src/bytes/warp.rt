@@ -14,6 +14,7 @@ use super::pixel::Pixel;
 use super::pixel::clip;
 use super::taps::taps;
 use crate::subpel::taps_i16;
+use crate::warp::Slope;
 use crate::warp::filter_for;
 use crate::warp::warp_kept;
 
@@ -24,20 +25,18 @@ pub fn warp_column(
     o: usize,
     s: usize,
     table: &[i8],
-    m: i32,
-    a: i16,
-    b: i16,
+    by: Slope,
     c: u32,
     n: u32,
 )
-    requires { ⌜ (length (now mid) ≡ 15) × (o + 14 * s + 8 ≤ length (now src)) × (natAbs m ≤ 2 ^ 20) × (c ≤ 7) × (1 ≤ n) × (n ≤ 11) ⌝ }
-    requires { ⌜ ((r : ℕ) → r < 15 → isThere (length (now table) / 8) (filterNo m a b r c) ≡ true) ⌝ }
+    requires { ⌜ (length (now mid) ≡ 15) × (o + 14 * s + 8 ≤ length (now src)) × (natAbs (by .m) ≤ 2 ^ 20) × (c ≤ 7) × (1 ≤ n) × (n ≤ 11) ⌝ }
+    requires { ⌜ ((r : ℕ) → r < 15 → isThere (length (now table) / 8) (filterNo (by .m) (by .a) (by .b) r c) ≡ true) ⌝ }
     ensures { λ _. ⌜ now (mid .exit) ≡ rowOf 15
-        (λ r. low16 (warped (now (table .entry)) m a b n r c (λ t. px (now (src .entry)) (o + r * s + t)))) ⌝ }
+        (λ r. low16 (warped (now (table .entry)) (by .m) (by .a) (by .b) n r c (λ t. px (now (src .entry)) (o + r * s + t)))) ⌝ }
 {
     let mut r = 0;
     while r < 15 {
-        let f = filter_for(table, m, a, b, r as u32, c);
+        let f = filter_for(table, by, r as u32, c);
         let v = warp_kept(taps(src, o + r * s, 1, f), n);
         mid[r] = v;
         r += 1;
@@ -50,21 +49,19 @@ pub fn warp_put_row(
     mid: &[i16],
     o: usize,
     table: &[i8],
-    m: i32,
-    a: i16,
-    b: i16,
+    by: Slope,
     r: u32,
     n: u32,
     max: u16,
 )
-    requires { ⌜ (length (now dst) ≡ 8) × (o + 7 * 15 + 8 ≤ length (now mid)) × (natAbs m ≤ 2 ^ 20) × (r ≤ 14) × (1 ≤ n) × (n ≤ 11) × MaxOk max ⌝ }
-    requires { ⌜ RowThere (length (now table) / 8) m a b r ⌝ }
+    requires { ⌜ (length (now dst) ≡ 8) × (o + 7 * 15 + 8 ≤ length (now mid)) × (natAbs (by .m) ≤ 2 ^ 20) × (r ≤ 14) × (1 ≤ n) × (n ≤ 11) × MaxOk max ⌝ }
+    requires { ⌜ RowThere (length (now table) / 8) (by .m) (by .a) (by .b) r ⌝ }
     ensures { λ _. ⌜ now (dst .exit) ≡ rowOf 8
-        (λ c. clip max (low16 (warped (now (table .entry)) m a b n r c (λ t. at (now (mid .entry)) (o + c * 15 + t))))) ⌝ }
+        (λ c. clip max (low16 (warped (now (table .entry)) (by .m) (by .a) (by .b) n r c (λ t. at (now (mid .entry)) (o + c * 15 + t))))) ⌝ }
 {
     let mut c = 0;
     while c < 8 {
-        let f = filter_for(table, m, a, b, r, c as u32);
+        let f = filter_for(table, by, r, c as u32);
         let v = clip(warp_kept(taps_i16(mid, o + c * 15, 1, f), n) as i32, max);
         dst[c] = v;
         c += 1;

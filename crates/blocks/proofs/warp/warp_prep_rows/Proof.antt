@@ -2,23 +2,22 @@ use native.Mathlib.Omega.{arith}
 use Prim.Native.Nat.{_+_, _-_, _*_, _≤_}
 use lib.IntN.{pos}
 use lib.ListN.{length}
-use mir.Syntax.{w16, w32}
-use mir.Val.{toZ}
+use mir.Syntax.{w16}
 use borrow.Author.Needs.{needs}
 use Rattle.rows.specs.Numbers.{at, low16, minus16}
 use Rattle.rows.specs.Warp.{warped}
-use Rattle.rows.proofs.Laws.Numbers.Signed.{back, backn}
-use Rattle.blocks.proofs.Laws.Loops.Rows.{Filled, filled-none, filled-all, filled-span, row-in, block-loop}
+use Rattle.rows.proofs.Laws.Numbers.Signed.{backn}
+use Rattle.blocks.proofs.Laws.Loops.Rows.{Filled, filled-none, filled-span, row-in, block-loop}
 use Rattle.blocks.proofs.Laws.Warp.Passes.{filled-row}
 use Rattle.blocks.proofs.warp.warp_prep_rows.Statement.{statement}
 use Rattle.blocks.proofs.warp.warp_prep_rows.Tie as tie
 
 abbrev Inv-loop : tie.InvT-loop
-Inv-loop tmp₀ ds mid table m a b bias y₀ tmp y =
-    Filled ds 8 (λ i j. minus16 (low16 (warped table (toZ w32 m) (toZ w16 a) (toZ w16 b) 7 j i (λ v. at mid (j + i * 15 + v)))) (pos bias)) tmp₀ 8 y tmp
+Inv-loop tmp₀ ds mid table by bias y₀ tmp y =
+    Filled ds 8 (λ i j. minus16 (low16 (warped table (by .m) (by .a) (by .b) 7 j i (λ v. at mid (j + i * 15 + v)))) (pos bias)) tmp₀ 8 y tmp
 
 abbrev μ-loop : tie.MeasureT-loop
-μ-loop tmp₀ ds mid table m a b bias y₀ tmp y = 8 - y
+μ-loop tmp₀ ds mid table by bias y₀ tmp y = 8 - y
 
 -- the function's entry, from a turn of the loop
 abbrev entry : tie.In-loop Inv-loop μ-loop → tie.Start Inv-loop μ-loop
@@ -32,7 +31,6 @@ warp-prep-row-requires : tie.Need-warp-prep-row-requires Inv-loop μ-loop
 warp-prep-row-requires c κs =
     let t = c .before in let l = t .before .loop in
     let s = entry t in let lt = t .loop-test .taken in
-    rw (back (s .fits .m), back (s .fits .a), back (s .fits .b))
     (omega (arith, filled-span (pos 0) (l .inv) (s .pre .0) lt, s .pre .2 .near), s .pre .2 .there (l .y) lt)
 
 loop-again : tie.Need-loop-again Inv-loop μ-loop
@@ -41,11 +39,6 @@ loop-again c =
     let s = entry t in
     let e = rw (backn w16 (s .args .bias) (omega (arith, s .pre .3))) at (c .before .warp-prep-row .ensures) in
     filled-row (pos 0) _ (t .before .loop .inv) (omega arith) (s .pre .0) (t .loop-test .taken) e
-
-returns : tie.Need-returns Inv-loop μ-loop
-returns c =
-    let s = c .before .before in
-    rw (← back (s .fits .m), ← back (s .fits .a), ← back (s .fits .b)) (filled-all (c .before .loop .inv) (c .loop-test .left))
 
 pub warp-prep-rows-spec : {M : Type 1} → statement M
 warp-prep-rows-spec =
@@ -56,4 +49,4 @@ warp-prep-rows-spec =
     (λ c. omega (arith, row c)) (λ c. omega (arith, row c)) (λ c. omega (arith, row c)) (λ c. omega (arith, row c))  -- tmp[d..d + 8]
     (λ c. omega (arith, c .before .loop-test .taken)) (λ c. omega arith)  -- y as u32, bias as i16
     warp-prep-row-requires
-    (λ c. search needs) (λ c. search needs) loop-again (λ c. search block-loop) returns)  -- y += 1, and the loop
+    (λ c. search needs) (λ c. search needs) loop-again (λ c. search block-loop) (λ c. search block-loop))  -- y += 1, and the loop

@@ -14,11 +14,11 @@ use Rattle.rows.proofs.warp.warp_prep_row.Statement.{statement}
 use Rattle.rows.proofs.warp.warp_prep_row.Tie as tie
 
 abbrev Inv-loop : tie.InvT-loop
-Inv-loop tmp₀ mid o table m a b r n bias c₀ tmp c =
-    Upto (pos 0) (λ x. minus16 (low16 (warped table (toZ w32 m) (toZ w16 a) (toZ w16 b) n r x (λ t. at mid (o + x * 15 + t)))) (toZ w16 bias)) 8 c tmp
+Inv-loop tmp₀ mid o table by r n bias c₀ tmp c =
+    Upto (pos 0) (λ x. minus16 (low16 (warped table (by .m) (by .a) (by .b) n r x (λ t. at mid (o + x * 15 + t)))) (toZ w16 bias)) 8 c tmp
 
 abbrev μ-loop : tie.MeasureT-loop
-μ-loop tmp₀ mid o table m a b r n bias c₀ tmp c = 8 - c
+μ-loop tmp₀ mid o table by r n bias c₀ tmp c = 8 - c
 
 -- the function's entry, from the loop's head
 abbrev begin : tie.At-loop Inv-loop μ-loop → tie.Start Inv-loop μ-loop
@@ -27,7 +27,7 @@ begin c = c .before
 filter-for-requires : tie.Need-filter-for-requires Inv-loop μ-loop
 filter-for-requires c κs =
     let s = begin (c .before) in
-    rw (back (s .fits .m), back (s .fits .a), back (s .fits .b)) (omega arith, omega arith, omega arith, s .pre .1 (c .before .loop .c) (omega arith))
+    (omega arith, omega arith, omega arith, s .pre .1 (c .before .loop .c) (omega arith))
 
 loop-again : tie.Need-loop-again Inv-loop μ-loop
 unfolding warped
@@ -41,9 +41,7 @@ loop-again c =
     upto-kept (f .before .before .loop .inv) (omega arith) fv (rw (c .wrapping-sub16 .ensures, back fk, e))
 
 returns : tie.Need-returns Inv-loop μ-loop
-returns c =
-    let s = begin (c .before) in
-    rw (← back (s .fits .m), ← back (s .fits .a), ← back (s .fits .b), ← back (s .fits .bias)) (upto-all (c .before .loop .inv) (omega arith))
+returns c = rw (← back (begin (c .before) .fits .bias)) (upto-all (c .before .loop .inv) (omega arith))
 
 pub warp-prep-row-spec : {M : Type 1} → statement M
 warp-prep-row-spec =

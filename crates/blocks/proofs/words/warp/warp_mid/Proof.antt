@@ -1,21 +1,18 @@
 use native.Mathlib.Omega.{arith}
 use Prim.Native.Nat.{_-_}
 use lib.IntN.{pos}
-use mir.Syntax.{w16, w32}
-use mir.Val.{toZ}
 use borrow.Author.Needs.{needs}
-use Rattle.rows.proofs.Laws.Numbers.Signed.{back}
-use Rattle.blocks.proofs.Laws.Loops.Rows.{Filled, Turn, filled-none, filled-all, block-loop}
+use Rattle.blocks.proofs.Laws.Loops.Rows.{Filled, Turn, filled-none, block-loop}
 use Rattle.blocks.proofs.Laws.Warp.Passes.{first, column-part, column-more}
 use Rattle.blocks.proofs.words.warp.warp_mid.Statement.{statement}
 use Rattle.blocks.proofs.words.warp.warp_mid.Tie as tie
 
 abbrev Inv-loop : tie.InvT-loop
-Inv-loop mid₀ src o s table m a b bits x₀ mid x =
-    Filled 15 15 (first bits table (toZ w32 m) (toZ w16 a) (toZ w16 b) src o s) mid₀ 8 x mid
+Inv-loop mid₀ src o s table by bits x₀ mid x =
+    Filled 15 15 (first bits table (by .m) (by .a) (by .b) src o s) mid₀ 8 x mid
 
 abbrev μ-loop : tie.MeasureT-loop
-μ-loop mid₀ src o s table m a b bits x₀ mid x = 8 - x
+μ-loop mid₀ src o s table by bits x₀ mid x = 8 - x
 
 -- the function's entry, from a turn of the loop
 abbrev entry : tie.In-loop Inv-loop μ-loop → tie.Start Inv-loop μ-loop
@@ -28,18 +25,12 @@ part c = column-part (c .before .loop .inv) (entry c .pre .0) (c .loop-test .tak
 warp-column-requires : tie.Need-warp-column-requires Inv-loop μ-loop
 warp-column-requires c κs =
     let t = c .before in let s = entry t in let lt = t .loop-test .taken in
-    rw (back (s .fits .m), back (s .fits .a), back (s .fits .b))
     (omega (arith, part t, lt, s .pre .1, s .pre .2 .near), λ r h. s .pre .2 .there r h (t .before .loop .x) lt)
 
 loop-again : tie.Need-loop-again Inv-loop μ-loop
 loop-again c =
     let t = c .before .before .before in
     column-more (t .before .loop .inv) (entry t .pre .0) (t .loop-test .taken) _ (c .before .warp-column .ensures)
-
-returns : tie.Need-returns Inv-loop μ-loop
-returns c =
-    let s = c .before .before .before in
-    rw (← back (s .fits .m), ← back (s .fits .a), ← back (s .fits .b)) (filled-all (c .before .loop .inv) (c .loop-test .left))
 
 pub warp-mid-spec : {M : Type 1} → statement M
 warp-mid-spec =
@@ -50,4 +41,4 @@ warp-mid-spec =
     (λ c. omega (arith, part c)) (λ c. omega (arith, part c)) (λ c. omega (arith, part c)) (λ c. omega (arith, part c))  -- mid[d..d + 15]
     (λ c. omega (arith, c .before .loop-test .taken)) (λ c. omega (arith, c .before .loop-test .taken)) (λ c. omega arith)  -- o + x, x as u32, 7 - bits
     warp-column-requires
-    (λ c. search needs) (λ c. search needs) loop-again (λ c. search block-loop) returns)  -- x += 1, and the loop
+    (λ c. search needs) (λ c. search needs) loop-again (λ c. search block-loop) (λ c. search block-loop))  -- x += 1, and the loop

@@ -1,23 +1,20 @@
 use native.Mathlib.Omega.{arith}
 use Prim.Native.Nat.{_+_, _-_, _*_, _≤_}
 use lib.ListN.{length}
-use mir.Syntax.{w16, w32}
-use mir.Val.{toZ}
 use borrow.Author.Needs.{needs}
 use Rattle.rows.specs.Numbers.{at, clip, low16}
 use Rattle.rows.specs.Warp.{warped}
-use Rattle.rows.proofs.Laws.Numbers.Signed.{back}
-use Rattle.blocks.proofs.Laws.Loops.Rows.{Filled, filled-none, filled-all, filled-span, row-in, block-loop}
+use Rattle.blocks.proofs.Laws.Loops.Rows.{Filled, filled-none, filled-span, row-in, block-loop}
 use Rattle.blocks.proofs.Laws.Warp.Passes.{filled-row}
 use Rattle.blocks.proofs.words.warp.warp_put_rows.Statement.{statement}
 use Rattle.blocks.proofs.words.warp.warp_put_rows.Tie as tie
 
 abbrev Inv-loop : tie.InvT-loop
-Inv-loop dst₀ ds mid table m a b bits max y₀ dst y =
-    Filled ds 8 (λ i j. clip max (low16 (warped table (toZ w32 m) (toZ w16 a) (toZ w16 b) (7 + bits) j i (λ v. at mid (j + i * 15 + v))))) dst₀ 8 y dst
+Inv-loop dst₀ ds mid table by bits max y₀ dst y =
+    Filled ds 8 (λ i j. clip max (low16 (warped table (by .m) (by .a) (by .b) (7 + bits) j i (λ v. at mid (j + i * 15 + v))))) dst₀ 8 y dst
 
 abbrev μ-loop : tie.MeasureT-loop
-μ-loop dst₀ ds mid table m a b bits max y₀ dst y = 8 - y
+μ-loop dst₀ ds mid table by bits max y₀ dst y = 8 - y
 
 -- the function's entry, from a turn of the loop
 abbrev entry : tie.In-loop Inv-loop μ-loop → tie.Start Inv-loop μ-loop
@@ -31,18 +28,12 @@ warp-put-row-requires : tie.Need-warp-put-row-requires Inv-loop μ-loop
 warp-put-row-requires c κs =
     let t = c .before in let l = t .before .loop in
     let s = entry t in let lt = t .loop-test .taken in
-    rw (back (s .fits .m), back (s .fits .a), back (s .fits .b))
     (omega (arith, filled-span 0 (l .inv) (s .pre .0) lt, s .pre .2 .near), s .pre .2 .there (l .y) lt)
 
 loop-again : tie.Need-loop-again Inv-loop μ-loop
 loop-again c =
     let t = c .before .before .before .before in
     filled-row 0 _ (t .before .loop .inv) (omega arith) (entry t .pre .0) (t .loop-test .taken) (c .before .before .warp-put-row .ensures)
-
-returns : tie.Need-returns Inv-loop μ-loop
-returns c =
-    let s = c .before .before .before in
-    rw (← back (s .fits .m), ← back (s .fits .a), ← back (s .fits .b)) (filled-all (c .before .loop .inv) (c .loop-test .left))
 
 pub warp-put-rows-spec : {M : Type 1} → statement M
 warp-put-rows-spec =
@@ -54,4 +45,4 @@ warp-put-rows-spec =
     (λ c. omega (arith, row c)) (λ c. omega (arith, row c)) (λ c. omega (arith, row c))  -- dst[d..d + 8]
     (λ c. omega (arith, c .before .loop-test .taken)) (λ c. omega arith)  -- y as u32, 7 + bits
     warp-put-row-requires
-    (λ c. search needs) (λ c. search needs) loop-again (λ c. search block-loop) returns)  -- y += 1, and the loop
+    (λ c. search needs) (λ c. search needs) loop-again (λ c. search block-loop) (λ c. search block-loop))  -- y += 1, and the loop

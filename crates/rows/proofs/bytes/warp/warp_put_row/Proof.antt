@@ -3,7 +3,7 @@ use Prim.Native.Nat.{_+_, _*_, _-_}
 use native.Mathlib.Omega.{arith}
 use borrow.Author.Needs.{needs}
 use mir.Syntax.{w16, w32}
-use mir.Val.{SFits, toZ}
+use mir.Val.{SFits}
 use Rattle.rows.specs.Numbers.{at, clip, low16}
 use Rattle.rows.specs.Warp.{warped}
 use Rattle.rows.proofs.Laws.Numbers.Signed.{back, back16, reading}
@@ -13,11 +13,11 @@ use Rattle.rows.proofs.bytes.warp.warp_put_row.Statement.{statement}
 use Rattle.rows.proofs.bytes.warp.warp_put_row.Tie as tie
 
 abbrev Inv-loop : tie.InvT-loop
-Inv-loop dst₀ mid o table m a b r n max c₀ dst c =
-    Upto 0 (λ x. clip max (low16 (warped table (toZ w32 m) (toZ w16 a) (toZ w16 b) n r x (λ t. at mid (o + x * 15 + t))))) 8 c dst
+Inv-loop dst₀ mid o table by r n max c₀ dst c =
+    Upto 0 (λ x. clip max (low16 (warped table (by .m) (by .a) (by .b) n r x (λ t. at mid (o + x * 15 + t))))) 8 c dst
 
 abbrev μ-loop : tie.MeasureT-loop
-μ-loop dst₀ mid o table m a b r n max c₀ dst c = 8 - c
+μ-loop dst₀ mid o table by r n max c₀ dst c = 8 - c
 
 -- the function's entry, from the loop's head
 abbrev begin : tie.At-loop Inv-loop μ-loop → tie.Start Inv-loop μ-loop
@@ -26,7 +26,7 @@ begin c = c .before .before
 filter-for-requires : tie.Need-filter-for-requires Inv-loop μ-loop
 filter-for-requires c κs =
     let s = begin (c .before) in
-    rw (back (s .fits .m), back (s .fits .a), back (s .fits .b)) (omega arith, omega arith, omega arith, s .pre .1 (c .before .loop .c) (omega arith))
+    (omega arith, omega arith, omega arith, s .pre .1 (c .before .loop .c) (omega arith))
 
 loop-again : tie.Need-loop-again Inv-loop μ-loop
 unfolding warped
@@ -37,11 +37,6 @@ loop-again c =
     let mid = begin (f .before .before) .args .mid .now in
     let e = warp-kept-is (at mid) _ _ (f .filter-for .ensures) (t .taps-i16 .ensures .0) (rw (back ft) at (k .warp-kept .ensures)) in
     upto-more (f .before .before .loop .inv) (omega arith) (rw (c .clip .ensures, back16 fk, e))
-
-returns : tie.Need-returns Inv-loop μ-loop
-returns c =
-    let s = begin (c .before) in
-    rw (← back (s .fits .m), ← back (s .fits .a), ← back (s .fits .b)) (upto-all (c .before .loop .inv) (omega arith))
 
 pub warp-put-row-spec : {M : Type 1} → statement M
 warp-put-row-spec =
@@ -54,4 +49,4 @@ warp-put-row-spec =
     (λ c. search reading) (λ c κs. omega arith)  -- clip(.. as i32, max)
     (λ c. omega arith)  -- dst[c] =
     (λ c. omega arith) (λ c. omega arith) loop-again  -- c += 1
-    (λ c. omega arith) returns)
+    (λ c. omega arith) (λ c. upto-all (c .before .loop .inv) (omega arith)))

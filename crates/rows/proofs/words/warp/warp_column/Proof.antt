@@ -4,7 +4,7 @@ use lib.IntN.{pos}
 use lib.ListN.{length}
 use borrow.Author.Needs.{needs}
 use mir.Syntax.{w16, w32}
-use mir.Val.{SFits, toZ}
+use mir.Val.{SFits}
 use Rattle.rows.specs.Numbers.{px, low16}
 use Rattle.rows.specs.Warp.{warped}
 use Rattle.rows.proofs.Laws.Numbers.Signed.{back}
@@ -15,11 +15,11 @@ use Rattle.rows.proofs.words.warp.warp_column.Statement.{statement}
 use Rattle.rows.proofs.words.warp.warp_column.Tie as tie
 
 abbrev Inv-loop : tie.InvT-loop
-Inv-loop mid₀ src o s table m a b c n r₀ mid r =
-    Upto (pos 0) (λ x. low16 (warped table (toZ w32 m) (toZ w16 a) (toZ w16 b) n x c (λ t. px src (o + x * s + t)))) 15 r mid
+Inv-loop mid₀ src o s table by c n r₀ mid r =
+    Upto (pos 0) (λ x. low16 (warped table (by .m) (by .a) (by .b) n x c (λ t. px src (o + x * s + t)))) 15 r mid
 
 abbrev μ-loop : tie.MeasureT-loop
-μ-loop mid₀ src o s table m a b c n r₀ mid r = 15 - r
+μ-loop mid₀ src o s table by c n r₀ mid r = 15 - r
 
 -- the function's entry, from the loop's head
 abbrev begin : tie.At-loop Inv-loop μ-loop → tie.Start Inv-loop μ-loop
@@ -32,7 +32,7 @@ place c = tap-row _ _ _ _ (begin (c .before) .pre .0 .1) (c .loop-test .taken)
 filter-for-requires : tie.Need-filter-for-requires Inv-loop μ-loop
 filter-for-requires c κs =
     let s = begin (c .before) in
-    rw (back (s .fits .m), back (s .fits .a), back (s .fits .b)) (omega arith, omega arith, omega arith, s .pre .1 (c .before .loop .r) (omega arith))
+    (omega arith, omega arith, omega arith, s .pre .1 (c .before .loop .r) (omega arith))
 
 loop-again : tie.Need-loop-again Inv-loop μ-loop
 unfolding warped
@@ -44,11 +44,6 @@ loop-again c =
     upto-kept (f .before .before .loop .inv) (omega arith) fk
     (warp-kept-is (px src) _ _ (f .filter-for .ensures) (t .taps .ensures .0) (rw (back ft) at (c .warp-kept .ensures)))
 
-returns : tie.Need-returns Inv-loop μ-loop
-returns c =
-    let s = begin (c .before) in
-    rw (← back (s .fits .m), ← back (s .fits .a), ← back (s .fits .b)) (upto-all (c .before .loop .inv) (omega arith))
-
 pub warp-column-spec : {M : Type 1} → statement M
 warp-column-spec =
     tie.close
@@ -59,4 +54,4 @@ warp-column-spec =
     (λ c κs. search needs)  -- warp_kept(..)
     (λ c. omega arith) (λ c. omega arith)  -- mid[r] =
     (λ c. omega arith) (λ c. omega arith) loop-again  -- r += 1
-    (λ c. omega arith) returns)
+    (λ c. omega arith) (λ c. upto-all (c .before .loop .inv) (omega arith)))
