@@ -5,7 +5,6 @@ pub mod bytes;
 pub mod combine;
 pub mod copy;
 pub mod edge;
-pub mod filters;
 pub mod frame;
 pub mod numbers;
 pub mod order;

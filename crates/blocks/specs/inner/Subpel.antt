@@ -8,9 +8,9 @@ use Rattle.rows.specs.Places.{rowOf}
 use Rattle.rows.specs.Numbers.{half, clip, low16, minus16}
 use Rattle.rows.specs.Copy.{put, prep}
 use Rattle.rows.specs.Subpel.{Axis, whole, by, filter, family, axis, tapped}
-use Rattle.blocks.specs.declared.filters.Filter.{Filter}
-use Rattle.blocks.specs.declared.filters.Filter.the-variants.{Off, Ext, Subpel}
-use Rattle.blocks.specs.declared.filters.Plan.{Plan}
+use Rattle.blocks.specs.declared.subpel.plan.Filter.{Filter}
+use Rattle.blocks.specs.declared.subpel.plan.Filter.the-variants.{Off, Ext, Subpel}
+use Rattle.blocks.specs.declared.subpel.plan.Plan.{Plan}
 
 -- what each case of the code's filter is: none, or the filter of that number in ext or in subpel
 unfoldable pub axisOf : (subpel ext : List ℤ) → Filter → Axis

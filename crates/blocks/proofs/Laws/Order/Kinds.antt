@@ -19,7 +19,7 @@ use Rattle.blocks.specs.Order.{kindSizeOk, motionOk, filtersOk}
 use Rattle.blocks.specs.inner.Ready.{Block, Rows, Taps, Bilin, Warps, Windowed}
 use Rattle.blocks.specs.declared.order.Kind.{Kind}
 use Rattle.blocks.specs.declared.order.Kind.the-variants.{Copy, Subpel, Bilinear, Warp}
-use Rattle.blocks.specs.declared.filters.SubpelMotion.{SubpelMotion}
+use Rattle.blocks.specs.declared.subpel.plan.SubpelMotion.{SubpelMotion}
 use Rattle.blocks.specs.declared.order.BilinMotion.{BilinMotion}
 use Rattle.blocks.specs.declared.warp.Shears.{Shears}
 use Rattle.blocks.proofs.Laws.Subpel.Ready.{held}

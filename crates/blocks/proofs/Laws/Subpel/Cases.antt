@@ -16,7 +16,7 @@ use Rattle.rows.proofs.Laws.Numbers.Low.{low16-again}
 use Rattle.blocks.specs.inner.Ready.{Block, Rows, Taps, Lines}
 use Rattle.blocks.specs.Subpel.{put8Rule, prep8Rule}
 use Rattle.blocks.specs.inner.Subpel.{tapsOf, planOf, putLine, prepLine, along}
-use Rattle.blocks.specs.declared.filters.Plan.{Plan}
+use Rattle.blocks.specs.declared.subpel.plan.Plan.{Plan}
 use Rattle.blocks.proofs.Laws.Subpel.Choice.{bits-fit}
 use Rattle.blocks.proofs.Laws.Subpel.Lines.{put-some, prep-some, half-le}
 

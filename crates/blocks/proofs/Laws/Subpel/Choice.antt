@@ -9,7 +9,7 @@ use lib.IntN.{ℤ, pos, negsuc}
 use Rattle.rows.specs.Numbers.{up, dn, half}
 use Rattle.rows.specs.Subpel.{family, axis, filterBits}
 use Rattle.blocks.specs.inner.Subpel.{axisOf, filterOf, tapsOf, byOne, planOf}
-use Rattle.blocks.specs.declared.filters.Filter.the-variants.{Off, Ext, Subpel}
+use Rattle.blocks.specs.declared.subpel.plan.Filter.the-variants.{Off, Ext, Subpel}
 
 -- ---- the filter of an axis
 pub axis-of : (subpel ext : List ℤ) (t : ℤ) (f side : ℕ) → axisOf subpel ext (filterOf t f side) ≡ axis subpel ext t f side

@@ -1,0 +1,75 @@
+-- Made from crates/blocks/proofs/words/order/kinds/put_kind/Proof.antt by tools/sets: change that.
+use native.Mathlib.Omega.{arith}
+use borrow.Author.Needs.{needs}
+use mathlib.Core.Path.{ap, _∙_}
+use Rattle.rows.specs.Places.{fill}
+use Rattle.rows.specs.Copy.{put}
+use Rattle.blocks.specs.Window.{before}
+use Rattle.blocks.specs.Order.{putRule}
+use Rattle.blocks.proofs.Laws.Order.Kinds.{copy-ready, subpel-ready, bilin-ready, warp-ready}
+use Rattle.blocks.proofs.Laws.Order.Kinds.{bilin-passed, warp-size, from-window, no-margin}
+use Rattle.blocks.proofs.bytes.order.kinds.put_kind.Statement.{statement}
+use Rattle.blocks.proofs.bytes.order.kinds.put_kind.Tie as tie
+
+copy-requires : tie.Need-put-rows-requires
+copy-requires c κs = let p = c .before .before .before .before .before .pre in copy-ready (p .0) (p .1) (c .before .enum-told .given .1)
+
+subpel-requires : tie.Need-put-8tap-rows-requires
+subpel-requires c κs =
+    let k = c .before .before in
+    let p = k .before .before .before .before .pre in
+    let r = subpel-ready (p .0) (p .1) (k .k .given .1) in
+    (r .0, r .1, r .2, p .2, p .3, p .4)
+
+bilin-requires : tie.Need-put-bilin-rows-requires
+bilin-requires c κs =
+    let b = c .before .before in
+    let a = b .before in
+    let k = a .before .before .before in
+    let p = k .before .before .before .before .pre in
+    rw (a .up32 .ensures, c .before .up322 .ensures) (bilin-ready (p .0) (p .1) (bilin-passed (k .k2 .given .1) (b .struct-told2 .given)), p .2, p .4)
+
+warp-requires : tie.Need-warp-put-requires
+warp-requires c κs =
+    let k = c .before .before in
+    let p = k .before .before .before .before .pre in
+    (warp-ready (p .0) (p .1) (k .k3 .given .1), p .2, p .4)
+
+copy-returns : tie.Need-returns
+unfolding putRule
+copy-returns c = rw (c .before .before .before .before .enum-told .given .1) (c .before .before .put-rows .ensures ∙ ap (fill _ _ _ _) (from-window put _ _))
+
+subpel-returns : tie.Need-returns-2
+unfolding putRule before
+subpel-returns c =
+    let t = c .before .before .before in
+    let k = t .before .before in
+    rw (k .k .given .1) (c .before .before .put-8tap-rows .ensures)
+
+bilin-returns : tie.Need-returns-3
+unfolding putRule before
+bilin-returns c =
+    let b = c .before .before .before .before in
+    let a = b .before .before in
+    let k = a .before .before .before in
+    let e = rw (a .up32 .ensures, b .up322 .ensures) at (c .before .before .put-bilin-rows .ensures) in
+    rw (bilin-passed (k .k2 .given .1) (b .before .struct-told2 .given), no-margin (k .before .before .before .before .args .l .«src_stride»)) e
+
+warp-returns : tie.Need-returns-4
+unfolding putRule before
+warp-returns c =
+    let t = c .before .before .before in
+    let k = t .before .before in
+    let e = k .k3 .given .1 in
+    let z = warp-size (k .before .before .before .before .pre .0) e in
+    rw (z .0, z .1, e) (c .before .before .warp-put .ensures)
+
+pub put-kind-spec : {M : Type 1} → statement M
+put-kind-spec =
+    tie.close
+    (tie.spec
+    (λ c. omega (arith, c .before .before .pre .0 .src .most)) (λ c. omega (arith, c .before .before .pre .0 .src .most))  -- first
+    (λ c. search needs) copy-requires (λ c. search needs) subpel-requires (λ c. search needs)  -- enum-told, enum-known-k
+    (λ c κs. search needs) (λ c κs. search needs) bilin-requires (λ c. search needs) warp-requires  -- above, enum-known-k
+    (λ c. search needs) copy-returns (λ c. search needs) subpel-returns (λ c. search needs) bilin-returns (λ c. search needs)  -- same-length
+    warp-returns)

@@ -1,0 +1,78 @@
+-- Made from crates/blocks/proofs/words/order/hv_order_put_16bpc/Proof.antt by tools/sets: change that.
+use borrow.Author.Needs.{needs}
+use mathlib.Core.Path.{_≡_, refl, sym, ap, _∙_}
+use mathlib.Core.Bool.{true}
+use Prim.Native.Nat.{ℕ}
+use mir.Syntax.{w32}
+use Rattle.rows.specs.Numbers.{up}
+use Rattle.rows.proofs.Laws.Numbers.Signed.{back}
+use Rattle.blocks.specs.bytes.Depth.{depthOk}
+use Rattle.blocks.specs.Order.{kindOf, Tables}
+use Rattle.blocks.proofs.Laws.bytes.Deep.{deep-bits, deep-bias, deep-max}
+use Rattle.blocks.proofs.Laws.Calls.Told.{passed}
+use Rattle.blocks.proofs.Laws.Order.Run.{ordered-number, ordered, ordered-deep, order-part, order-rows, put-done, put-refused, order-passed}
+use Rattle.blocks.proofs.Laws.Order.Run.{setting-passed, put-passed}
+use Rattle.blocks.proofs.bytes.order.order_put_at.Statement.{statement}
+use Rattle.blocks.proofs.bytes.order.order_put_at.Tie as tie
+
+-- the function's entry, and the window's call, from where its number is 0
+abbrev entry : tie.After-order-window → tie.Start
+entry c = c .before .before .before .before .before .before .before
+
+abbrev window : tie.Then1 → tie.After-order-window
+window c = c .before .before .before .before
+
+kind-is : (c : tie.After-order-window) → let a = entry c .args in
+    c .before .before .before .kind-of .result ≡ kindOf (a .kind) (a .mx) (a .my) (a .filter-type) (a .a) (a .b) (a .c) (a .d)
+kind-is c =
+    let f = entry c .fits in
+    rw (back (f .mx), back (f .my), back (f .filter-type), back (f .a), back (f .b), back (f .c), back (f .d)) at (c .before .before .before .kind-of .ensures)
+
+-- the depth as it is passed on, and the tables
+abbrev depth : tie.After-order-window → ℕ
+depth c = up (passed w32 (entry c .args .depth))
+
+abbrev tables : tie.After-order-window → Tables
+tables c = let a = entry c .args in record { subpel = a .subpel .now; ext = a .ext .now; warp = a .warp .now }
+
+deep : (c : tie.Then1) → depthOk (passed w32 (entry (window c) .args .depth)) ≡ true
+deep c =
+    let w = window c in
+    sym (w .before .before .depth-ok .ensures)
+    ∙ ordered-deep (ordered (depth w) (tables w) refl (w .order-window .ensures) (c .if1 .taken))
+
+pick-requires : tie.Need-pick-requires
+pick-requires c κs =
+    let t = c .before .before in let w = window t in
+    order-part (ordered (depth w) (tables w) refl (w .order-window .ensures) (t .if1 .taken))
+
+put-kind-requires : tie.Need-put-kind-requires
+put-kind-requires c κs =
+    let s = c .before in let d = s .before .before in let t = d .before in let p = deep t in let w = window t in
+    let r = order-rows (ordered (depth w) (tables w) refl (w .order-window .ensures) (t .if1 .taken)) (s .pick .ensures) in
+    rw (d .depth-numbers .ensures) (r .0, r .1, deep-bits _ p, deep-bias _ p, deep-max _ p)
+
+returns : tie.Need-returns
+returns c =
+    let k = c .before .before in let s = k .before .before in let d = s .before .before in let t = d .before in
+    let w = window t in let f = entry w .fits in
+    let q = ordered (depth w) (tables w) refl (w .order-window .ensures) (t .if1 .taken) in
+    let e = rw (d .depth-numbers .ensures) at (k .put-kind .ensures) in
+    put-passed _ _ _ _ _ (setting-passed _ _ (w .before .before .depth-ok .ensures ∙ ap depthOk (back (f .depth))) (ap up (back (f .depth))))
+    (order-passed _ _ (back (f .x)) (back (f .y)) (kind-is w)) _ _
+    (put-done _ _ _ _ _ _ (ordered-number (depth w) (tables w) refl (w .order-window .ensures)) q (s .pick .ensures) e)
+
+returns-2 : tie.Need-returns-2
+returns-2 c =
+    let w = c .before .before .before .before in let f = entry w .fits in
+    put-passed _ _ _ _ _ (setting-passed _ _ (w .before .before .depth-ok .ensures ∙ ap depthOk (back (f .depth))) (ap up (back (f .depth))))
+    (order-passed _ _ (back (f .x)) (back (f .y)) (kind-is w)) _ _
+    (put-refused _ _ _ _ _ _ (ordered-number (depth w) (tables w) refl (w .order-window .ensures)) (w .order-window .ensures .full) (c .if1 .left))
+
+pub order-put-at-spec : {M : Type 1} → statement M
+order-put-at-spec =
+    tie.close
+    (tie.spec
+    (λ c κs. search needs) (λ c κs. search needs) (λ c κs. search needs)  -- kind-of, depth-ok, order-window
+    (λ c κs. deep c) pick-requires put-kind-requires  -- depth-numbers-requires
+    (λ c. search needs) (λ c. search needs) returns (λ c. search needs) returns-2)  -- same-length

@@ -1,0 +1,51 @@
+use mathlib.Core.Path.{_≡_, sym, _∙_}
+use mathlib.Core.Bool.{true}
+use borrow.Author.Tests.{leb-true}
+use Rattle.rows.specs.inner.Subpel.{Near}
+use native.Mathlib.Omega.{arith}
+use Prim.Native.Nat.{_-_}
+use lib.ListN.{length}
+use borrow.Author.Needs.{needs}
+use Rattle.blocks.specs.inner.Subpel.{putLine, along}
+use Rattle.blocks.proofs.Laws.Loops.Rows.{Filled, filled-none, block-loop}
+use Rattle.blocks.proofs.Laws.Subpel.Lines.{Turn, turn}
+use Rattle.blocks.proofs.words.subpel.lines.put_lines.Statement.{statement}
+use Rattle.blocks.proofs.words.subpel.lines.put_lines.Tie as tie
+
+abbrev Inv-loop : tie.InvT-loop
+Inv-loop dst₀ ds src s p max w h f near y₀ dst y =
+    Filled ds w (λ i j. putLine max (p .first) (p .round) (p .bits) (p .step) (along src (p .start) s (p .step) i j)) dst₀ h y dst
+
+abbrev μ-loop : tie.MeasureT-loop
+μ-loop dst₀ ds src s p max w h f near y₀ dst y = h - y
+
+-- the function's entry, from a turn of the loop
+abbrev entry : tie.In-loop Inv-loop μ-loop → tie.Start Inv-loop μ-loop
+entry c = c .before .before .before .before .before .before .before
+
+row : (c : tie.In-loop Inv-loop μ-loop) → let a = entry c .args in
+    Turn (c .before .loop .dst) (a .dst-stride) (length (a .src .now)) (a .p .start) (a .src-stride) (a .p .step) (a .w) (c .before .loop .y)
+row c = turn 0 (entry c .pre .0) (c .before .loop .inv) (c .loop-test .taken)
+
+-- where the taps are said to be near, they are
+near : (c : tie.In-loop Inv-loop μ-loop) → c .before .before .is-near .result ≡ true → Near (entry c .args .p .first)
+near c e = leb-true _ _ (sym (c .before .before .is-near .ensures) ∙ e)
+
+put-line-row-requires : tie.Need-put-line-row-requires Inv-loop μ-loop
+put-line-row-requires c κs =
+    let t = c .before .before .before in
+    let p = entry t .pre in
+    (omega (arith, row t), p .1, omega (arith, p), near t, p .4)
+
+pub put-lines-spec : {M : Type 1} → statement M
+put-lines-spec =
+    tie.close
+    (tie.spec Inv-loop μ-loop
+    (λ c κs. search needs)  -- is-near
+    (λ c. filled-none 0 _ _ _ _ _ (omega (arith, c .before .before .before .before .before .pre .0 .dst)))  -- loop-holds
+    (λ c. omega (arith, row c)) (λ c. omega (arith, row c))  -- y * dst_stride, y * src_stride
+    (λ c. omega (arith, row (c .before))) (λ c. omega (arith, row (c .before)))  -- p.start + .., d + w
+    (λ c. omega (arith, row (c .before)))  -- words: 2 * d
+    (λ c. omega (arith, row (c .before))) (λ c. omega (arith, row (c .before))) (λ c. omega (arith, row (c .before)))  -- dst[d..d + w]
+    put-line-row-requires
+    (λ c. search needs) (λ c. search needs) (λ c. search block-loop) (λ c. search block-loop) (λ c. search block-loop))  -- y += 1, and the loop
