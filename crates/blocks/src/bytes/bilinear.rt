@@ -113,7 +113,7 @@ fn mid_bilin_rows(
 
 // Both axes: along the rows into intermediates, a row more than the block has, then down their columns.
 fn put_bilin_both(
-    n: DepthNumbers,
+    d: DepthNumbers,
     dst: &mut [Pixel],
     ds: usize,
     src: &[Pixel],
@@ -123,10 +123,10 @@ fn put_bilin_both(
     f: u32,
     g: u32,
 )
-    requires { ⌜ Bilin (length (now dst)) ds (length (now src)) ss w h f g × (1 ≤ f) × (1 ≤ g) × BitsOk (n .bits) × MaxOk (n .max) ⌝ }
-    ensures { λ _. ⌜ now (dst .exit) ≡ fill (now (dst .entry)) ds w h (λ i j. putBilin (n .max) (n .bits) f g (around 0 (now (src .entry)) 0 ss i j)) ⌝ }
+    requires { ⌜ Bilin (length (now dst)) ds (length (now src)) ss w h f g × (1 ≤ f) × (1 ≤ g) × BitsOk (d .bits) × MaxOk (d .max) ⌝ }
+    ensures { λ _. ⌜ now (dst .exit) ≡ fill (now (dst .entry)) ds w h (λ i j. putBilin (d .max) (d .bits) f g (around 0 (now (src .entry)) 0 ss i j)) ⌝ }
 {
-    let b = bits_of(n.bits);
+    let b = bits_of(d.bits);
     let mut mid = [0i16; 4160];
     let by = PairWay {
         step: 1,
@@ -134,12 +134,12 @@ fn put_bilin_both(
         n: 4 - b,
     };
     prep_bilin_axis(&mut mid, 64, src, ss, w, h + 1, by, 0);
-    mid_bilin_rows(dst, ds, &mid, w, h, g, 4 + b, n.max);
+    mid_bilin_rows(dst, ds, &mid, w, h, g, 4 + b, d.max);
 }
 
 // The same into intermediates.
 fn prep_bilin_both(
-    n: DepthNumbers,
+    d: DepthNumbers,
     tmp: &mut [i16],
     ts: usize,
     src: &[Pixel],
@@ -149,11 +149,11 @@ fn prep_bilin_both(
     f: u32,
     g: u32,
 )
-    requires { ⌜ Bilin (length (now tmp)) ts (length (now src)) ss w h f g × (1 ≤ f) × (1 ≤ g) × BitsOk (n .bits) × BiasOk (n .bias) ⌝ }
-    ensures { λ _. ⌜ now (tmp .exit) ≡ fill (now (tmp .entry)) ts w h (λ i j. prepBilin (n .bits) (n .bias) f g (around 0 (now (src .entry)) 0 ss i j)) ⌝ }
+    requires { ⌜ Bilin (length (now tmp)) ts (length (now src)) ss w h f g × (1 ≤ f) × (1 ≤ g) × BitsOk (d .bits) × BiasOk (d .bias) ⌝ }
+    ensures { λ _. ⌜ now (tmp .exit) ≡ fill (now (tmp .entry)) ts w h (λ i j. prepBilin (d .bits) (d .bias) f g (around 0 (now (src .entry)) 0 ss i j)) ⌝ }
 {
-    let b = bits_of(n.bits);
-    let p = bias_of(n.bias);
+    let b = bits_of(d.bits);
+    let p = bias_of(d.bias);
     let mut mid = [0i16; 4160];
     let by = PairWay {
         step: 1,
@@ -166,7 +166,7 @@ fn prep_bilin_both(
 
 // The block in its four cases: both fractions, the horizontal alone, the vertical alone, none.
 pub fn put_bilin_rows(
-    n: DepthNumbers,
+    d: DepthNumbers,
     dst: &mut [Pixel],
     ds: usize,
     src: &[Pixel],
@@ -176,13 +176,13 @@ pub fn put_bilin_rows(
     f: u32,
     g: u32,
 )
-    requires { ⌜ Bilin (length (now dst)) ds (length (now src)) ss w h f g × BitsOk (n .bits) × MaxOk (n .max) ⌝ }
-    ensures { λ _. ⌜ now (dst .exit) ≡ fill (now (dst .entry)) ds w h (λ i j. putBilin (n .max) (n .bits) f g (around 0 (now (src .entry)) 0 ss i j)) ⌝ }
+    requires { ⌜ Bilin (length (now dst)) ds (length (now src)) ss w h f g × BitsOk (d .bits) × MaxOk (d .max) ⌝ }
+    ensures { λ _. ⌜ now (dst .exit) ≡ fill (now (dst .entry)) ds w h (λ i j. putBilin (d .max) (d .bits) f g (around 0 (now (src .entry)) 0 ss i j)) ⌝ }
 {
-    let b = bits_of(n.bits);
+    let b = bits_of(d.bits);
     if f != 0 {
         if g != 0 {
-            put_bilin_both(n, dst, ds, src, ss, w, h, f, g);
+            put_bilin_both(d, dst, ds, src, ss, w, h, f, g);
         } else {
             let by = PairWay {
                 step: 1,
@@ -193,7 +193,7 @@ pub fn put_bilin_rows(
                 r: half_power(b),
                 k: b,
             };
-            put_bilin_axis(dst, ds, src, ss, w, h, by, last, n.max);
+            put_bilin_axis(dst, ds, src, ss, w, h, by, last, d.max);
         }
     } else if g != 0 {
         let by = PairWay {
@@ -202,7 +202,7 @@ pub fn put_bilin_rows(
             n: 4,
         };
         let last = LastRounding { r: 0, k: 0 };
-        put_bilin_axis(dst, ds, src, ss, w, h, by, last, n.max);
+        put_bilin_axis(dst, ds, src, ss, w, h, by, last, d.max);
     } else {
         put_rows(dst, ds, src, ss, w, h);
     }
@@ -210,7 +210,7 @@ pub fn put_bilin_rows(
 
 // The same into intermediates.
 pub fn prep_bilin_rows(
-    n: DepthNumbers,
+    d: DepthNumbers,
     tmp: &mut [i16],
     ts: usize,
     src: &[Pixel],
@@ -220,14 +220,14 @@ pub fn prep_bilin_rows(
     f: u32,
     g: u32,
 )
-    requires { ⌜ Bilin (length (now tmp)) ts (length (now src)) ss w h f g × BitsOk (n .bits) × BiasOk (n .bias) ⌝ }
-    ensures { λ _. ⌜ now (tmp .exit) ≡ fill (now (tmp .entry)) ts w h (λ i j. prepBilin (n .bits) (n .bias) f g (around 0 (now (src .entry)) 0 ss i j)) ⌝ }
+    requires { ⌜ Bilin (length (now tmp)) ts (length (now src)) ss w h f g × BitsOk (d .bits) × BiasOk (d .bias) ⌝ }
+    ensures { λ _. ⌜ now (tmp .exit) ≡ fill (now (tmp .entry)) ts w h (λ i j. prepBilin (d .bits) (d .bias) f g (around 0 (now (src .entry)) 0 ss i j)) ⌝ }
 {
-    let b = bits_of(n.bits);
-    let p = bias_of(n.bias);
+    let b = bits_of(d.bits);
+    let p = bias_of(d.bias);
     if f != 0 {
         if g != 0 {
-            prep_bilin_both(n, tmp, ts, src, ss, w, h, f, g);
+            prep_bilin_both(d, tmp, ts, src, ss, w, h, f, g);
         } else {
             let by = PairWay {
                 step: 1,
@@ -244,7 +244,7 @@ pub fn prep_bilin_rows(
         };
         prep_bilin_axis(tmp, ts, src, ss, w, h, by, p as i16);
     } else {
-        prep_rows(n, tmp, ts, src, ss, w, h);
+        prep_rows(d, tmp, ts, src, ss, w, h);
     }
 }
 
@@ -273,10 +273,10 @@ pub fn put_bilin_at(
         my,
     );
     if number == 0 {
-        let n = depth_numbers(depth);
+        let d = depth_numbers(depth);
         let f = up32(mx);
         let g = up32(my);
-        put_bilin_rows(n, dst, dst_stride, src, src_stride, w, h, f, g);
+        put_bilin_rows(d, dst, dst_stride, src, src_stride, w, h, f, g);
     }
     number
 }
@@ -307,10 +307,10 @@ pub fn prep_bilin_at(
         my,
     );
     if number == 0 {
-        let n = depth_numbers(depth);
+        let d = depth_numbers(depth);
         let f = up32(mx);
         let g = up32(my);
-        prep_bilin_rows(n, tmp, tmp_stride, src, src_stride, w, h, f, g);
+        prep_bilin_rows(d, tmp, tmp_stride, src, src_stride, w, h, f, g);
     }
     number
 }

@@ -99,8 +99,8 @@ pub fn morph_at(
 {
     let number = check_morph(depth_ok(depth), dst.len(), dst_stride, alpha, beta, w, h);
     if number == 0 {
-        let n = depth_numbers(depth);
-        morph_rows(dst, dst_stride, alpha, beta, w, h, n.max);
+        let d = depth_numbers(depth);
+        morph_rows(dst, dst_stride, alpha, beta, w, h, d.max);
     }
     number
 }

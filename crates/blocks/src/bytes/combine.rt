@@ -23,7 +23,7 @@ use rows::bytes::combine::mask_row;
 use rows::bytes::pixel::Pixel;
 
 fn avg_rows(
-    n: DepthNumbers,
+    d: DepthNumbers,
     dst: &mut [Pixel],
     dst_stride: usize,
     tmp1: &[i16],
@@ -32,14 +32,14 @@ fn avg_rows(
     h: usize,
 )
     requires { ⌜ Block w h × Rows (length (now dst)) «dst_stride» w h × Rows (length (now tmp1)) w w h × Rows (length (now tmp2)) w w h
-        × BitsOk (n .bits) × BiasOk (n .bias) × MaxOk (n .max) ⌝ }
+        × BitsOk (d .bits) × BiasOk (d .bias) × MaxOk (d .max) ⌝ }
     ensures { λ _. ⌜ now (dst .exit)
-        ≡ fill (now (dst .entry)) «dst_stride» w h (λ i j. both (avg (n .max) (n .bits) (n .bias)) (now (tmp1 .entry)) (now (tmp2 .entry)) (j * w) i) ⌝ }
+        ≡ fill (now (dst .entry)) «dst_stride» w h (λ i j. both (avg (d .max) (d .bits) (d .bias)) (now (tmp1 .entry)) (now (tmp2 .entry)) (j * w) i) ⌝ }
 {
     let mut y = 0;
     while y < h {
-        let d = y * dst_stride;
-        avg_row(&mut dst[d..d + w], tmp1, tmp2, y * w, n.bits, n.bias, n.max);
+        let p = y * dst_stride;
+        avg_row(&mut dst[p..p + w], tmp1, tmp2, y * w, d.bits, d.bias, d.max);
         y += 1;
     }
 }
@@ -66,8 +66,8 @@ pub fn avg_at(
         true,
     );
     if number == 0 {
-        let n = depth_numbers(depth);
-        avg_rows(n, dst, dst_stride, tmp1, tmp2, w, h);
+        let d = depth_numbers(depth);
+        avg_rows(d, dst, dst_stride, tmp1, tmp2, w, h);
     }
     number
 }
@@ -75,7 +75,7 @@ pub fn avg_at(
 // By one row of 4k (`mask_of`) for all rows: bytes that a loop reads are multiplied faster than a number that it is given. A weight below 0 is
 // that of the other block: k a + (16 - k) b = (16 - k) b + (16 - (16 - k)) a.
 fn w_avg_rows(
-    n: DepthNumbers,
+    d: DepthNumbers,
     dst: &mut [Pixel],
     dst_stride: usize,
     tmp1: &[i16],
@@ -85,17 +85,17 @@ fn w_avg_rows(
     weight: i32,
 )
     requires { ⌜ Block w h × Rows (length (now dst)) «dst_stride» w h × Rows (length (now tmp1)) w w h × Rows (length (now tmp2)) w w h × (mag weight < 33)
-        × BitsOk (n .bits) × BiasOk (n .bias) × MaxOk (n .max) ⌝ }
+        × BitsOk (d .bits) × BiasOk (d .bias) × MaxOk (d .max) ⌝ }
     ensures { λ _. ⌜ now (dst .exit)
         ≡ fill (now (dst .entry)) «dst_stride» w h
-        (λ i j. both (weighted (n .max) (n .bits) (n .bias) weight) (now (tmp1 .entry)) (now (tmp2 .entry)) (j * w) i) ⌝ }
+        (λ i j. both (weighted (d .max) (d .bits) (d .bias) weight) (now (tmp1 .entry)) (now (tmp2 .entry)) (j * w) i) ⌝ }
 {
     if weight < 0 {
         let m = [mask_of(16 - weight); 64];
-        mask_rows(n, dst, dst_stride, tmp2, tmp1, w, h, &m, 0);
+        mask_rows(d, dst, dst_stride, tmp2, tmp1, w, h, &m, 0);
     } else {
         let m = [mask_of(weight); 64];
-        mask_rows(n, dst, dst_stride, tmp1, tmp2, w, h, &m, 0);
+        mask_rows(d, dst, dst_stride, tmp1, tmp2, w, h, &m, 0);
     }
 }
 
@@ -123,15 +123,15 @@ pub fn w_avg_at(
         true,
     );
     if number == 0 {
-        let n = depth_numbers(depth);
-        w_avg_rows(n, dst, dst_stride, tmp1, tmp2, w, h, weight);
+        let d = depth_numbers(depth);
+        w_avg_rows(d, dst, dst_stride, tmp1, tmp2, w, h, weight);
     }
     number
 }
 
 // A mask_stride of 0 is one row for all.
 pub fn mask_rows(
-    n: DepthNumbers,
+    d: DepthNumbers,
     dst: &mut [Pixel],
     dst_stride: usize,
     tmp1: &[i16],
@@ -142,24 +142,24 @@ pub fn mask_rows(
     mask_stride: usize,
 )
     requires { ⌜ Block w h × Rows (length (now dst)) «dst_stride» w h × Rows (length (now tmp1)) w w h × Rows (length (now tmp2)) w w h
-        × ((h - 1) * «mask_stride» + w ≤ length (now mask)) × BitsOk (n .bits) × BiasOk (n .bias) × MaxOk (n .max) ⌝ }
+        × ((h - 1) * «mask_stride» + w ≤ length (now mask)) × BitsOk (d .bits) × BiasOk (d .bias) × MaxOk (d .max) ⌝ }
     ensures { λ _. ⌜ now (dst .exit)
         ≡ fill (now (dst .entry)) «dst_stride» w h
-        (λ i j. both (masked (n .max) (n .bits) (n .bias) (pixel (now (mask .entry)) «mask_stride» i j)) (now (tmp1 .entry)) (now (tmp2 .entry)) (j * w) i) ⌝ }
+        (λ i j. both (masked (d .max) (d .bits) (d .bias) (pixel (now (mask .entry)) «mask_stride» i j)) (now (tmp1 .entry)) (now (tmp2 .entry)) (j * w) i) ⌝ }
 {
     let mut y = 0;
     while y < h {
-        let d = y * dst_stride;
+        let p = y * dst_stride;
         mask_row(
-            &mut dst[d..d + w],
+            &mut dst[p..p + w],
             tmp1,
             tmp2,
             y * w,
             mask,
             y * mask_stride,
-            n.bits,
-            n.bias,
-            n.max,
+            d.bits,
+            d.bias,
+            d.max,
         );
         y += 1;
     }
@@ -189,8 +189,8 @@ pub fn mask_at(
         holds_rows(mask.len(), w, w, h),
     );
     if number == 0 {
-        let n = depth_numbers(depth);
-        mask_rows(n, dst, dst_stride, tmp1, tmp2, w, h, mask, w);
+        let d = depth_numbers(depth);
+        mask_rows(d, dst, dst_stride, tmp1, tmp2, w, h, mask, w);
     }
     number
 }

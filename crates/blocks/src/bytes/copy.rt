@@ -56,7 +56,7 @@ pub extern "C" fn hv_put_8bpc(
 }
 
 pub fn prep_rows(
-    n: DepthNumbers,
+    d: DepthNumbers,
     tmp: &mut [i16],
     tmp_stride: usize,
     src: &[Pixel],
@@ -64,14 +64,14 @@ pub fn prep_rows(
     w: usize,
     h: usize,
 )
-    requires { ⌜ Block w h × Rows (length (now tmp)) «tmp_stride» w h × Rows (length (now src)) «src_stride» w h × BitsOk (n .bits) × BiasOk (n .bias) ⌝ }
+    requires { ⌜ Block w h × Rows (length (now tmp)) «tmp_stride» w h × Rows (length (now src)) «src_stride» w h × BitsOk (d .bits) × BiasOk (d .bias) ⌝ }
     ensures { λ _. ⌜ now (tmp .exit) ≡ fill (now (tmp .entry)) «tmp_stride» w h
-        (λ i j. prep (n .bits) (n .bias) (pixel (now (src .entry)) «src_stride» i j)) ⌝ }
+        (λ i j. prep (d .bits) (d .bias) (pixel (now (src .entry)) «src_stride» i j)) ⌝ }
 {
     let mut y = 0;
     while y < h {
-        let d = y * tmp_stride;
-        prep_row(&mut tmp[d..d + w], src, y * src_stride, n.bits, n.bias);
+        let p = y * tmp_stride;
+        prep_row(&mut tmp[p..p + w], src, y * src_stride, d.bits, d.bias);
         y += 1;
     }
 }
@@ -97,8 +97,8 @@ pub fn prep_at(
         h,
     );
     if number == 0 {
-        let n = depth_numbers(depth);
-        prep_rows(n, tmp, tmp_stride, src, src_stride, w, h);
+        let d = depth_numbers(depth);
+        prep_rows(d, tmp, tmp_stride, src, src_stride, w, h);
     }
     number
 }

@@ -28,7 +28,7 @@ use rows::w_mask::weight_row;
 
 // The pixels where the mask doesn't keep each weight.
 fn weighed_rows(
-    n: DepthNumbers,
+    d: DepthNumbers,
     dst: &mut [Pixel],
     dst_stride: usize,
     tmp1: &[i16],
@@ -38,28 +38,28 @@ fn weighed_rows(
     depth: u32,
 )
     requires { ⌜ Block w h × Rows (length (now dst)) «dst_stride» w h × Rows (length (now tmp1)) w w h × Rows (length (now tmp2)) w w h × Deep depth
-        × BitsOk (n .bits) × BiasOk (n .bias) × MaxOk (n .max) ⌝ }
+        × BitsOk (d .bits) × BiasOk (d .bias) × MaxOk (d .max) ⌝ }
     ensures { λ _. ⌜ now (dst .exit)
         ≡ fill (now (dst .entry)) «dst_stride» w h
-        (λ i j. both (masked (n .max) (n .bits) (n .bias) (both (weightOf depth (n .bits)) (now (tmp1 .entry)) (now (tmp2 .entry)) (j * w) i))
+        (λ i j. both (masked (d .max) (d .bits) (d .bias) (both (weightOf depth (d .bits)) (now (tmp1 .entry)) (now (tmp2 .entry)) (j * w) i))
         (now (tmp1 .entry)) (now (tmp2 .entry)) (j * w) i) ⌝ }
 {
     let mut m = [0u8; 64];
     let mut y = 0;
     while y < h {
-        let d = y * dst_stride;
+        let p = y * dst_stride;
         let q = y * w;
-        weight_row(&mut m[..w], tmp1, tmp2, q, depth, n.bits);
+        weight_row(&mut m[..w], tmp1, tmp2, q, depth, d.bits);
         mask_row(
-            &mut dst[d..d + w],
+            &mut dst[p..p + w],
             tmp1,
             tmp2,
             q,
             &m,
             0,
-            n.bits,
-            n.bias,
-            n.max,
+            d.bits,
+            d.bias,
+            d.max,
         );
         y += 1;
     }
@@ -67,7 +67,7 @@ fn weighed_rows(
 
 // The mask first: where it keeps each weight, the pixels are then made by it, as in mask.
 fn w_mask_rows(
-    n: DepthNumbers,
+    d: DepthNumbers,
     dst: &mut [Pixel],
     block: Extent,
     tmp1: &[i16],
@@ -80,24 +80,24 @@ fn w_mask_rows(
     requires { ⌜ Rows (length (now dst)) (block .stride) (block .w) (block .h)
         × Weighing (length (now tmp1)) (length (now tmp2)) (block .w) (block .h) (length (now mask)) (form .stride)
         (maskSide (form .«ss_hor») (block .w)) (maskSide (form .«ss_ver») (block .h))
-        × (flagsOk (form .«ss_hor») (form .«ss_ver») ≡ true) × (sign ≤ 1) × Deep depth × BitsOk (n .bits) × BiasOk (n .bias) × MaxOk (n .max) ⌝ }
+        × (flagsOk (form .«ss_hor») (form .«ss_ver») ≡ true) × (sign ≤ 1) × Deep depth × BitsOk (d .bits) × BiasOk (d .bias) × MaxOk (d .max) ⌝ }
     ensures { λ _. ⌜ (now (dst .exit)
         ≡ fill (now (dst .entry)) (block .stride) (block .w) (block .h)
-        (λ i j. both (masked (n .max) (n .bits) (n .bias) (both (weightOf depth (n .bits)) (now (tmp1 .entry)) (now (tmp2 .entry)) (j * block .w) i))
+        (λ i j. both (masked (d .max) (d .bits) (d .bias) (both (weightOf depth (d .bits)) (now (tmp1 .entry)) (now (tmp2 .entry)) (j * block .w) i))
         (now (tmp1 .entry)) (now (tmp2 .entry)) (j * block .w) i))
         × (now (mask .exit)
         ≡ fill (now (mask .entry)) (form .stride) (maskSide (form .«ss_hor») (block .w)) (maskSide (form .«ss_ver») (block .h))
         (maskAt sign (form .«ss_hor») (form .«ss_ver»)
-        (λ i j. both (weightOf depth (n .bits)) (now (tmp1 .entry)) (now (tmp2 .entry)) (j * block .w) i))) ⌝ }
+        (λ i j. both (weightOf depth (d .bits)) (now (tmp1 .entry)) (now (tmp2 .entry)) (j * block .w) i))) ⌝ }
 {
     let ds = block.stride;
     let w = block.w;
     let h = block.h;
-    keep_mask(mask, form, tmp1, tmp2, w, h, sign, depth, n.bits);
+    keep_mask(mask, form, tmp1, tmp2, w, h, sign, depth, d.bits);
     if form.ss_hor {
-        weighed_rows(n, dst, ds, tmp1, tmp2, w, h, depth);
+        weighed_rows(d, dst, ds, tmp1, tmp2, w, h, depth);
     } else {
-        mask_rows(n, dst, ds, tmp1, tmp2, w, h, mask, form.stride);
+        mask_rows(d, dst, ds, tmp1, tmp2, w, h, mask, form.stride);
     }
 }
 
@@ -139,14 +139,14 @@ pub fn w_mask_at(
         ss_ver,
     );
     if number == 0 {
-        let n = depth_numbers(depth);
+        let d = depth_numbers(depth);
         let form = MaskForm {
             stride: mask_stride,
             ss_hor,
             ss_ver,
         };
         let s = up32(sign);
-        w_mask_rows(n, dst, block, tmp1, tmp2, mask, form, s, up32(depth));
+        w_mask_rows(d, dst, block, tmp1, tmp2, mask, form, s, up32(depth));
     }
     number
 }

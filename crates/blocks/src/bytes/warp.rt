@@ -78,7 +78,7 @@ fn warp_put_rows(
 }
 
 pub fn warp_put(
-    n: DepthNumbers,
+    d: DepthNumbers,
     dst: &mut [Pixel],
     dst_stride: usize,
     src: &[Pixel],
@@ -88,9 +88,9 @@ pub fn warp_put(
     warp: &[i8],
 )
     requires { ⌜ Warps (length (now dst)) «dst_stride» (length (now src)) «src_off» «src_stride» (length (now warp) / 8) m
-        × BitsOk (n .bits) × MaxOk (n .max) ⌝ }
+        × BitsOk (d .bits) × MaxOk (d .max) ⌝ }
     ensures { λ _. ⌜ now (dst .exit) ≡ fill (now (dst .entry)) «dst_stride» 8 8
-        (λ i j. warpPut (n .max) (n .bits) (now (warp .entry)) (m .mx) (m .my) (m .a) (m .b) (m .c) (m .d) i j
+        (λ i j. warpPut (d .max) (d .bits) (now (warp .entry)) (m .mx) (m .my) (m .a) (m .b) (m .c) (m .d) i j
         (around 3 (now (src .entry)) «src_off» «src_stride» i j)) ⌝ }
 {
     let o = src_off - (3 * src_stride + 3);
@@ -100,17 +100,17 @@ pub fn warp_put(
         b: m.b,
     };
     let mut mid = [0i16; 120];
-    warp_mid(&mut mid, src, o, src_stride, warp, first, n.bits);
+    warp_mid(&mut mid, src, o, src_stride, warp, first, d.bits);
     let second = Slope {
         m: m.my,
         a: m.c,
         b: m.d,
     };
-    warp_put_rows(dst, dst_stride, &mid, warp, second, n.bits, n.max);
+    warp_put_rows(dst, dst_stride, &mid, warp, second, d.bits, d.max);
 }
 
 pub fn warp_prep(
-    n: DepthNumbers,
+    d: DepthNumbers,
     tmp: &mut [i16],
     tmp_stride: usize,
     src: &[Pixel],
@@ -120,9 +120,9 @@ pub fn warp_prep(
     warp: &[i8],
 )
     requires { ⌜ Warps (length (now tmp)) «tmp_stride» (length (now src)) «src_off» «src_stride» (length (now warp) / 8) m
-        × BitsOk (n .bits) × BiasOk (n .bias) ⌝ }
+        × BitsOk (d .bits) × BiasOk (d .bias) ⌝ }
     ensures { λ _. ⌜ now (tmp .exit) ≡ fill (now (tmp .entry)) «tmp_stride» 8 8
-        (λ i j. warpPrep (n .bits) (n .bias) (now (warp .entry)) (m .mx) (m .my) (m .a) (m .b) (m .c) (m .d) i j
+        (λ i j. warpPrep (d .bits) (d .bias) (now (warp .entry)) (m .mx) (m .my) (m .a) (m .b) (m .c) (m .d) i j
         (around 3 (now (src .entry)) «src_off» «src_stride» i j)) ⌝ }
 {
     let o = src_off - (3 * src_stride + 3);
@@ -132,13 +132,13 @@ pub fn warp_prep(
         b: m.b,
     };
     let mut mid = [0i16; 120];
-    warp_mid(&mut mid, src, o, src_stride, warp, first, n.bits);
+    warp_mid(&mut mid, src, o, src_stride, warp, first, d.bits);
     let second = Slope {
         m: m.my,
         a: m.c,
         b: m.d,
     };
-    warp_prep_rows(tmp, tmp_stride, &mid, warp, second, n.bias);
+    warp_prep_rows(tmp, tmp_stride, &mid, warp, second, d.bias);
 }
 
 pub fn warp_affine_8x8_at(
@@ -171,8 +171,16 @@ pub fn warp_affine_8x8_at(
         warp.len(),
     );
     if number == 0 {
-        let n = depth_numbers(depth);
-        warp_put(n, dst, dst_stride, src, src_stride, src_off, m, warp);
+        warp_put(
+            depth_numbers(depth),
+            dst,
+            dst_stride,
+            src,
+            src_stride,
+            src_off,
+            m,
+            warp,
+        );
     }
     number
 }
@@ -207,8 +215,16 @@ pub fn warp_affine_8x8t_at(
         warp.len(),
     );
     if number == 0 {
-        let n = depth_numbers(depth);
-        warp_prep(n, tmp, tmp_stride, src, src_stride, src_off, m, warp);
+        warp_prep(
+            depth_numbers(depth),
+            tmp,
+            tmp_stride,
+            src,
+            src_stride,
+            src_off,
+            m,
+            warp,
+        );
     }
     number
 }

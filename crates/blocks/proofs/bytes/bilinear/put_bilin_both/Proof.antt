@@ -12,7 +12,7 @@ abbrev entry : tie.After-mid → tie.Start
 entry c = c .before .before .before .before
 
 -- B, as the rows take it
-bits : (c : tie.After-mid) → c .before .bits-of .result ≡ entry c .args .n .bits
+bits : (c : tie.After-mid) → c .before .bits-of .result ≡ entry c .args .d .bits
 bits c = c .before .bits-of .ensures
 
 first-requires : tie.Need-prep-bilin-axis-requires
@@ -29,7 +29,7 @@ returns c =
     let m = r .before .before .before .before in
     let s = entry (m .before) in let a = s .args in
     rw (m .prep-bilin-axis .ensures, bits (m .before)) at (r .mid-bilin-rows .ensures)
-    ∙ put-twice (a .n .max) (a .n .bits) (a .src .now) (a .dst .now) (s .pre .0) (s .pre .1) (s .pre .2) _ (omega arith)
+    ∙ put-twice (a .d .max) (a .d .bits) (a .src .now) (a .dst .now) (s .pre .0) (s .pre .1) (s .pre .2) _ (omega arith)
 
 pub put-bilin-both-spec : {M : Type 1} → statement M
 put-bilin-both-spec =

@@ -11,11 +11,11 @@ use Rattle.blocks.proofs.bytes.combine.mask_rows.Statement.{statement}
 use Rattle.blocks.proofs.bytes.combine.mask_rows.Tie as tie
 
 abbrev Inv-loop : tie.InvT-loop
-Inv-loop n dst₀ ds tmp1 tmp2 w h mask ms y₀ dst y =
-    Filled ds w (λ i j. both (masked (n .max) (n .bits) (n .bias) (pixel mask ms i j)) tmp1 tmp2 (j * w) i) dst₀ h y dst
+Inv-loop d dst₀ ds tmp1 tmp2 w h mask ms y₀ dst y =
+    Filled ds w (λ i j. both (masked (d .max) (d .bits) (d .bias) (pixel mask ms i j)) tmp1 tmp2 (j * w) i) dst₀ h y dst
 
 abbrev μ-loop : tie.MeasureT-loop
-μ-loop n dst₀ ds tmp1 tmp2 w h mask ms y₀ dst y = h - y
+μ-loop d dst₀ ds tmp1 tmp2 w h mask ms y₀ dst y = h - y
 
 -- the function's entry, from a turn of the loop
 abbrev entry : tie.In-loop Inv-loop μ-loop → tie.Start Inv-loop μ-loop
@@ -33,7 +33,7 @@ mask-rows-spec =
     tie.close
     (tie.spec Inv-loop μ-loop
     (λ c. filled-none 0 _ _ _ _ _ (omega (arith, c .before .before .pre)))  -- loop-holds
-    (λ c. omega (arith, row c)) (λ c. omega (arith, row c))  -- y * dst_stride, d + w
-    (λ c. omega (arith, row c)) (λ c. omega (arith, row c)) (λ c. omega (arith, row c))  -- dst[d..d + w]
+    (λ c. omega (arith, row c)) (λ c. omega (arith, row c))  -- y * dst_stride, p + w
+    (λ c. omega (arith, row c)) (λ c. omega (arith, row c)) (λ c. omega (arith, row c))  -- dst[p..p + w]
     (λ c. omega (arith, row (c .before))) (λ c. omega (arith, row (c .before))) (λ c κs. omega (arith, row (c .before)))  -- mask-row
     (λ c. search needs) (λ c. search needs) (λ c. search block-loop) (λ c. search block-loop) (λ c. search block-loop))  -- y += 1, and the loop

@@ -15,7 +15,7 @@ abbrev entry : tie.After-mid → tie.Start
 entry c = c .before .before .before .before
 
 -- B and P, as the rows take them
-depth : (c : tie.After-mid) → let n = entry c .args .n in (c .before .before .bits-of .result ≡ n .bits) × (toZ w16 (c .before .bias-of .result) ≡ pos (n .bias))
+depth : (c : tie.After-mid) → let d = entry c .args .d in (c .before .before .bits-of .result ≡ d .bits) × (toZ w16 (c .before .bias-of .result) ≡ pos (d .bias))
 depth c =
     let p = c .before .bias-of in
     (c .before .before .bits-of .ensures, backn w16 (p .result) (omega (arith, p .ensures, entry c .pre .4)) ∙ ap pos (p .ensures))
@@ -35,7 +35,7 @@ returns c =
     let s = entry (m .before) in let a = s .args in
     let d = depth (m .before) in
     rw (m .prep-bilin-axis .ensures, d .0, d .1) at (r .mid-bilin-prep-rows .ensures)
-    ∙ prep-twice (a .n .bits) (a .n .bias) (a .src .now) (a .tmp .now) (s .pre .0) (s .pre .1) (s .pre .2) _ (omega arith)
+    ∙ prep-twice (a .d .bits) (a .d .bias) (a .src .now) (a .tmp .now) (s .pre .0) (s .pre .1) (s .pre .2) _ (omega arith)
 
 pub prep-bilin-both-spec : {M : Type 1} → statement M
 prep-bilin-both-spec =

@@ -15,7 +15,7 @@ abbrev entry : tie.After-bias-of → tie.Start
 entry c = c .before .before .before
 
 -- these, as the rows take them
-depth : (c : tie.After-bias-of) → let n = entry c .args .n in (c .before .bits-of .result ≡ n .bits) × (toZ w16 (c .bias-of .result) ≡ pos (n .bias))
+depth : (c : tie.After-bias-of) → let d = entry c .args .d in (c .before .bits-of .result ≡ d .bits) × (toZ w16 (c .bias-of .result) ≡ pos (d .bias))
 depth c =
     let p = c .bias-of in
     (c .before .bits-of .ensures, backn w16 (p .result) (omega (arith, p .ensures, entry c .pre .2)) ∙ ap pos (p .ensures))
@@ -45,20 +45,20 @@ returns-2 c =
     let r = c .before in let t = r .before .before in let s = entry (t .before .before) in let a = s .args in
     let d = depth (t .before .before) in
     rw (d .0, d .1) at (r .prep-bilin-axis .ensures)
-    ∙ prep-across (a .n .bits) (a .n .bias) (a .src .now) (a .tmp .now) (s .pre .0) (omega (arith, t .before .if1)) (t .if2 .left)
+    ∙ prep-across (a .d .bits) (a .d .bias) (a .src .now) (a .tmp .now) (s .pre .0) (omega (arith, t .before .if1)) (t .if2 .left)
 
 returns-3 : tie.Need-returns-3
 returns-3 c =
     let r = c .before in let t = r .before .before in let s = entry (t .before .before) in let a = s .args in
     let d = depth (t .before .before) in
     rw (d .0, d .1) at (r .prep-bilin-axis2 .ensures)
-    ∙ prep-downward (a .n .bits) (a .n .bias) (a .src .now) (a .tmp .now) (s .pre .0) (t .before .if1 .left) (omega (arith, t .if3))
+    ∙ prep-downward (a .d .bits) (a .d .bias) (a .src .now) (a .tmp .now) (s .pre .0) (t .before .if1 .left) (omega (arith, t .if3))
 
 returns-4 : tie.Need-returns-4
 returns-4 c =
     let r = c .before in let t = r .before .before in let s = entry (t .before .before) in let a = s .args in
     r .prep-rows .ensures
-    ∙ prep-copied (a .n .bits) (a .n .bias) (a .src .now) (a .tmp .now) (s .pre .0) (t .before .if1 .left) (t .if3 .left)
+    ∙ prep-copied (a .d .bits) (a .d .bias) (a .src .now) (a .tmp .now) (s .pre .0) (t .before .if1 .left) (t .if3 .left)
 
 pub prep-bilin-rows-spec : {M : Type 1} → statement M
 prep-bilin-rows-spec =

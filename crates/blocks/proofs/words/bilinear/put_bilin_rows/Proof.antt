@@ -21,7 +21,7 @@ across-requires c κs =
     let t = c .before .before in let s = entry (t .before .before) in (
       across (s .pre .0) _ (omega arith) (omega (arith, t .before .if1)) (t .if2 .left),
       omega (arith, s .pre .1, t .before .before .bits-of .ensures),
-      rw (c .before .half-power .ensures .0, t .before .before .bits-of .ensures) (halves-small (s .args .n .bits) (omega (arith, s .pre .1))),
+      rw (c .before .half-power .ensures .0, t .before .before .bits-of .ensures) (halves-small (s .args .d .bits) (omega (arith, s .pre .1))),
       s .pre .2,
     )
 
@@ -38,20 +38,20 @@ copied-requires c κs =
 returns-2 : tie.Need-returns-2
 returns-2 c =
     let r = c .before .before in let t = r .before .before .before in let s = entry (t .before .before) in let a = s .args in
-    rw (r .before .before .half-power .ensures .0, t .before .before .bits-of .ensures, ← half-of (a .n .bits) (omega (arith, s .pre .1))) at (r .put-bilin-axis .ensures)
-    ∙ put-across (a .n .max) (a .n .bits) (a .src .now) (a .dst .now) (s .pre .0) (omega (arith, t .before .if1)) (t .if2 .left)
+    rw (r .before .before .half-power .ensures .0, t .before .before .bits-of .ensures, ← half-of (a .d .bits) (omega (arith, s .pre .1))) at (r .put-bilin-axis .ensures)
+    ∙ put-across (a .d .max) (a .d .bits) (a .src .now) (a .dst .now) (s .pre .0) (omega (arith, t .before .if1)) (t .if2 .left)
 
 returns-3 : tie.Need-returns-3
 returns-3 c =
     let r = c .before .before in let t = r .before .before in let s = entry (t .before .before) in let a = s .args in
     r .put-bilin-axis2 .ensures
-    ∙ put-downward (a .n .max) (a .n .bits) (a .src .now) (a .dst .now) (s .pre .0) (t .before .if1 .left) (omega (arith, t .if3))
+    ∙ put-downward (a .d .max) (a .d .bits) (a .src .now) (a .dst .now) (s .pre .0) (t .before .if1 .left) (omega (arith, t .if3))
 
 returns-4 : tie.Need-returns-4
 returns-4 c =
     let r = c .before .before in let t = r .before .before in let s = entry (t .before .before) in let a = s .args in
     r .put-rows .ensures
-    ∙ put-copied (a .n .max) (a .n .bits) (a .src .now) (a .dst .now) (s .pre .0) (t .before .if1 .left) (t .if3 .left)
+    ∙ put-copied (a .d .max) (a .d .bits) (a .src .now) (a .dst .now) (s .pre .0) (t .before .if1 .left) (t .if3 .left)
 
 pub put-bilin-rows-spec : {M : Type 1} → statement M
 put-bilin-rows-spec =

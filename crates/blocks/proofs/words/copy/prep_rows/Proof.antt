@@ -10,10 +10,10 @@ use Rattle.blocks.proofs.words.copy.prep_rows.Statement.{statement}
 use Rattle.blocks.proofs.words.copy.prep_rows.Tie as tie
 
 abbrev Inv-loop : tie.InvT-loop
-Inv-loop n tmp₀ ts src ss w h y₀ tmp y = Filled ts w (λ i j. prep (n .bits) (n .bias) (pixel src ss i j)) tmp₀ h y tmp
+Inv-loop d tmp₀ ts src ss w h y₀ tmp y = Filled ts w (λ i j. prep (d .bits) (d .bias) (pixel src ss i j)) tmp₀ h y tmp
 
 abbrev μ-loop : tie.MeasureT-loop
-μ-loop n tmp₀ ts src ss w h y₀ tmp y = h - y
+μ-loop d tmp₀ ts src ss w h y₀ tmp y = h - y
 
 -- the function's entry, from a turn of the loop
 abbrev entry : tie.In-loop Inv-loop μ-loop → tie.Start Inv-loop μ-loop
@@ -36,7 +36,7 @@ prep-rows-spec =
     tie.close
     (tie.spec Inv-loop μ-loop
     (λ c. filled-none (pos 0) _ _ _ _ _ (omega (arith, c .before .pre)))  -- loop-holds
-    (λ c. omega (arith, row c)) (λ c. omega (arith, row c))  -- y * tmp_stride, d + w
-    (λ c. omega (arith, row c)) (λ c. omega (arith, row c)) (λ c. omega (arith, row c)) (λ c. omega (arith, row c))  -- tmp[d..d + w]
+    (λ c. omega (arith, row c)) (λ c. omega (arith, row c))  -- y * tmp_stride, p + w
+    (λ c. omega (arith, row c)) (λ c. omega (arith, row c)) (λ c. omega (arith, row c)) (λ c. omega (arith, row c))  -- tmp[p..p + w]
     (λ c. omega (arith, row (c .before))) (λ c κs. omega (arith, row (c .before)))  -- prep-row
     (λ c. search needs) (λ c. search needs) loop-again (λ c. search block-loop) (λ c. search block-loop))  -- y += 1, and the loop

@@ -12,7 +12,7 @@ entry c = c .before .before .before .before
 
 -- without ss_hor, the mask has each weight
 each : (c : tie.Else1) → let k = c .before .before .before in let a = entry k .args in
-    Kept (weigh (a .depth) (a .n .bits) (a .tmp1 .now) (a .tmp2 .now) (a .block .w)) (a .mask .now) (a .form .stride) (a .block .w) (a .block .h) (k .keep-mask .last .0)
+    Kept (weigh (a .depth) (a .d .bits) (a .tmp1 .now) (a .tmp2 .now) (a .block .w)) (a .mask .now) (a .form .stride) (a .block .w) (a .block .h) (k .keep-mask .last .0)
 each c =
     let k = c .before .before .before in let p = entry k .pre in
     each-met (entry k .args .sign) _ _ _ _ _ _ _ _ (p .2) (c .if1 .left) (k .keep-mask .ensures) (p .1 .mask)
@@ -37,7 +37,7 @@ returns-2 c =
     let r = c .before .before in let i = r .before .before .before in let k = i .before .before .before in
     let a = entry k .args in let p = entry k .pre in (
       r .mask-rows .ensures
-          ∙ kept (mixedBy (a .n .max) (a .n .bits) (a .n .bias) (a .tmp1 .now) (a .tmp2 .now) (a .block .w)) _ _ (each i) (omega (arith, p .0, p .1 .block)),
+          ∙ kept (mixedBy (a .d .max) (a .d .bits) (a .d .bias) (a .tmp1 .now) (a .tmp2 .now) (a .block .w)) _ _ (each i) (omega (arith, p .0, p .1 .block)),
       k .keep-mask .ensures,
     )
 

@@ -10,10 +10,10 @@ use Rattle.blocks.proofs.words.w_mask.weighed_rows.Statement.{statement
 use Rattle.blocks.proofs.words.w_mask.weighed_rows.Tie as tie
 
 abbrev Inv-loop : tie.InvT-loop
-Inv-loop n dst₀ ds tmp1 tmp2 w h depth m₀ y₀ dst m y = Filled ds w (mixed (n .max) (n .bits) (n .bias) depth tmp1 tmp2 w) dst₀ h y dst × (length m ≡ 64)
+Inv-loop d dst₀ ds tmp1 tmp2 w h depth m₀ y₀ dst m y = Filled ds w (mixed (d .max) (d .bits) (d .bias) depth tmp1 tmp2 w) dst₀ h y dst × (length m ≡ 64)
 
 abbrev μ-loop : tie.MeasureT-loop
-μ-loop n dst₀ ds tmp1 tmp2 w h depth m₀ y₀ dst m y = h - y
+μ-loop d dst₀ ds tmp1 tmp2 w h depth m₀ y₀ dst m y = h - y
 
 -- the function's entry, from a turn of the loop
 abbrev entry : tie.In-loop Inv-loop μ-loop → tie.Start Inv-loop μ-loop
@@ -32,7 +32,7 @@ weight-row-requires c κs =
 
 -- the row's weights, as they stand in the array
 line : (c : tie.After-weight-row Inv-loop μ-loop) → let t = c .before .before in let a = entry t .args in
-    Front (a .w) (λ i. weigh (a .depth) (a .n .bits) (a .tmp1 .now) (a .tmp2 .now) (a .w) i (t .before .loop .y))
+    Front (a .w) (λ i. weigh (a .depth) (a .d .bits) (a .tmp1 .now) (a .tmp2 .now) (a .w) i (t .before .loop .y))
     (c .weight-row .last .0 ++ drop (a .w) (t .before .loop .m))
 line c = let t = c .before .before in front _ _ _ _ (entry t .pre .0 .w64) (t .before .loop .inv .1) (c .weight-row .ensures)
 
@@ -44,7 +44,7 @@ loop-again : tie.Need-loop-again Inv-loop μ-loop
 loop-again c =
     let q = c .before .before in let r = q .before .before .before .before in let t = r .before .before in
     let p = entry t .pre in let a = entry t .args in
-    let rule = mixedBy (a .n .max) (a .n .bits) (a .n .bias) (a .tmp1 .now) (a .tmp2 .now) (a .w) in (
+    let rule = mixedBy (a .d .max) (a .d .bits) (a .d .bias) (a .tmp1 .now) (a .tmp2 .now) (a .w) in (
       filled-more 0 _ (t .before .loop .inv .0) (p .0 .w1) (p .1) (t .loop-test .taken)
           (weighed rule (t .before .loop .y) _ _ (line r) (omega (arith, row t)) (q .mask-row .ensures)),
       line r .len,
@@ -59,9 +59,9 @@ weighed-rows-spec =
     (λ c. omega (arith, entry c .pre .0, c .before .loop .inv .1))  -- m[..w]
     (λ c. let t = c .before in sym (front-span _ _ (entry t .pre .0 .w64) (t .before .loop .inv .1)))
     weight-row-requires
-    (λ c. omega (arith, row (c .before .before .before)))  -- d + w
-    (λ c. omega (arith, row (c .before .before .before)))  -- words: 2 * d
-    (λ c. omega (arith, row (c .before .before .before))) (λ c. omega (arith, row (c .before .before .before)))  -- dst[d..d + w]
+    (λ c. omega (arith, row (c .before .before .before)))  -- p + w
+    (λ c. omega (arith, row (c .before .before .before)))  -- words: 2 * p
+    (λ c. omega (arith, row (c .before .before .before))) (λ c. omega (arith, row (c .before .before .before)))  -- dst[p..p + w]
     (λ c. omega (arith, row (c .before .before .before)))
     (λ c. sym (line (c .before .before .before) .len))  -- &m
     mask-row-requires
