@@ -23,7 +23,7 @@ across-requires c κs =
       across (s .pre .0) _ (omega arith) (omega (arith, t .before .if1)) (t .if2 .left),
       omega (arith, s .pre .1, t .before .before .bits-of .ensures),
       rw (c .before .half-power .ensures .0, t .before .before .bits-of .ensures) (halves-small (s .args .d .bits) (omega (arith, s .pre .1))),
-      s .pre .2,
+      omega (arith, s .pre .2),
     )
 
 downward-requires : tie.Need-put-bilin-axis-requires-2
