@@ -13,7 +13,8 @@ entry c = c .before .before .before .before
 
 -- without ss_hor, the mask has each weight
 each : (c : tie.Else1) → let k = c .before .before .before in let a = entry k .args in
-    Kept (weigh (a .depth) (a .d .bits) (a .tmp1 .now) (a .tmp2 .now) (a .block .w)) (a .mask .now) (a .form .stride) (a .block .w) (a .block .h) (k .keep-mask .last .0)
+    Kept (weigh (a .depth) (a .d .bits) (a .tmp1 .now) (a .tmp2 .now) (a .block .w))
+    (a .mask .now) (a .form .stride) (a .block .w) (a .block .h) (k .keep-mask .last .0)
 each c =
     let k = c .before .before .before in let p = entry k .pre in
     each-met (entry k .args .sign) _ _ _ _ _ _ _ _ (p .2) (c .if1 .left) (k .keep-mask .ensures) (p .1 .mask)

@@ -15,7 +15,8 @@ abbrev entry : tie.After-mid → tie.Start
 entry c = c .before .before .before .before
 
 -- B and P, as the rows take them
-depth : (c : tie.After-mid) → let d = entry c .args .d in (c .before .before .bits-of .result ≡ d .bits) × (toZ w16 (c .before .bias-of .result) ≡ pos (d .bias))
+depth : (c : tie.After-mid) → let d = entry c .args .d in
+    (c .before .before .bits-of .result ≡ d .bits) × (toZ w16 (c .before .bias-of .result) ≡ pos (d .bias))
 depth c =
     let p = c .before .bias-of in
     (c .before .before .bits-of .ensures, backn w16 (p .result) (omega (arith, p .ensures, entry c .pre .4)) ∙ ap pos (p .ensures))

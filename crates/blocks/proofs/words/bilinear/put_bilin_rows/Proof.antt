@@ -38,7 +38,8 @@ copied-requires c κs =
 returns-2 : tie.Need-returns-2
 returns-2 c =
     let r = c .before .before in let t = r .before .before .before in let s = entry (t .before .before) in let a = s .args in
-    rw (r .before .before .half-power .ensures .0, t .before .before .bits-of .ensures, ← half-of (a .d .bits) (omega (arith, s .pre .1))) at (r .put-bilin-axis .ensures)
+    rw (r .before .before .half-power .ensures .0, t .before .before .bits-of .ensures, ← half-of (a .d .bits) (omega (arith, s .pre .1)))
+    at (r .put-bilin-axis .ensures)
     ∙ put-across (a .d .max) (a .d .bits) (a .src .now) (a .dst .now) (s .pre .0) (omega (arith, t .before .if1)) (t .if2 .left)
 
 returns-3 : tie.Need-returns-3
