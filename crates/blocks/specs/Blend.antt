@@ -6,7 +6,7 @@ use lib.ListN.{getD, length}
 use mathlib.Core.Bool.{Bool}
 use mathlib.Core.List.{List, [], _∷_, _++_}
 use mathlib.Core.Path.{_≡_}
-use Rattle.rows.specs.Numbers.{near}
+use Rattle.rows.specs.Numbers.{isWithin}
 use Rattle.rows.specs.Depth.{maxOf}
 use Rattle.rows.specs.Places.{pick, pixel, fill}
 use Rattle.rows.specs.Combine.{blend, morph}
@@ -57,8 +57,8 @@ morphTests deep dl dstStride alpha beta w h =
     ∷ size asks sizeOk blockSide h
     ∷ stride asks strideOk w dstStride
     ∷ number asks deep
-    ∷ number asks near (2 ^ 14) alpha
-    ∷ number asks near (2 ^ 22) beta
+    ∷ number asks isWithin (2 ^ 14) alpha
+    ∷ number asks isWithin (2 ^ 22) beta
     ∷ written asks holds dl dstStride w h
     ∷ []
 

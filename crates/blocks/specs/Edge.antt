@@ -7,12 +7,12 @@ use mathlib.Core.Path.{_≡_}
 use lib.ListN.{length}
 use Rattle.rows.specs.Places.{fill}
 use Rattle.rows.specs.Edge.{edge}
-use Rattle.rows.specs.Numbers.{near}
+use Rattle.rows.specs.Numbers.{isWithin}
 use Rattle.blocks.specs.Refuse.{Test, size, stride, number, read, written, _asks_, lowest, orSame, sizeOk, strideOk, holds}
 
 -- "positions within ±2^30"
 unfoldable pub placeOk : ℤ → Bool
-placeOk x = near (2 ^ 30) x
+placeOk x = isWithin (2 ^ 30) x
 
 -- "bw and bh are 1 to 128, plane iw and ih 1 to 16,384"
 abbrev pub edgeTests : (bw bh iw ih : ℕ) (x y : ℤ) (dl dstStride pl planeStride : ℕ) → List Test

@@ -7,7 +7,7 @@ use lib.Signed.{ltZ}
 use mathlib.Core.Bool.{Bool, _&&_}
 use mathlib.Core.List.{List, [], _∷_}
 use mathlib.Core.Path.{_≡_}
-use Rattle.rows.specs.Numbers.{at, between, near}
+use Rattle.rows.specs.Numbers.{at, between, isWithin}
 use Rattle.rows.specs.Shear.{recipOf, shiftOf, shearA, shearB, shearC, shearD, affineOf, middle, entry0, entry1}
 use Rattle.blocks.specs.Refuse.{Test, size, number, table, matrix, _asks_, lowest, orSame}
 use Rattle.blocks.specs.declared.shear.Divisor.{Divisor}
@@ -29,7 +29,7 @@ divisorOf d recip =
 
 -- "Matrix entries 2 to 5 within ±2^22"
 unfoldable pub entriesOk : List ℤ → Bool
-entriesOk m = near (2 ^ 22) (at m 2) && near (2 ^ 22) (at m 3) && near (2 ^ 22) (at m 4) && near (2 ^ 22) (at m 5)
+entriesOk m = isWithin (2 ^ 22) (at m 2) && isWithin (2 ^ 22) (at m 3) && isWithin (2 ^ 22) (at m 4) && isWithin (2 ^ 22) (at m 5)
 
 abbrev pub shearTests : List ℤ → (rl : ℕ) → List Test
 shearTests m rl = number asks entriesOk m ∷ table asks recipOk rl ∷ matrix asks ltZ (pos 0) (at m 2) ∷ []
@@ -50,8 +50,8 @@ affineMvTests bw4 bh4 mvx mvy m bx4 by4 =
     ∷ size asks between (pos 1) (pos 64) bh4
     ∷ number asks between (pos 0) (pos 16384) bx4
     ∷ number asks between (pos 0) (pos 16384) by4
-    ∷ number asks near (2 ^ 20) mvx
-    ∷ number asks near (2 ^ 20) mvy
+    ∷ number asks isWithin (2 ^ 20) mvx
+    ∷ number asks isWithin (2 ^ 20) mvy
     ∷ number asks entriesOk m
     ∷ []
 

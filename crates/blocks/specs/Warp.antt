@@ -8,13 +8,13 @@ use mathlib.Core.Path.{_≡_}
 use lib.ListN.{length}
 use Rattle.rows.specs.Depth.{bitsOf, biasOf, maxOf}
 use Rattle.rows.specs.Places.{fill, around}
-use Rattle.rows.specs.Numbers.{near}
+use Rattle.rows.specs.Numbers.{isWithin}
 use Rattle.rows.specs.Warp.{allThere, warpPut, warpPrep}
 use Rattle.blocks.specs.Refuse.{Test, stride, number, table, read, written, _asks_, lowest, orSame, strideOk, holds, reads, wholeFilters}
 
 -- "Warp mx and my within ±2^20"
 unfoldable pub warpPlaceOk : ℤ → Bool
-warpPlaceOk m = near (2 ^ 20) m
+warpPlaceOk m = isWithin (2 ^ 20) m
 
 abbrev pub warpTests : (deep : Bool) (dl dstStride sl srcStride srcOff : ℕ) (a b c d mx my : ℤ) (tl : ℕ) → List Test
 warpTests deep dl dstStride sl srcStride srcOff a b c d mx my tl =

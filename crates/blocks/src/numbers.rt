@@ -1,7 +1,7 @@
 // Numbers as tests and places take them.
 ghost use mathlib.Core.Path.{_≡_};
 ghost use lib.IntN.{natAbs};
-ghost use Rattle.rows.specs.Numbers.{up, near};
+ghost use Rattle.rows.specs.Numbers.{up, isWithin};
 ghost use Rattle.blocks.specs.Subpel.{on};
 
 // The number, or 0 where it is below 0.
@@ -33,7 +33,7 @@ pub fn abs32(v: i32) -> u32
 
 // v is within ±m.
 pub fn within(v: i32, m: u32) -> bool
-    ensures { λ r. ⌜ r ≡ near m v ⌝ }
+    ensures { λ r. ⌜ r ≡ isWithin m v ⌝ }
 {
     abs32(v) <= m
 }

@@ -3,7 +3,7 @@ ghost use mathlib.Core.Path.{_≡_};
 ghost use Prim.Native.Nat.{_^_, _<_, _≤_};
 ghost use lib.IntN.{pos, negsuc, natAbs};
 ghost use lib.ListN.{length};
-ghost use Rattle.rows.specs.Numbers.{at, between, clipTo, near};
+ghost use Rattle.rows.specs.Numbers.{at, between, clipTo, isWithin};
 ghost use Rattle.rows.specs.Shear.{Q, topBit, recipPlace, g, shearC, shearD, affineOf, middle, offsetOf};
 ghost use Rattle.blocks.specs.Refuse.{need, lowest};
 ghost use Rattle.blocks.specs.inner.Ready.{Divides, Entries, Moves};
@@ -265,7 +265,7 @@ fn lies(lo: i32, hi: i32, v: i32) -> bool
 // The place and the motion of a block, as links of a chain of tests.
 fn moves(mv_x: i32, mv_y: i32, bx4: i32, by4: i32, rest: u32) -> u32
     ensures { λ r. ⌜ r ≡ need (between (pos 0) (pos 16384) bx4) 3 (need (between (pos 0) (pos 16384) by4) 3
-        (need (near (2 ^ 20) «mv_x») 3 (need (near (2 ^ 20) «mv_y») 3 rest))) ⌝ }
+        (need (isWithin (2 ^ 20) «mv_x») 3 (need (isWithin (2 ^ 20) «mv_y») 3 rest))) ⌝ }
 {
     needed(
         lies(0, 16384, bx4),

@@ -4,7 +4,7 @@ use lib.Dec.{leb, ltb}
 use mathlib.Core.Bool.{Bool, true, false, _&&_, _||_}
 use mathlib.Core.List.{List, [], _∷_}
 use mathlib.Core.Path.{_≡_}
-use Rattle.rows.specs.Places.{lentFrom, within, fill}
+use Rattle.rows.specs.Places.{lentFrom, inBlock, fill}
 
 -- w columns and h rows of a block, from its column x and its row y on
 pub record Rect : Type 0 where
@@ -15,7 +15,7 @@ pub record Rect : Type 0 where
 
 -- its places
 unfoldable pub has : Rect → ℕ → ℕ → Bool
-has r i j = (leb (r .x) i && leb (r .y) j) && within (r .w) (r .h) (i - r .x) (j - r .y)
+has r i j = (leb (r .x) i && leb (r .y) j) && inBlock (r .w) (r .h) (i - r .x) (j - r .y)
 
 -- where it begins in a buffer of stride s
 abbrev pub begins : ℕ → Rect → ℕ

@@ -74,7 +74,7 @@ pub record Bilin (dl ds sl ss w h f g : ℕ) : Type 0 where
 
 -- a pass of warp over its first `rows` rows, by a table of n filters that has all of theirs
 pub record Pass (n : ℕ) (m a b : ℤ) (rows : ℕ) : Type 0 where
-  pub near : natAbs m ≤ 2 ^ 20
+  pub bounded : natAbs m ≤ 2 ^ 20
   pub there : (r : ℕ) → r < rows → RowThere n m a b r
 
 -- a source of sl places that holds warp's block at place o with its margins
@@ -113,7 +113,7 @@ pub record Moves (bw4 bh4 mvx mvy bx4 by4 : ℤ) : Type 0 where
   pub row : natAbs by4 ≤ 16384
 
 -- a depth, as the sums shift by it
-pub record Deep (depth : ℕ) : Type 0 where
+pub record DepthRange (depth : ℕ) : Type 0 where
   pub least : 8 ≤ depth
   pub most : depth ≤ 12
 
@@ -142,7 +142,7 @@ pub record Taps (sl o s w h : ℕ) (mx my filterType : ℤ) (tl el : ℕ) : Type
 
 -- a depth and its bits, as the weights of w_mask take them
 pub record Depths (depth bits : ℕ) : Type 0 where
-  pub deep : Deep depth
+  pub deep : DepthRange depth
   pub bits2 : 2 ≤ bits
   pub bits4 : bits ≤ 4
 

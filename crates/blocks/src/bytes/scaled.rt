@@ -324,7 +324,7 @@ pub fn put_8tap_scaled_at(
         m,
     );
     if number == 0 {
-        let n = depth_numbers(depth);
+        let d = depth_numbers(depth);
         let p = scaled_plan(
             src_off - 3 * src_stride,
             src_stride,
@@ -332,9 +332,9 @@ pub fn put_8tap_scaled_at(
             filter_type,
             w,
             h,
-            n.bits,
+            d.bits,
         );
-        put_8tap_scaled_rows(dst, dst_stride, src, subpel, p, n.max, w, h);
+        put_8tap_scaled_rows(dst, dst_stride, src, subpel, p, d.max, w, h);
     }
     number
 }
@@ -377,7 +377,7 @@ pub fn prep_8tap_scaled_at(
         m,
     );
     if number == 0 {
-        let n = depth_numbers(depth);
+        let d = depth_numbers(depth);
         let p = scaled_plan(
             src_off - 3 * src_stride,
             src_stride,
@@ -385,9 +385,9 @@ pub fn prep_8tap_scaled_at(
             filter_type,
             w,
             h,
-            n.bits,
+            d.bits,
         );
-        prep_8tap_scaled_rows(tmp, tmp_stride, src, subpel, p, n.bias, w, h);
+        prep_8tap_scaled_rows(tmp, tmp_stride, src, subpel, p, d.bias, w, h);
     }
     number
 }
@@ -419,9 +419,9 @@ pub fn put_bilin_scaled_at(
     };
     let number = check_scaled(false, depth_ok(depth), true, true, l, w, h, m);
     if number == 0 {
-        let n = depth_numbers(depth);
-        let p = scaled_plan(src_off, src_stride, m, 0, w, h, n.bits);
-        put_bilin_scaled_rows(dst, dst_stride, src, p, n.max, w, h);
+        let d = depth_numbers(depth);
+        let p = scaled_plan(src_off, src_stride, m, 0, w, h, d.bits);
+        put_bilin_scaled_rows(dst, dst_stride, src, p, d.max, w, h);
     }
     number
 }
@@ -453,9 +453,9 @@ pub fn prep_bilin_scaled_at(
     };
     let number = check_scaled(false, depth_ok(depth), true, true, l, w, h, m);
     if number == 0 {
-        let n = depth_numbers(depth);
-        let p = scaled_plan(src_off, src_stride, m, 0, w, h, n.bits);
-        prep_bilin_scaled_rows(tmp, tmp_stride, src, p, n.bias, w, h);
+        let d = depth_numbers(depth);
+        let p = scaled_plan(src_off, src_stride, m, 0, w, h, d.bits);
+        prep_bilin_scaled_rows(tmp, tmp_stride, src, p, d.bias, w, h);
     }
     number
 }

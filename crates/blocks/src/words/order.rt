@@ -100,7 +100,7 @@ pub extern "C" fn hv_order_put_16bpc(
         dst_stride,
     );
     if part.number == 0 {
-        let n = depth_numbers(depth);
+        let numbers = depth_numbers(depth);
         let l = Layout {
             w,
             h,
@@ -108,7 +108,7 @@ pub extern "C" fn hv_order_put_16bpc(
             dst_stride,
         };
         let src = pick(part, plane, scratch);
-        put_kind(n, k, src, l, subpel, ext, warp, dst);
+        put_kind(numbers, k, src, l, subpel, ext, warp, dst);
     }
     part.number
 }
@@ -193,7 +193,7 @@ pub extern "C" fn hv_order_prep_16bpc(
         tmp_stride,
     );
     if part.number == 0 {
-        let n = depth_numbers(depth);
+        let numbers = depth_numbers(depth);
         let l = Layout {
             w,
             h,
@@ -201,7 +201,7 @@ pub extern "C" fn hv_order_prep_16bpc(
             dst_stride: tmp_stride,
         };
         let src = pick(part, plane, scratch);
-        prep_kind(n, k, src, l, subpel, ext, warp, tmp);
+        prep_kind(numbers, k, src, l, subpel, ext, warp, tmp);
     }
     part.number
 }

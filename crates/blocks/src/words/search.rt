@@ -8,7 +8,7 @@ ghost use Rattle.rows.specs.Numbers.{up};
 ghost use Rattle.rows.specs.Places.{pixel};
 ghost use Rattle.rows.specs.Search.{sad, sadAt, visit, through, steps, search, answer, refine};
 ghost use Rattle.blocks.specs.words.Depth.{depthOk};
-ghost use Rattle.blocks.specs.inner.Ready.{Blocks, Wider, Deep};
+ghost use Rattle.blocks.specs.inner.Ready.{Blocks, Wider, DepthRange};
 ghost use Rattle.blocks.specs.Search.{SadAnswer, RefineAnswer};
 ghost use Rattle.blocks.specs.inner.Search.{bestOf};
 use super::depth::depth_ok;
@@ -39,7 +39,7 @@ fn sad_sum(
     w: usize,
     h: usize,
 ) -> u32
-    requires { ⌜ Blocks (length (now p0)) o0 s0 (length (now p1)) o1 s1 w h × Deep depth ⌝ }
+    requires { ⌜ Blocks (length (now p0)) o0 s0 (length (now p1)) o1 s1 w h × DepthRange depth ⌝ }
     ensures { λ r. ⌜ (r ≡ sad depth (λ i j. getD (now (p0 .entry)) (o0 + j * s0 + i) 0) (λ i j. getD (now (p1 .entry)) (o1 + j * s1 + i) 0) w h)
         × (r ≤ 2 ^ 28) ⌝ }
 {
@@ -56,7 +56,7 @@ fn sad_sum(
 
 // Blocks of (w + 4) x (h + 4), compared at an offset.
 fn sad_at(p0: &[Pixel], p1: &[Pixel], n: Compared, dx: i32, dy: i32) -> u32
-    requires { ⌜ Wider (length (now p0)) (n .s0) (length (now p1)) (n .s1) (n .w) (n .h) × (natAbs dx ≤ 2) × (natAbs dy ≤ 2) × Deep (n .depth) ⌝ }
+    requires { ⌜ Wider (length (now p0)) (n .s0) (length (now p1)) (n .s1) (n .w) (n .h) × (natAbs dx ≤ 2) × (natAbs dy ≤ 2) × DepthRange (n .depth) ⌝ }
     ensures { λ r. ⌜ (r ≡ sadAt (n .depth) (pixel (now (p0 .entry)) (n .s0)) (pixel (now (p1 .entry)) (n .s1)) (n .w) (n .h) (record { dx = dx; dy = dy }))
         × (r ≤ 2 ^ 28) ⌝ }
 {
@@ -67,7 +67,7 @@ fn sad_at(p0: &[Pixel], p1: &[Pixel], n: Compared, dx: i32, dy: i32) -> u32
 
 // One offset more; the centre is skipped.
 fn visit(p0: &[Pixel], p1: &[Pixel], n: Compared, dx: i32, dy: i32, b: Best) -> Best
-    requires { ⌜ Wider (length (now p0)) (n .s0) (length (now p1)) (n .s1) (n .w) (n .h) × (natAbs dx ≤ 2) × (natAbs dy ≤ 2) × Deep (n .depth) ⌝ }
+    requires { ⌜ Wider (length (now p0)) (n .s0) (length (now p1)) (n .s1) (n .w) (n .h) × (natAbs dx ≤ 2) × (natAbs dy ≤ 2) × DepthRange (n .depth) ⌝ }
     ensures { λ r. ⌜ bestOf r ≡ visit (sadAt (n .depth) (pixel (now (p0 .entry)) (n .s0)) (pixel (now (p1 .entry)) (n .s1)) (n .w) (n .h)) dy dx (bestOf b) ⌝ }
 {
     if is_centre(dx, dy) {
@@ -79,7 +79,7 @@ fn visit(p0: &[Pixel], p1: &[Pixel], n: Compared, dx: i32, dy: i32, b: Best) -> 
 
 // The offsets of one dy: dx from -2 to 2.
 fn visit_row(p0: &[Pixel], p1: &[Pixel], n: Compared, dy: i32, b: Best) -> Best
-    requires { ⌜ Wider (length (now p0)) (n .s0) (length (now p1)) (n .s1) (n .w) (n .h) × (natAbs dy ≤ 2) × Deep (n .depth) ⌝ }
+    requires { ⌜ Wider (length (now p0)) (n .s0) (length (now p1)) (n .s1) (n .w) (n .h) × (natAbs dy ≤ 2) × DepthRange (n .depth) ⌝ }
     ensures { λ r. ⌜ bestOf r
         ≡ through steps (λ dx. visit (sadAt (n .depth) (pixel (now (p0 .entry)) (n .s0)) (pixel (now (p1 .entry)) (n .s1)) (n .w) (n .h)) dy dx) (bestOf b) ⌝ }
 {
@@ -92,7 +92,7 @@ fn visit_row(p0: &[Pixel], p1: &[Pixel], n: Compared, dy: i32, b: Best) -> Best
 
 // All offsets: dy from -2 to 2.
 fn search(p0: &[Pixel], p1: &[Pixel], n: Compared, b: Best) -> Best
-    requires { ⌜ Wider (length (now p0)) (n .s0) (length (now p1)) (n .s1) (n .w) (n .h) × Deep (n .depth) ⌝ }
+    requires { ⌜ Wider (length (now p0)) (n .s0) (length (now p1)) (n .s1) (n .w) (n .h) × DepthRange (n .depth) ⌝ }
     ensures { λ r. ⌜ bestOf r ≡ search (sadAt (n .depth) (pixel (now (p0 .entry)) (n .s0)) (pixel (now (p1 .entry)) (n .s1)) (n .w) (n .h)) (bestOf b) ⌝ }
 {
     let b = visit_row(p0, p1, n, -2, b);
@@ -104,7 +104,7 @@ fn search(p0: &[Pixel], p1: &[Pixel], n: Compared, b: Best) -> Best
 
 // Implicit mode: the centre at once where its sum is low enough, else the search from what is kept of it.
 fn implicit(p0: &[Pixel], p1: &[Pixel], n: Compared) -> Best
-    requires { ⌜ Wider (length (now p0)) (n .s0) (length (now p1)) (n .s1) (n .w) (n .h) × Deep (n .depth) ⌝ }
+    requires { ⌜ Wider (length (now p0)) (n .s0) (length (now p1)) (n .s1) (n .w) (n .h) × DepthRange (n .depth) ⌝ }
     ensures { λ r. ⌜ answer (bestOf r) ≡ refine (n .depth) true (pixel (now (p0 .entry)) (n .s0)) (pixel (now (p1 .entry)) (n .s1)) (n .w) (n .h) ⌝ }
 {
     let sum = kept_of(sad_at(p0, p1, n, 0, 0));
@@ -122,7 +122,7 @@ fn implicit(p0: &[Pixel], p1: &[Pixel], n: Compared) -> Best
 
 // Explicit mode begins with nothing found.
 fn refine(p0: &[Pixel], p1: &[Pixel], n: Compared, is_implicit: bool) -> Offset
-    requires { ⌜ Wider (length (now p0)) (n .s0) (length (now p1)) (n .s1) (n .w) (n .h) × Deep (n .depth) ⌝ }
+    requires { ⌜ Wider (length (now p0)) (n .s0) (length (now p1)) (n .s1) (n .w) (n .h) × DepthRange (n .depth) ⌝ }
     ensures { λ r. ⌜ record { dx = r .dx; dy = r .dy }
         ≡ refine (n .depth) «is_implicit» (pixel (now (p0 .entry)) (n .s0)) (pixel (now (p1 .entry)) (n .s1)) (n .w) (n .h) ⌝ }
 {

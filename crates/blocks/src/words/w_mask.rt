@@ -9,7 +9,7 @@ ghost use Rattle.rows.specs.Combine.{masked, both};
 ghost use Rattle.rows.specs.WMask.{weightOf, maskAt};
 ghost use Rattle.rows.specs.inner.words.Pixel.{BitsOk, BiasOk, MaxOk};
 ghost use Rattle.blocks.specs.words.Depth.{depthOk};
-ghost use Rattle.blocks.specs.inner.Ready.{Block, Rows, Deep, Weighing};
+ghost use Rattle.blocks.specs.inner.Ready.{Block, Rows, DepthRange, Weighing};
 ghost use Rattle.blocks.specs.WMask.{maskSide, flagsOk, WMaskAnswer};
 use super::combine::mask_rows;
 use super::depth::depth_numbers;
@@ -36,7 +36,7 @@ fn weighed_rows(
     h: usize,
     depth: u32,
 )
-    requires { ⌜ Block w h × Rows (length (now dst)) «dst_stride» w h × Rows (length (now tmp1)) w w h × Rows (length (now tmp2)) w w h × Deep depth
+    requires { ⌜ Block w h × Rows (length (now dst)) «dst_stride» w h × Rows (length (now tmp1)) w w h × Rows (length (now tmp2)) w w h × DepthRange depth
         × BitsOk (d .bits) × BiasOk (d .bias) × MaxOk (d .max) ⌝ }
     ensures { λ _. ⌜ now (dst .exit)
         ≡ fill (now (dst .entry)) «dst_stride» w h
@@ -79,7 +79,7 @@ fn w_mask_rows(
     requires { ⌜ Rows (length (now dst)) (block .stride) (block .w) (block .h)
         × Weighing (length (now tmp1)) (length (now tmp2)) (block .w) (block .h) (length (now mask)) (form .stride)
         (maskSide (form .«ss_hor») (block .w)) (maskSide (form .«ss_ver») (block .h))
-        × (flagsOk (form .«ss_hor») (form .«ss_ver») ≡ true) × (sign ≤ 1) × Deep depth × BitsOk (d .bits) × BiasOk (d .bias) × MaxOk (d .max) ⌝ }
+        × (flagsOk (form .«ss_hor») (form .«ss_ver») ≡ true) × (sign ≤ 1) × DepthRange depth × BitsOk (d .bits) × BiasOk (d .bias) × MaxOk (d .max) ⌝ }
     ensures { λ _. ⌜ (now (dst .exit)
         ≡ fill (now (dst .entry)) (block .stride) (block .w) (block .h)
         (λ i j. both (masked (d .max) (d .bits) (d .bias) (both (weightOf depth (d .bits)) (now (tmp1 .entry)) (now (tmp2 .entry)) (j * block .w) i))

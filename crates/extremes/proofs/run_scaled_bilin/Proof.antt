@@ -9,7 +9,7 @@ use Rattle.extremes.proofs.run_scaled_bilin.Tie as tie
 -- the second of two columns ends at the last of six pixels
 two : (pixels fractions : List ℕ) (n : ℕ) → Tabled pixels fractions 64 1023 4096 → n ≤ 2 → PairsFetched 6 0 pixels fractions n
 two pixels fractions n t b =
-    record { within = λ i h. omega (arith, t .pixel i (omega arith)); small = λ i h. omega (arith, t .fraction i (omega arith)) }
+    record { held = λ i h. omega (arith, t .pixel i (omega arith)); small = λ i h. omega (arith, t .fraction i (omega arith)) }
 
 -- where the tables are made, from either row
 abbrev made : tie.After-fractions2 → tie.After-tabulate-columns

@@ -2,7 +2,7 @@
 use mathlib.Core.Path.{_≡_, refl}
 use mathlib.Core.List.{map}
 use Rattle.rows.specs.Numbers.{low16, low32, sumZ}
-use Rattle.rows.specs.Places.{fill, fillIn, paint, within}
+use Rattle.rows.specs.Places.{fill, fillIn, paint, inBlock}
 use Rattle.rows.specs.Combine.{avg, weighted}
 use Rattle.rows.specs.Subpel.{S, tapped, mid, put8, prep8}
 use Rattle.rows.specs.Bilinear.{bilin, R, along, putBilin}
@@ -12,5 +12,5 @@ use Rattle.rows.specs.Shear.{Q}
 use Rattle.rows.specs.Worked.{cases}
 
 pub worked : map (λ c. c .given) cases ≡ map (λ c. c .stated) cases
-unfolding low16 low32 sumZ fill fillIn paint within avg weighted S tapped mid put8 prep8 bilin R along putBilin weightOf maskAt endless edge Q
+unfolding low16 low32 sumZ fill fillIn paint inBlock avg weighted S tapped mid put8 prep8 bilin R along putBilin weightOf maskAt endless edge Q
 worked = refl

@@ -4,5 +4,5 @@ use mathlib.Core.Path.{_≡_}
 use mathlib.Core.Logic.{_⊎_}
 
 -- the depths of 16-bit pixels
-abbrev pub High : ℕ → Type 0
-High depth = (depth ≡ 10) ⊎ (depth ≡ 12)
+abbrev pub HighDepth : ℕ → Type 0
+HighDepth depth = (depth ≡ 10) ⊎ (depth ≡ 12)

@@ -28,7 +28,7 @@ pub record Tabled (pixels fractions : List ℕ) (w start step : ℕ) : Type 0 wh
 
 -- what a row of w columns by two tables relies on: of each column the pixel and the next are within l places, and the fraction is one of 0 to 15
 pub record PairsFetched (l o : ℕ) (pixels fractions : List ℕ) (w : ℕ) : Type 0 where
-  pub within : (i : ℕ) → i < w → o + getD pixels i 0 + 1 < l
+  pub held : (i : ℕ) → i < w → o + getD pixels i 0 + 1 < l
   pub small : (i : ℕ) → i < w → getD fractions i 0 ≤ 15
 
 -- column i of such a row, between its pixel and the next, kept by a shift of n

@@ -9,7 +9,7 @@ use lib.Dec.{ltb}
 use lib.IntN.{pos}
 use lib.ListN.{length, getD}
 use Rattle.rows.specs.Numbers.{sumZ}
-use Rattle.rows.specs.Places.{rowFrom, rowOf, paint, fillIn, fill, within}
+use Rattle.rows.specs.Places.{rowFrom, rowOf, paint, fillIn, fill, inBlock}
 use Rattle.rows.specs.Edge.{endless, aroundAt}
 use Rattle.rows.specs.Subpel.{filter, family, axis, S, tapped, put8}
 use Rattle.rows.specs.Cut.{Rect, has, covered, Each, Cut}
@@ -99,14 +99,14 @@ zeros = 0 ∷ 0 ∷ 0 ∷ 0 ∷ 0 ∷ []
 
 -- the calls leave 7 everywhere
 five-cut : putRects (onePixel 8) (row 5) 136 5 (parts 4 1) zeros ≡ 7 ∷ 7 ∷ 7 ∷ 7 ∷ 7 ∷ []
-unfolding putRects orderDst orSame fill fillIn paint within rowOf rowFrom need sizeOk strideOk holds wholeFilters placeOk flagsOk typeOk sixteenthOk
+unfolding putRects orderDst orSame fill fillIn paint inBlock rowOf rowFrom need sizeOk strideOk holds wholeFilters placeOk flagsOk typeOk sixteenthOk
     fractionOk subpelOk filterIn planeSide frameSizesOk frameNamesOk before after kindSizeOk motionOk filtersOk putPicture putRule put8Rule put8 axis
     family filter tapped S sumZ endless aroundAt
 five-cut = refl
 
 -- the block is 0 everywhere
 five-block : fill zeros 5 5 1 (endlessPut (onePixel 8) (row 5)) ≡ zeros
-unfolding fill fillIn paint within rowOf rowFrom planeSide before putPicture putRule put8Rule put8 axis family filter tapped S sumZ endless aroundAt
+unfolding fill fillIn paint inBlock rowOf rowFrom planeSide before putPicture putRule put8Rule put8 axis family filter tapped S sumZ endless aroundAt
 five-block = refl
 
 -- so the law without "each rectangle is on the same side of four pixels" is false

@@ -11,7 +11,7 @@ use lib.Signed.{leZ}
 use lib.ListN.{getD}
 use mir.Syntax.{w64}
 use mir.Val.{SFits, toZ, ofZ}
-use Rattle.rows.specs.Numbers.{clip, near}
+use Rattle.rows.specs.Numbers.{clip, isWithin}
 use Rattle.rows.specs.Places.{rowOf}
 use Rattle.rows.specs.Edge.{endless, edge}
 use Rattle.rows.proofs.Laws.Numbers.Signed.{back, backn, fit-abs, abs-add, sub-parts, eq-of, clip-up}
@@ -29,9 +29,9 @@ and-of-true true = refl
 and-of-true false = refl
 
 -- from -(m + 1) to m + 1 is within m + 1 of 0
-pub near-both : (m : ℕ) (z : ℤ) → leZ (negsuc m) z && leZ z (pos (suc m)) ≡ near (suc m) z
-near-both m (pos n) = refl
-near-both m (negsuc n) = and-of-true (leb n m) ∙ sym (leb·suc-suc n m)
+pub within-both : (m : ℕ) (z : ℤ) → leZ (negsuc m) z && leZ z (pos (suc m)) ≡ isWithin (suc m) z
+within-both m (pos n) = refl
+within-both m (negsuc n) = and-of-true (leb n m) ∙ sym (leb·suc-suc n m)
 
 pub place-met : (x : ℤ) → placeOk x ≡ true → natAbs x ≤ 2 ^ 30
 unfolding placeOk
@@ -69,7 +69,7 @@ edge-ready bw bh iw ih x y dl ds pl ps e =
 pub record Below (y : ℤ) (j : ℕ) : Type 0 where
   pub fits : SFits w64 (toZ w64 (ofZ w64 y) +ℤ toZ w64 j)
   pub is : toZ w64 (ofZ w64 (toZ w64 (ofZ w64 y) +ℤ toZ w64 j)) -ℤ pos 0 ≡ y +ℤ pos j
-  pub near : natAbs (toZ w64 (ofZ w64 (toZ w64 (ofZ w64 y) +ℤ toZ w64 j))) ≤ 2 ^ 31
+  pub nearest : natAbs (toZ w64 (ofZ w64 (toZ w64 (ofZ w64 y) +ℤ toZ w64 j))) ≤ 2 ^ 31
 
 less-none : (z : ℤ) → z -ℤ pos 0 ≡ z
 less-none z = eq-of _ _ (omega (arith, sub-parts z (pos 0)))
@@ -79,7 +79,7 @@ below {y} {j} f n b =
     let e : toZ w64 (ofZ w64 y) +ℤ toZ w64 j ≡ y +ℤ pos j = rw (back f, backn w64 j (omega arith)) refl in
     let k : natAbs (y +ℤ pos j) ≤ 2 ^ 31 = omega (arith, abs-add y (pos j)) in
     let g : SFits w64 (y +ℤ pos j) = fit-abs w64 (y +ℤ pos j) (omega arith) in
-    record { fits = rw e g; is = rw (e, back g) (less-none (y +ℤ pos j)); near = rw (e, back g) k }
+    record { fits = rw e g; is = rw (e, back g) (less-none (y +ℤ pos j)); nearest = rw (e, back g) k }
 
 pub clip-below : (ih : ℕ) (z : ℤ) → 1 ≤ ih → clip (ih - 1) z < ih
 clip-below ih z h = omega (arith, clip-up (ih - 1) z)

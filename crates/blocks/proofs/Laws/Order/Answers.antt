@@ -5,7 +5,7 @@ use mathlib.Core.List.{List, [], _∷_}
 use Prim.Native.Nat.{ℕ}
 use lib.Dec.{leb}
 use lib.IntN.{ℤ, pos, negsuc}
-use Rattle.rows.specs.Places.{rowFrom, rowOf, paint, fillIn, within, fill}
+use Rattle.rows.specs.Places.{rowFrom, rowOf, paint, fillIn, inBlock, fill}
 use Rattle.rows.specs.Edge.{endless, aroundAt}
 use Rattle.rows.specs.Warp.{filterNo, isThere, every, allThere}
 use Rattle.blocks.specs.Refuse.{need, orSame, sizeOk, strideOk, holds, wholeFilters}
@@ -101,5 +101,5 @@ twoPixels =
     }
 
 copied : orderDst 0 twoPixels (record { x = pos 0; y = pos 70; w = 3; h = 1; kind = Copy }) 4 (1 ∷ 2 ∷ 3 ∷ 4 ∷ []) ≡ 5 ∷ 9 ∷ 9 ∷ 4 ∷ []
-unfolding orderDst orSame fill fillIn paint within putPicture putRule aroundAt endless before planeSide
+unfolding orderDst orSame fill fillIn paint inBlock putPicture putRule aroundAt endless before planeSide
 copied = refl

@@ -62,7 +62,7 @@ module _ {sl w m : ℕ} {p : ScaledPlan} {pixels fractions : List ℕ} (q : Pair
   pub pairs-fetched : (k n : ℕ) → k < m → n ≤ w → PairsFetched sl (p .start + k * p .stride) pixels fractions n
   pairs-fetched k n b h =
       record {
-        within = λ i l. omega (arith, t .pixel i (omega arith), q .fetched k i b (omega arith));
+        held = λ i l. omega (arith, t .pixel i (omega arith), q .fetched k i b (omega arith));
         small = λ i l. omega (arith, t .fraction i (omega arith));
       }
 

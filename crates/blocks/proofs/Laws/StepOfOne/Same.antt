@@ -12,7 +12,7 @@ use lib.Dec.{leb}
 use lib.IntN.{ℤ, pos, negsuc}
 use lib.ListN.{length, getD, List·getD-eq-default}
 use Rattle.rows.specs.Depth.{bitsOf, biasOf, maxOf}
-use Rattle.rows.specs.inner.Depth.{High}
+use Rattle.rows.specs.inner.Depth.{HighDepth}
 use Rattle.rows.specs.Numbers.{up}
 use Rattle.rows.specs.Places.{around}
 use Rattle.rows.specs.Subpel.{Axis, family, axis, filterBits, put8, prep8}
@@ -29,7 +29,7 @@ use Rattle.blocks.specs.Scaled.{startOk, scaledTypeOk, readsScaled, scal
 use Rattle.blocks.specs.Scaled.{Put8ScaledAnswer, Prep8ScaledAnswer, PutBilinScaledAnswer, PrepBilinScaledAnswer}
 use Rattle.blocks.proofs.Laws.Calls.Answer.{same-answer}
 use Rattle.blocks.proofs.Laws.Calls.Refuse.{all-met, size-met, stride-met, met-reads}
-use Rattle.blocks.proofs.Laws.words.Deep.{deep-high}
+use Rattle.blocks.proofs.Laws.words.Depth.{depth-high}
 use Rattle.blocks.proofs.Laws.Scaled.Ready.{each-at, taps-read, pair-read}
 use Rattle.blocks.proofs.Laws.StepOfOne.Positions.{step-one, put-one, prep-one}
 use Rattle.blocks.proofs.Laws.StepOfOne.Eight.{NearAxis, put8-one, prep8-one}
@@ -42,13 +42,13 @@ pub record WithinDepth (depth : ℕ) (src : List ℕ) : Type 0 where
 
 -- a depth whose test is met is 8, 10 or 12, as it is in both sets
 abbrev pub Tested : (deep : Bool) (depth : ℕ) → Type 0
-Tested deep depth = deep ≡ true → (depth ≡ 8) ⊎ High depth
+Tested deep depth = deep ≡ true → (depth ≡ 8) ⊎ HighDepth depth
 
 pub bytes-tested : Tested true 8
 bytes-tested e = inl refl
 
 pub words-tested : (depth : ℤ) → Tested (depthOk depth) (up depth)
-words-tested depth e = inr (deep-high depth e)
+words-tested depth e = inr (depth-high depth e)
 
 -- ---- what follows of the depth and of the pixels
 
@@ -57,7 +57,7 @@ record Numbers (depth : ℕ) : Type 0 where
   most : bitsOf depth ≤ 4
   small : maxOf depth * 2 ^ bitsOf depth < 2 ^ 14
 
-numbers : {depth : ℕ} → (depth ≡ 8) ⊎ High depth → Numbers depth
+numbers : {depth : ℕ} → (depth ≡ 8) ⊎ HighDepth depth → Numbers depth
 numbers k =
     ⊎-elim (λ e. subst Numbers (sym e) (record { least = omega arith; most = omega arith; small = omega arith }))
     (λ e.

@@ -63,7 +63,7 @@ margins-met sl o s a b =
 
 pass-met : (n rows : ℕ) (m a b : ℤ) → warpPlaceOk m ≡ true → every rows (λ r. every 8 (λ i. isThere n (filterNo m a b r i))) ≡ true → Pass n m a b rows
 pass-met n rows m a b p e =
-    record { near = place-met m p; there = λ r h c k. every-at 8 (λ i. isThere n (filterNo m a b r i)) (every-at rows _ e r h) c k }
+    record { bounded = place-met m p; there = λ r h c k. every-at 8 (λ i. isThere n (filterNo m a b r i)) (every-at rows _ e r h) c k }
 
 pub passes : (n : ℕ) (mx my a b c d : ℤ) → warpPlaceOk mx ≡ true → warpPlaceOk my ≡ true → allThere n mx my a b c d ≡ true
     → Pass n mx a b 15 × Pass n my c d 8

@@ -14,7 +14,7 @@ use lib.Pow.{pow-pos, pow-add, pow-mono, shl-lt, shl-exact}
 use lib.Signed.{shrZ, ltZ, leZ}
 use mir.Syntax.{w32, w64}
 use mir.Val.{SFits, toZ, boolByte}
-use Rattle.rows.specs.Numbers.{at, between, near}
+use Rattle.rows.specs.Numbers.{at, between, isWithin}
 use Rattle.rows.specs.Shear.{isNeg, topBelow, topBit, recipPlace, recipOf, shiftOf}
 use Rattle.rows.proofs.Laws.Numbers.Signed.{mag-lt, mul-up, mul-dn, fit, le-yes, abs-parts, one-part}
 use Rattle.rows.proofs.Laws.Blocks.Fill.{and-true}
@@ -138,7 +138,7 @@ div-shift d recip p = ap (λ (x : Divisor). x .shift) (done _ _ _ (ok-div p))
 pub entries-met : (m : List ℤ) → entriesOk m ≡ true → Entries m
 unfolding entriesOk
 entries-met m e =
-    let t : ℕ → Bool = λ i. near (2 ^ 22) (at m i) in
+    let t : ℕ → Bool = λ i. isWithin (2 ^ 22) (at m i) in
     let p = and-true (t 2 && t 3 && t 4) (t 5) e in
     let q = and-true (t 2 && t 3) (t 4) (p .0) in
     let r = and-true (t 2) (t 3) (q .0) in

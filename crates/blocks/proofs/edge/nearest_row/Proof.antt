@@ -25,5 +25,5 @@ nearest-row-spec =
     (λ c. fit w64 (omega arith))  -- cast-left-of
     (λ c. row c .fits)  -- add-left-of
     (λ c. search needs)  -- sub-left-of
-    (λ c κs. (omega arith, row c .near, omega arith))  -- left-of-requires
+    (λ c κs. (omega arith, row c .nearest, omega arith))  -- left-of-requires
     returns)

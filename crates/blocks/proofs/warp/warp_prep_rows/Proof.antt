@@ -31,7 +31,7 @@ warp-prep-row-requires : tie.Need-warp-prep-row-requires Inv-loop μ-loop
 warp-prep-row-requires c κs =
     let t = c .before in let l = t .before .loop in
     let s = entry t in let lt = t .loop-test .taken in
-    (omega (arith, filled-span (pos 0) (l .inv) (s .pre .0) lt, s .pre .2 .near), s .pre .2 .there (l .y) lt)
+    (omega (arith, filled-span (pos 0) (l .inv) (s .pre .0) lt, s .pre .2 .bounded), s .pre .2 .there (l .y) lt)
 
 loop-again : tie.Need-loop-again Inv-loop μ-loop
 loop-again c =

@@ -9,7 +9,7 @@ use native.Mathlib.Omega.{arith}
 use lib.ListN.{length, getD}
 use lib.Dec.{ltb}
 use borrow.Author.Tests.{ltb-true, lt-ltb, le-ltb}
-use Rattle.rows.specs.Places.{pick, paint, within, fillIn, fill, splice}
+use Rattle.rows.specs.Places.{pick, paint, inBlock, fillIn, fill, splice}
 use Rattle.rows.proofs.Laws.Blocks.Places.{by-lt, row-le, col-of, row-of, ext-grid, splice-length, splice-before, splice-in, splice-after}
 
 module _ {A : Type 0} where
@@ -34,25 +34,25 @@ pub and-true : (a b : Bool) → a && b ≡ true → (a ≡ true) × (b ≡ true)
 and-true true b e = (refl, e)
 and-true false b e = absurd (true≢false (sym e))
 
-pub within-in : (w h i j : ℕ) → i < w → j < h → within w h i j ≡ true
-unfolding within
-within-in w h i j a b = rw (lt-ltb i w a, lt-ltb j h b) refl
+pub inBlock-in : (w h i j : ℕ) → i < w → j < h → inBlock w h i j ≡ true
+unfolding inBlock
+inBlock-in w h i j a b = rw (lt-ltb i w a, lt-ltb j h b) refl
 
-pub within-col : (w h i j : ℕ) → w ≤ i → within w h i j ≡ false
-unfolding within
-within-col w h i j a = rw (le-ltb i w a) refl
+pub inBlock-col : (w h i j : ℕ) → w ≤ i → inBlock w h i j ≡ false
+unfolding inBlock
+inBlock-col w h i j a = rw (le-ltb i w a) refl
 
-pub within-row : (w h i j : ℕ) → h ≤ j → within w h i j ≡ false
-unfolding within
-within-row w h i j b = rw (le-ltb j h b) (and-false (ltb i w))
+pub inBlock-row : (w h i j : ℕ) → h ≤ j → inBlock w h i j ≡ false
+unfolding inBlock
+inBlock-row w h i j b = rw (le-ltb j h b) (and-false (ltb i w))
 
-pub within-true : (w h i j : ℕ) → within w h i j ≡ true → (i < w) × (j < h)
-unfolding within
-within-true w h i j e = let p = and-true (ltb i w) (ltb j h) e in (ltb-true i w (p .0), ltb-true j h (p .1))
+pub inBlock-true : (w h i j : ℕ) → inBlock w h i j ≡ true → (i < w) × (j < h)
+unfolding inBlock
+inBlock-true w h i j e = let p = and-true (ltb i w) (ltb j h) e in (ltb-true i w (p .0), ltb-true j h (p .1))
 
-pub within-more : (w h i j : ℕ) → j < h → within w h i j ≡ within w (h + 1) i j
-unfolding within
-within-more w h i j k = rw (lt-ltb j h k, lt-ltb j (h + 1) (omega arith)) refl
+pub inBlock-more : (w h i j : ℕ) → j < h → inBlock w h i j ≡ inBlock w (h + 1) i j
+unfolding inBlock
+inBlock-more w h i j k = rw (lt-ltb j h k, lt-ltb j (h + 1) (omega arith)) refl
 
 -- ---- the block
 
@@ -63,7 +63,7 @@ module _ {A : Type 0} where
 
   pub length-fill : (d : List A) (s w h : ℕ) (f : ℕ → ℕ → A) → length (fill d s w h f) ≡ length d
   unfolding fill
-  length-fill d s w h f = length-fillIn d s (within w h) f
+  length-fill d s w h f = length-fillIn d s (inBlock w h) f
 
 module _ {A : Type 0} (z : A) (s : ℕ) where
   -- what stands at column i of row j
@@ -76,13 +76,13 @@ module _ {A : Type 0} (z : A) (s : ℕ) where
   -- inside the block
   pub fill-in : (d : List A) (w h : ℕ) (f : ℕ → ℕ → A) (i j : ℕ) → w ≤ s → i < w → j < h → j * s + i < length d → getD (fill d s w h f) (j * s + i) z ≡ f i j
   unfolding fill
-  fill-in d w h f i j ws a b k = fillIn-at d (within w h) f i j (omega arith) k ∙ rw (within-in w h i j a b) refl
+  fill-in d w h f i j ws a b k = fillIn-at d (inBlock w h) f i j (omega arith) k ∙ rw (inBlock-in w h i j a b) refl
 
   -- outside it: right of its columns or below its rows
   pub fill-out : (d : List A) (w h : ℕ) (f : ℕ → ℕ → A) (i j : ℕ) → i < s → (w ≤ i) ⊎ (h ≤ j) → j * s + i < length d → getD (fill d s w h f) (j * s + i) z ≡ getD d (j * s + i) z
   unfolding fill
   fill-out d w h f i j b o k =
-      fillIn-at d (within w h) f i j b k ∙ ap (λ (t : Bool). pick t (f i j) (getD d (j * s + i) z)) (⊎-elim (λ q. within-col w h i j q) (λ q. within-row w h i j q) o)
+      fillIn-at d (inBlock w h) f i j b k ∙ ap (λ (t : Bool). pick t (f i j) (getD d (j * s + i) z)) (⊎-elim (λ q. inBlock-col w h i j q) (λ q. inBlock-row w h i j q) o)
 
   module _ (pos : 0 < s) where
     -- two lists as long, of which the second is told by column and row
@@ -125,7 +125,7 @@ module _ {A : Type 0} (z : A) (s : ℕ) where
     pub fill-same : (d : List A) (w h : ℕ) (f g : ℕ → ℕ → A) → ((i j : ℕ) → i < w → j < h → f i j ≡ g i j) → fill d s w h f ≡ fill d s w h g
     unfolding fill
     fill-same d w h f g same =
-        fillIn-ext d (within w h) (within w h) f g λ i j b k v. at (within w h i j) (f i j) (g i j) v (λ e. let p = within-true w h i j e in same i j (p .0) (p .1)) where
+        fillIn-ext d (inBlock w h) (inBlock w h) f g λ i j b k v. at (inBlock w h i j) (f i j) (g i j) v (λ e. let p = inBlock-true w h i j e in same i j (p .0) (p .1)) where
           at : (t : Bool) (a b v : A) → (t ≡ true → a ≡ b) → pick t a v ≡ pick t b v
           at true a b v e = e refl
           at false a b v e = refl
@@ -134,8 +134,8 @@ module _ {A : Type 0} (z : A) (s : ℕ) where
 
     -- no row yet
     pub fill-none : (d : List A) (w : ℕ) (f : ℕ → ℕ → A) → d ≡ fill d s w 0 f
-    unfolding fill within
-    fill-none d w f = fillIn-is d (within w 0) f d refl λ i j b h. rw (le-ltb j 0 (omega arith)) (out (ltb i w) (f i j) (getD d (j * s + i) z)) where
+    unfolding fill inBlock
+    fill-none d w f = fillIn-is d (inBlock w 0) f d refl λ i j b h. rw (le-ltb j 0 (omega arith)) (out (ltb i w) (f i j) (getD d (j * s + i) z)) where
       out : (r : Bool) (a v : A) → v ≡ pick (r && false) a v
       out true a v = refl
       out false a v = refl
@@ -145,29 +145,29 @@ module _ {A : Type 0} (z : A) (s : ℕ) where
         → ((i : ℕ) → i < w → getD r i z ≡ f i y) → splice (fill d s w y f) (y * s) (y * s + w) r ≡ fill d s w (y + 1) f
     unfolding fill
     fill-more d w y f r ws fits l row =
-        fillIn-is d (within w (y + 1)) f (splice (fill d s w y f) (y * s) (y * s + w) r) (splice-length z (fill d s w y f) (y * s) (y * s + w) r long fit ∙ length-fill d s w y f) at where
+        fillIn-is d (inBlock w (y + 1)) f (splice (fill d s w y f) (y * s) (y * s + w) r) (splice-length z (fill d s w y f) (y * s) (y * s + w) r long fit ∙ length-fill d s w y f) at where
           long : y * s + length r ≡ y * s + w
           long = omega arith
 
           fit : y * s + w ≤ length (fill d s w y f)
           fit = rw (length-fill d s w y f) fits
 
-          same : (i j : ℕ) → i < s → j * s + i < length d → within w y i j ≡ within w (y + 1) i j → getD (fill d s w y f) (j * s + i) z ≡ pick (within w (y + 1) i j) (f i j) (getD d (j * s + i) z)
-          same i j b h e = fillIn-at d (within w y) f i j b h ∙ ap (λ (t : Bool). pick t (f i j) (getD d (j * s + i) z)) e
+          same : (i j : ℕ) → i < s → j * s + i < length d → inBlock w y i j ≡ inBlock w (y + 1) i j → getD (fill d s w y f) (j * s + i) z ≡ pick (inBlock w (y + 1) i j) (f i j) (getD d (j * s + i) z)
+          same i j b h e = fillIn-at d (inBlock w y) f i j b h ∙ ap (λ (t : Bool). pick t (f i j) (getD d (j * s + i) z)) e
 
-          on : (i j : ℕ) → j ≡ y → i < w → getD (splice (fill d s w y f) (y * s) (y * s + w) r) (j * s + i) z ≡ pick (within w (y + 1) i j) (f i j) (getD d (j * s + i) z)
+          on : (i j : ℕ) → j ≡ y → i < w → getD (splice (fill d s w y f) (y * s) (y * s + w) r) (j * s + i) z ≡ pick (inBlock w (y + 1) i j) (f i j) (getD d (j * s + i) z)
           on i j e b =
-              rw (e, within-in w (y + 1) i y b (omega arith)) (splice-in z (fill d s w y f) (y * s) (y * s + w) r long fit i (omega arith) ∙ row i b)
+              rw (e, inBlock-in w (y + 1) i y b (omega arith)) (splice-in z (fill d s w y f) (y * s) (y * s + w) r long fit i (omega arith) ∙ row i b)
 
-          past : (i j : ℕ) → i < s → j * s + i < length d → y * s + w ≤ j * s + i → within w y i j ≡ within w (y + 1) i j → getD (splice (fill d s w y f) (y * s) (y * s + w) r) (j * s + i) z ≡ pick (within w (y + 1) i j) (f i j) (getD d (j * s + i) z)
+          past : (i j : ℕ) → i < s → j * s + i < length d → y * s + w ≤ j * s + i → inBlock w y i j ≡ inBlock w (y + 1) i j → getD (splice (fill d s w y f) (y * s) (y * s + w) r) (j * s + i) z ≡ pick (inBlock w (y + 1) i j) (f i j) (getD d (j * s + i) z)
           past i j b h k e = splice-after z (fill d s w y f) (y * s) (y * s + w) r long fit (j * s + i) k ∙ same i j b h e
 
-          at : (i j : ℕ) → i < s → j * s + i < length d → getD (splice (fill d s w y f) (y * s) (y * s + w) r) (j * s + i) z ≡ pick (within w (y + 1) i j) (f i j) (getD d (j * s + i) z)
+          at : (i j : ℕ) → i < s → j * s + i < length d → getD (splice (fill d s w y f) (y * s) (y * s + w) r) (j * s + i) z ≡ pick (inBlock w (y + 1) i j) (f i j) (getD d (j * s + i) z)
           at i j b h =
               by-lt j y
-              (λ jy. splice-before z (fill d s w y f) (y * s) (y * s + w) r long fit (j * s + i) (omega (arith, row-le s jy)) ∙ same i j b h (within-more w y i j jy))
+              (λ jy. splice-before z (fill d s w y f) (y * s) (y * s + w) r long fit (j * s + i) (omega (arith, row-le s jy)) ∙ same i j b h (inBlock-more w y i j jy))
               λ yj. by-lt y j
-              (λ jy. past i j b h (omega (arith, row-le s jy)) (within-row w y i j yj ∙ sym (within-row w (y + 1) i j (omega arith))))
+              (λ jy. past i j b h (omega (arith, row-le s jy)) (inBlock-row w y i j yj ∙ sym (inBlock-row w (y + 1) i j (omega arith))))
               λ jy. by-lt i w
               (λ iw. on i j (omega arith) iw)
-              λ wi. past i j b h (let e : j ≡ y = omega arith in rw e (omega arith)) (within-col w y i j wi ∙ sym (within-col w (y + 1) i j wi))
+              λ wi. past i j b h (let e : j ≡ y = omega arith in rw e (omega arith)) (inBlock-col w y i j wi ∙ sym (inBlock-col w (y + 1) i j wi))

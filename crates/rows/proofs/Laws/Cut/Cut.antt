@@ -10,16 +10,16 @@ use lib.ListN.{length, getD, take, drop, length-append, length-drop, List·getD-
 use lib.Seq.{ext-getD, getD-append-add, getD-take, getD-drop, length-take-le}
 use lib.Dec.{leb}
 use borrow.Author.Tests.{le-leb, leb-true}
-use Rattle.rows.specs.Places.{pick, within, fill, fillIn, lentFrom}
+use Rattle.rows.specs.Places.{pick, inBlock, fill, fillIn, lentFrom}
 use Rattle.rows.specs.Cut.{Rect, has, begins, Inside, covered, Each, Cut, putEach}
 use Rattle.rows.proofs.Laws.Blocks.Places.{by-lt, col-of, row-of}
-use Rattle.rows.proofs.Laws.Blocks.Fill.{getD-paint, within-in, within-true, within-col, within-row, and-true, length-fill, length-fillIn, fillIn-at, fillIn-is, fillIn-ext, fillIn-join, fill-same}
+use Rattle.rows.proofs.Laws.Blocks.Fill.{getD-paint, inBlock-in, inBlock-true, inBlock-col, inBlock-row, and-true, length-fill, length-fillIn, fillIn-at, fillIn-is, fillIn-ext, fillIn-join, fill-same}
 
 -- ---- a box, by its places
 
 pub box-in : (r : Rect) (i j : ℕ) → r .x ≤ i → i < r .x + r .w → r .y ≤ j → j < r .y + r .h → has r i j ≡ true
 unfolding has
-box-in r i j a b c d = rw (le-leb (r .x) i a, le-leb (r .y) j c, within-in (r .w) (r .h) (i - r .x) (j - r .y) (omega arith) (omega arith)) refl
+box-in r i j a b c d = rw (le-leb (r .x) i a, le-leb (r .y) j c, inBlock-in (r .w) (r .h) (i - r .x) (j - r .y) (omega arith) (omega arith)) refl
 
 pub record In (r : Rect) (i j : ℕ) : Type 0 where
   pub left : r .x ≤ i
@@ -30,11 +30,11 @@ pub record In (r : Rect) (i j : ℕ) : Type 0 where
 pub box-true : (r : Rect) (i j : ℕ) → has r i j ≡ true → In r i j
 unfolding has
 box-true r i j e =
-    let p = and-true (leb (r .x) i && leb (r .y) j) (within (r .w) (r .h) (i - r .x) (j - r .y)) e in
+    let p = and-true (leb (r .x) i && leb (r .y) j) (inBlock (r .w) (r .h) (i - r .x) (j - r .y)) e in
     let q = and-true (leb (r .x) i) (leb (r .y) j) (p .0) in
     let a = leb-true (r .x) i (q .0) in
     let b = leb-true (r .y) j (q .1) in
-    let t = within-true (r .w) (r .h) (i - r .x) (j - r .y) (p .1) in
+    let t = inBlock-true (r .w) (r .h) (i - r .x) (j - r .y) (p .1) in
     record { left = a; right = omega (arith, t .0); top = b; low = omega (arith, t .1) }
 
 -- a test is settled by what would make it hold
@@ -94,8 +94,8 @@ module _ {A : Type 0} (z : A) (s : ℕ) (pos : 0 < s) (f : ℕ → ℕ → A) wh
         let l = length-drop k d in
         ap (λ (n : ℕ). getD (putRect s f r d) n z) e
         ∙ lent-after z k g d fits (b * s + a)
-        ∙ fillIn-at z s (drop k d) (within (r .w) (r .h)) f′ a b (omega (arith, p)) (omega arith)
-        ∙ rw (within-in (r .w) (r .h) a b (omega (arith, p)) (omega (arith, p)), ea, eb) refl
+        ∙ fillIn-at z s (drop k d) (inBlock (r .w) (r .h)) f′ a b (omega (arith, p)) (omega arith)
+        ∙ rw (inBlock-in (r .w) (r .h) a b (omega (arith, p)) (omega (arith, p)), ea, eb) refl
 
     -- past the rectangle's first place, outside it
     off : (i j : ℕ) → i < s → has r i j ≡ false → k ≤ j * s + i → j * s + i < length d → getD (putRect s f r d) (j * s + i) z ≡ getD d (j * s + i) z
@@ -107,14 +107,14 @@ module _ {A : Type 0} (z : A) (s : ℕ) (pos : 0 < s) (f : ℕ → ℕ → A) wh
         let ek : j * s + i ≡ k + (b * s + a) = omega arith in
         let l = length-drop k d in
         let la = mod-lt q pos in
-        let w : within (r .w) (r .h) a b ≡ false = not-true (within (r .w) (r .h) a b) (λ v.
-        let p = within-true (r .w) (r .h) a b v in
+        let w : inBlock (r .w) (r .h) a b ≡ false = not-true (inBlock (r .w) (r .h) a b) (λ v.
+        let p = inBlock-true (r .w) (r .h) a b v in
         let m : (r .y + b) * s ≡ r .y * s + b * s = add-mul (r .y) b s in
         let u = same-place s i j (r .x + a) (r .y + b) c (omega (arith, p .0)) (omega arith) in
         true≢false (sym (box-in r i j (omega (arith, u .0)) (omega (arith, u .0, p .0)) (omega (arith, u .1)) (omega (arith, u .1, p .1))) ∙ e)) in
         ap (λ (n : ℕ). getD (putRect s f r d) n z) ek
         ∙ lent-after z k g d fits (b * s + a)
-        ∙ fillIn-at z s (drop k d) (within (r .w) (r .h)) f′ a b la (omega arith)
+        ∙ fillIn-at z s (drop k d) (inBlock (r .w) (r .h)) f′ a b la (omega arith)
         ∙ rw w (getD-drop k d (b * s + a) z)
         ∙ ap (λ (n : ℕ). getD d n z) (sym ek)
 
@@ -149,11 +149,11 @@ covered-inside : (w h : ℕ) (rs : List Rect) → Each (Inside w h) rs → (i j 
 covered-inside w h rs e i j c = in-one rs i j c e λ r a p. (omega (arith, p, a), omega (arith, p, a))
 
 -- the places of a cut are those of the block
-pub cut-places : (w h : ℕ) (rs : List Rect) → Cut w h rs → (i j : ℕ) → covered rs i j ≡ within w h i j
+pub cut-places : (w h : ℕ) (rs : List Rect) → Cut w h rs → (i j : ℕ) → covered rs i j ≡ inBlock w h i j
 cut-places w h rs c i j =
-    settle (covered rs i j) (within w h i j)
-    (λ e. let p = covered-inside w h rs (c .inside) i j e in within-in w h i j (p .0) (p .1))
-    λ e. let p = within-true w h i j e in c .covers i j (p .0) (p .1)
+    settle (covered rs i j) (inBlock w h i j)
+    (λ e. let p = covered-inside w h rs (c .inside) i j e in inBlock-in w h i j (p .0) (p .1))
+    λ e. let p = inBlock-true w h i j e in c .covers i j (p .0) (p .1)
 
 module _ {A : Type 0} where
   -- the rectangles are written one after the other
@@ -178,12 +178,12 @@ module _ {A : Type 0} (z : A) (s : ℕ) (pos : 0 < s) (f : ℕ → ℕ → A) wh
   unfolding fill
   cut w h rs d c ws fits =
       put-all rs d (each-both (Inside w h) (λ r. begins s r ≤ length d) (λ r. (r .x + r .w ≤ s) × (begins s r ≤ length d)) rs (λ r a b. (omega (arith, a), b)) (c .inside) fits)
-      ∙ fillIn-ext z s pos d (covered rs) (within w h) f f (λ i j b k v. ap (λ (t : Bool). pick t (f i j) v) (cut-places w h rs c i j))
+      ∙ fillIn-ext z s pos d (covered rs) (inBlock w h) f f (λ i j b k v. ap (λ (t : Bool). pick t (f i j) v) (cut-places w h rs c i j))
 
 -- ---- a block by its places, whatever the stride
 
 module _ {A : Type 0} (z : A) (d : List A) (s w h : ℕ) (f : ℕ → ℕ → A) where
-  place-of-fill : (p : ℕ) → p < length d → getD (fill d s w h f) p z ≡ pick (within w h (p % s) (p / s)) (f (p % s) (p / s)) (getD d p z)
+  place-of-fill : (p : ℕ) → p < length d → getD (fill d s w h f) p z ≡ pick (inBlock w h (p % s) (p / s)) (f (p % s) (p / s)) (getD d p z)
   unfolding fill fillIn
   place-of-fill p b = getD-paint z 0 _ d p b ∙ rw (zero-add p) refl
 
@@ -191,7 +191,7 @@ module _ {A : Type 0} (z : A) (d : List A) (s w h : ℕ) (f : ℕ → ℕ → A)
   pub beside-fill : (p : ℕ) → p < length d → (w ≤ p % s) ⊎ (h ≤ p / s) → getD (fill d s w h f) p z ≡ getD d p z
   beside-fill p b o =
       place-of-fill p b
-      ∙ ap (λ (t : Bool). pick t (f (p % s) (p / s)) (getD d p z)) (⊎-elim (λ q. within-col w h (p % s) (p / s) q) (λ q. within-row w h (p % s) (p / s) q) o)
+      ∙ ap (λ (t : Bool). pick t (f (p % s) (p / s)) (getD d p z)) (⊎-elim (λ q. inBlock-col w h (p % s) (p / s) q) (λ q. inBlock-row w h (p % s) (p / s) q) o)
 
   -- a block without columns
   pub fill-narrow : w ≤ 0 → fill d s w h f ≡ d

@@ -65,7 +65,7 @@ module _ (src : List ℕ) (o : ℕ) where
   pub part-row : (n w : ℕ) (pixels fractions : List ℕ) → PairsFetched (length src) o pixels fractions w
       → rowOf w (pairMid (span src o (length src)) pixels fractions n)
       ≡ rowOf w (λ i. low16 (R n (bilinAt (px src) (o + getD pixels i 0) 1 (getD fractions i 0))))
-  part-row n w pixels fractions f = row-same (pos 0) w _ _ λ i h. ap (λ (z : ℤ). low16 (R n z)) (part-at _ _ (f .within i h))
+  part-row n w pixels fractions f = row-same (pos 0) w _ _ λ i h. ap (λ (z : ℤ). low16 (R n z)) (part-at _ _ (f .held i h))
 
 -- the sum of two bytes is kept as it is
 pub byte-mid : {r : ℕ} {s : ℤ} → pos r ≡ s → r ≤ 4080 → pos r ≡ low16 (R 0 s)

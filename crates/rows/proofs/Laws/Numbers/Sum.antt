@@ -35,5 +35,5 @@ summed-more {g} {M} {j} p h e =
     (record { is = ap (ofZ w32) (e .0 ∙ ap (λ (x : ℤ). x +ℤ g j) (summed-is p h)); le = omega (arith, p .le, mag-add (sumZ j g) (g j)) })
 
 -- the places of eight taps
-pub within : (j step : ℕ) → j < 8 → j * step ≤ 7 * step
-within j step h = mul-le-mul-right step (le-of-suc-le-suc h)
+pub steps-le : (j step : ℕ) → j < 8 → j * step ≤ 7 * step
+steps-le j step h = mul-le-mul-right step (le-of-suc-le-suc h)

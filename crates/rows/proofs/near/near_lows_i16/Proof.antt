@@ -5,7 +5,7 @@ use lib.IntN.{ℤ, pos}
 use mir.Syntax.{w8, w16}
 use Rattle.rows.specs.Numbers.{at, modZ}
 use Rattle.rows.proofs.Laws.Numbers.Signed.{back, fit}
-use Rattle.rows.proofs.Laws.Numbers.Sum.{within}
+use Rattle.rows.proofs.Laws.Numbers.Sum.{steps-le}
 use Rattle.rows.proofs.Laws.Filters.Near.{NearSum, near-none, near-room, near-more, near-all, lows}
 use Rattle.rows.proofs.near.near_lows_i16.Statement.{statement}
 use Rattle.rows.proofs.near.near_lows_i16.Tie as tie
@@ -19,7 +19,7 @@ abbrev μ-loop : tie.MeasureT-loop
 
 -- place j is within src
 place : (c : tie.In-loop Inv-loop μ-loop) → c .before .loop .j * c .before .before .args .step ≤ 7 * c .before .before .args .step
-place c = within (c .before .loop .j) (c .before .before .args .step) (c .loop-test .taken)
+place c = steps-le (c .before .loop .j) (c .before .before .args .step) (c .loop-test .taken)
 
 loop-again : tie.Need-loop-again Inv-loop μ-loop
 loop-again c =

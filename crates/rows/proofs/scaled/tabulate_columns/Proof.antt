@@ -19,8 +19,8 @@ abbrev μ-loop : tie.MeasureT-loop
 μ-loop pixels₀ fractions₀ w start step first by i₀ pixels fractions i = w - i
 
 -- column i isn't far
-near : (c : tie.In-loop Inv-loop μ-loop) → let a = c .before .before .args in position (a .start) (a .step) (c .before .loop .i) < 2 ^ 18
-near c = position-small (c .before .before .pre .3) (omega arith)
+bounded : (c : tie.In-loop Inv-loop μ-loop) → let a = c .before .before .args in position (a .start) (a .step) (c .before .loop .i) < 2 ^ 18
+bounded c = position-small (c .before .before .pre .3) (omega arith)
 
 loop-again : tie.Need-loop-again Inv-loop μ-loop
 loop-again c =
@@ -39,9 +39,9 @@ tabulate-columns-spec =
     (λ c. omega arith) (λ c. omega arith)  -- start and step as u32
     (λ c. (omega arith, (upto-none _ _ _, upto-none _ _ _)))  -- while i < w
     (λ c. omega arith)  -- i as u32
-    (λ c. omega (arith, near c))  -- i * by
-    (λ c. omega (arith, near c))  -- first +
-    (λ c. omega (arith, near c)) (λ c. omega arith)  -- pixels[i] = .. as u8
+    (λ c. omega (arith, bounded c))  -- i * by
+    (λ c. omega (arith, bounded c))  -- first +
+    (λ c. omega (arith, bounded c)) (λ c. omega arith)  -- pixels[i] = .. as u8
     (λ c. omega arith) (λ c. omega arith)  -- fractions[i] = .. as u8
     (λ c. omega arith) (λ c. omega arith) loop-again  -- i += 1
     returns)

@@ -10,7 +10,7 @@ use Rattle.blocks.specs.bytes.Depth.{depthOk}
 use Rattle.blocks.specs.inner.Ready.{numbersOf}
 use Rattle.blocks.specs.Combine.{maskTests}
 use Rattle.blocks.proofs.Laws.Calls.Refuse.{done, refused}
-use Rattle.blocks.proofs.Laws.bytes.Deep.{deep-bits, deep-bias, deep-max}
+use Rattle.blocks.proofs.Laws.bytes.Depth.{depth-bits, depth-bias, depth-max}
 use Rattle.blocks.proofs.Laws.Combine.Ready.{mask-ready}
 use Rattle.blocks.proofs.bytes.combine.mask_at.Statement.{statement}
 use Rattle.blocks.proofs.bytes.combine.mask_at.Tie as tie
@@ -33,7 +33,7 @@ mask-rows-requires : tie.Need-mask-rows-requires
 mask-rows-requires c κs =
     let t = c .before .before in
     let p = mask-ready _ _ _ _ _ _ _ _ (sym (number (t .before)) ∙ t .if1 .taken) in
-    rw (depth (c .before)) (p .1 .0, p .1 .1, p .1 .2, p .1 .3, p .1 .4 .fits, deep-bits _ (p .0), deep-bias _ (p .0), deep-max _ (p .0))
+    rw (depth (c .before)) (p .1 .0, p .1 .1, p .1 .2, p .1 .3, p .1 .4 .fits, depth-bits _ (p .0), depth-bias _ (p .0), depth-max _ (p .0))
 
 returns : tie.Need-returns
 returns c =

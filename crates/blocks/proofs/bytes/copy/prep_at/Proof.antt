@@ -10,7 +10,7 @@ use Rattle.blocks.specs.bytes.Depth.{depthOk}
 use Rattle.blocks.specs.inner.Ready.{numbersOf}
 use Rattle.blocks.specs.Copy.{prepTests}
 use Rattle.blocks.proofs.Laws.Calls.Refuse.{done, refused}
-use Rattle.blocks.proofs.Laws.bytes.Deep.{deep-bits, deep-bias}
+use Rattle.blocks.proofs.Laws.bytes.Depth.{depth-bits, depth-bias}
 use Rattle.blocks.proofs.Laws.Copy.Ready.{prep-ready}
 use Rattle.blocks.proofs.bytes.copy.prep_at.Statement.{statement}
 use Rattle.blocks.proofs.bytes.copy.prep_at.Tie as tie
@@ -32,7 +32,7 @@ prep-rows-requires : tie.Need-prep-rows-requires
 prep-rows-requires c κs =
     let t = c .before .before in
     let p = prep-ready _ _ _ _ _ _ _ (sym (number (t .before)) ∙ t .if1 .taken) in
-    rw (depth (c .before)) (p .1 .0, p .1 .1, p .1 .2, deep-bits _ (p .0), deep-bias _ (p .0))
+    rw (depth (c .before)) (p .1 .0, p .1 .1, p .1 .2, depth-bits _ (p .0), depth-bias _ (p .0))
 
 returns : tie.Need-returns
 returns c =

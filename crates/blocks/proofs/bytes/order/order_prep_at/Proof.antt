@@ -8,7 +8,7 @@ use Rattle.rows.specs.Numbers.{up}
 use Rattle.rows.proofs.Laws.Numbers.Signed.{back}
 use Rattle.blocks.specs.bytes.Depth.{depthOk}
 use Rattle.blocks.specs.Order.{kindOf, Tables}
-use Rattle.blocks.proofs.Laws.bytes.Deep.{deep-bits, deep-bias}
+use Rattle.blocks.proofs.Laws.bytes.Depth.{depth-bits, depth-bias}
 use Rattle.blocks.proofs.Laws.Calls.Told.{passed}
 use Rattle.blocks.proofs.Laws.Order.Run.{ordered-number, ordered, ordered-deep, order-part, order-rows, prep-done, prep-refused, order-passed}
 use Rattle.blocks.proofs.Laws.Order.Run.{setting-passed, prep-passed}
@@ -50,7 +50,7 @@ prep-kind-requires : tie.Need-prep-kind-requires
 prep-kind-requires c κs =
     let s = c .before in let d = s .before .before in let t = d .before in let p = deep t in let w = window t in
     let r = order-rows (ordered (depth w) (tables w) refl (w .order-window .ensures) (t .if1 .taken)) (s .pick .ensures) in
-    rw (d .depth-numbers .ensures) (r .0, r .1, deep-bits _ p, deep-bias _ p)
+    rw (d .depth-numbers .ensures) (r .0, r .1, depth-bits _ p, depth-bias _ p)
 
 returns : tie.Need-returns
 returns c =

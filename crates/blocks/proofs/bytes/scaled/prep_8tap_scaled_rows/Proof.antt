@@ -35,8 +35,8 @@ row : (c : tie.In-loop Inv-loop μ-loop) → let a = entry c .args in Turn (a .t
 row c = turn (pos 0) (c .before .loop .inv .0) (entry c .pre .1) (c .loop-test .taken)
 
 -- row y isn't far
-near : (c : tie.In-loop Inv-loop μ-loop) → let a = entry c .args in position (a .p .my) (a .p .dy) (c .before .loop .y) < 2 ^ 20
-near c = position-lt (entry c .pre .2 .down) (omega (arith, entry c .pre .0))
+bounded : (c : tie.In-loop Inv-loop μ-loop) → let a = entry c .args in position (a .p .my) (a .p .dy) (c .before .loop .y) < 2 ^ 20
+bounded c = position-lt (entry c .pre .2 .down) (omega (arith, entry c .pre .0))
 
 next-rows-requires : tie.Need-next-rows-requires Inv-loop μ-loop
 next-rows-requires c κs =
@@ -75,8 +75,8 @@ prep-8tap-scaled-rows-spec =
     (λ c κs. search needs) (λ c κs. search needs)  -- bias-of, no-rows
     (λ c. let s = c .before .before .before in
     (filled-none (pos 0) _ _ _ _ _ (omega (arith, s .pre .1)), eight-none _ _ _ _ (c .no-rows .ensures .0) (c .no-rows .ensures .1), omega arith))  -- loop-holds
-    (λ c. omega (arith, near (c .before)))  -- y * p.dy
-    (λ c. omega (arith, near (c .before .before))) (λ c. omega (arith, near (c .before .before)))  -- p.my + .., v / 1024 + 8
+    (λ c. omega (arith, bounded (c .before)))  -- y * p.dy
+    (λ c. omega (arith, bounded (c .before .before))) (λ c. omega (arith, bounded (c .before .before)))  -- p.my + .., v / 1024 + 8
     next-rows-requires
     (λ c. omega (arith, row (from c))) (λ c. omega (arith, row (from c)))  -- y * dst_stride, d + w
     (λ c. omega (arith, row (from c)))  -- 2 * d

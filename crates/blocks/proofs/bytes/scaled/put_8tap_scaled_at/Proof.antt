@@ -10,7 +10,7 @@ use Rattle.blocks.specs.bytes.Depth.{depthOk}
 use Rattle.blocks.specs.Subpel.{subpelOk}
 use Rattle.blocks.specs.Scaled.{scaledTypeOk, scaledTests}
 use Rattle.blocks.specs.inner.Scaled.{scaledPlan}
-use Rattle.blocks.proofs.Laws.bytes.Deep.{deep-bits, deep-max}
+use Rattle.blocks.proofs.Laws.bytes.Depth.{depth-bits, depth-max}
 use Rattle.blocks.proofs.Laws.Calls.Refuse.{done, refused}
 use Rattle.blocks.proofs.Laws.Scaled.Ready.{ScaledMet, scaled-ready, taps-met}
 use Rattle.blocks.proofs.Laws.Scaled.Rule.{put-planned}
@@ -66,7 +66,7 @@ unfolding scaledPlan
 put-8tap-scaled-rows-requires c κs =
     let p = c .before in let d = p .before in let t = d .before in let m = met t in let f = begin (t .before) .fits in
     rw (p .scaled-plan .ensures, d .depth-numbers .ensures, back (f .depth), back (f .filter-type), back (f .mx), back (f .my), back (f .dx), back (f .dy))
-    (m .block, m .rows, taps-met _ _ m _ .1, deep-bits _ (m .deep), deep-max _ (m .deep))
+    (m .block, m .rows, taps-met _ _ m _ .1, depth-bits _ (m .deep), depth-max _ (m .deep))
 
 pub put-8tap-scaled-at-spec : {M : Type 1} → statement M
 put-8tap-scaled-at-spec =

@@ -6,7 +6,7 @@ use Rattle.rows.proofs.Laws.Numbers.Signed.{back}
 use Rattle.blocks.specs.Refuse.{lowest}
 use Rattle.blocks.specs.bytes.Depth.{depthOk}
 use Rattle.blocks.specs.Subpel.{subpelTests}
-use Rattle.blocks.proofs.Laws.bytes.Deep.{deep-bits, deep-bias, deep-max}
+use Rattle.blocks.proofs.Laws.bytes.Depth.{depth-bits, depth-bias, depth-max}
 use Rattle.blocks.proofs.Laws.Calls.Refuse.{done, refused}
 use Rattle.blocks.proofs.Laws.Subpel.Ready.{subpel-ready}
 use Rattle.blocks.proofs.bytes.subpel.put_8tap_at.Statement.{statement}
@@ -32,7 +32,7 @@ put-8tap-rows-requires : tie.Need-put-8tap-rows-requires
 put-8tap-rows-requires c κs =
     let d = c .before in let t = d .before in let k = t .before in
     let r = subpel-ready _ _ _ _ _ _ _ _ _ _ _ _ _ (sym (k .check-8tap .ensures) ∙ t .if1 .taken) in let p = sym (k .before .depth-ok .ensures) ∙ r .0 in
-    rw (d .depth-numbers .ensures) (r .1, r .2, r .3, deep-bits _ p, deep-bias _ p, deep-max _ p)
+    rw (d .depth-numbers .ensures) (r .1, r .2, r .3, depth-bits _ p, depth-bias _ p, depth-max _ p)
 
 pub put-8tap-at-spec : {M : Type 1} → statement M
 put-8tap-at-spec =

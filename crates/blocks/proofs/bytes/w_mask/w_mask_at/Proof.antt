@@ -10,7 +10,7 @@ use Rattle.blocks.specs.bytes.Depth.{depthOk}
 use Rattle.blocks.specs.inner.Ready.{numbersOf}
 use Rattle.blocks.specs.WMask.{wMaskTests}
 use Rattle.blocks.proofs.Laws.Calls.Refuse.{done, refused}
-use Rattle.blocks.proofs.Laws.bytes.Deep.{deep-bits, deep-bias, deep-max, deep-limits}
+use Rattle.blocks.proofs.Laws.bytes.Depth.{depth-bits, depth-bias, depth-max, depth-range}
 use Rattle.blocks.proofs.Laws.WMask.Ready.{w-mask-ready}
 use Rattle.blocks.proofs.bytes.w_mask.w_mask_at.Statement.{statement}
 use Rattle.blocks.proofs.bytes.w_mask.w_mask_at.Tie as tie
@@ -50,10 +50,10 @@ w-mask-rows-requires c κs =
       p .2,
       p .3,
       rw (sign c) (p .4),
-      rw (depth c) (deep-limits _ (p .0)),
-      rw (deep (from c)) (deep-bits _ (p .0)),
-      rw (deep (from c)) (deep-bias _ (p .0)),
-      rw (deep (from c)) (deep-max _ (p .0)),
+      rw (depth c) (depth-range _ (p .0)),
+      rw (deep (from c)) (depth-bits _ (p .0)),
+      rw (deep (from c)) (depth-bias _ (p .0)),
+      rw (deep (from c)) (depth-max _ (p .0)),
     )
 
 returns : tie.Need-returns

@@ -6,7 +6,7 @@ use Rattle.rows.proofs.Laws.Numbers.Signed.{back}
 use Rattle.blocks.specs.Refuse.{lowest}
 use Rattle.blocks.specs.bytes.Depth.{depthOk}
 use Rattle.blocks.specs.Warp.{warpTests}
-use Rattle.blocks.proofs.Laws.bytes.Deep.{deep-bits, deep-bias}
+use Rattle.blocks.proofs.Laws.bytes.Depth.{depth-bits, depth-bias}
 use Rattle.blocks.proofs.Laws.Calls.Refuse.{done, refused}
 use Rattle.blocks.proofs.Laws.Warp.Ready.{warp-ready}
 use Rattle.blocks.proofs.bytes.warp.warp_affine_8x8t_at.Statement.{statement}
@@ -33,7 +33,7 @@ returns c =
 warp-prep-requires : tie.Need-warp-prep-requires
 warp-prep-requires c κs =
     let t = c .before .before in let k = t .before in let r = warp-ready _ _ _ _ _ _ _ _ _ _ _ _ _ (sym (k .check-warp .ensures) ∙ t .if1 .taken) in
-    let p = sym (k .before .depth-ok .ensures) ∙ r .0 in rw (c .before .depth-numbers .ensures) (r .1, deep-bits _ p, deep-bias _ p)
+    let p = sym (k .before .depth-ok .ensures) ∙ r .0 in rw (c .before .depth-numbers .ensures) (r .1, depth-bits _ p, depth-bias _ p)
 
 pub warp-affine-8x8t-at-spec : {M : Type 1} → statement M
 warp-affine-8x8t-at-spec =

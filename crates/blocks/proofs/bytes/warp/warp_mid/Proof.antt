@@ -26,7 +26,7 @@ part c = column-part (c .before .loop .inv) (entry c .pre .0) (c .loop-test .tak
 warp-column-requires : tie.Need-warp-column-requires Inv-loop μ-loop
 warp-column-requires c κs =
     let t = c .before in let s = entry t in let lt = t .loop-test .taken in
-    (omega (arith, part t, lt, s .pre .1, s .pre .2 .near), λ r h. s .pre .2 .there r h (t .before .loop .x) lt)
+    (omega (arith, part t, lt, s .pre .1, s .pre .2 .bounded), λ r h. s .pre .2 .there r h (t .before .loop .x) lt)
 
 loop-again : tie.Need-loop-again Inv-loop μ-loop
 loop-again c =

@@ -6,7 +6,7 @@ use Rattle.blocks.specs.Refuse.{lowest}
 use Rattle.blocks.specs.words.Depth.{depthOk}
 use Rattle.blocks.specs.Bilinear.{bilinTests}
 use Rattle.blocks.proofs.Laws.Calls.Refuse.{done, refused}
-use Rattle.blocks.proofs.Laws.words.Deep.{deep-bits, deep-max}
+use Rattle.blocks.proofs.Laws.words.Depth.{depth-bits, depth-max}
 use Rattle.blocks.proofs.Laws.Bilinear.Ready.{bilin-ready}
 use Rattle.blocks.proofs.words.bilinear.hv_put_bilin_16bpc.Statement.{statement}
 use Rattle.blocks.proofs.words.bilinear.hv_put_bilin_16bpc.Tie as tie
@@ -31,7 +31,7 @@ rows-requires : tie.Need-put-bilin-rows-requires
 rows-requires c κs =
     let a = c .before in let n = a .before .before in let t = n .before in let k = t .before in
     let q = bilin-ready _ _ _ _ _ _ _ _ _ (sym (k .check-bilin .ensures) ∙ t .if1 .taken) in let p = sym (k .before .depth-ok .ensures) ∙ q .0 in
-    rw (a .before .up32 .ensures, a .up322 .ensures, n .depth-numbers .ensures) (q .1, deep-bits _ p, deep-max _ p)
+    rw (a .before .up32 .ensures, a .up322 .ensures, n .depth-numbers .ensures) (q .1, depth-bits _ p, depth-max _ p)
 
 pub hv-put-bilin-16bpc-spec : {M : Type 1} → statement M
 hv-put-bilin-16bpc-spec =

@@ -6,7 +6,7 @@ use Rattle.blocks.specs.Refuse.{lowest}
 use Rattle.blocks.specs.words.Depth.{depthOk}
 use Rattle.blocks.specs.Blend.{morphTests}
 use Rattle.blocks.proofs.Laws.Calls.Refuse.{done, refused}
-use Rattle.blocks.proofs.Laws.words.Deep.{deep-max}
+use Rattle.blocks.proofs.Laws.words.Depth.{depth-max}
 use Rattle.blocks.proofs.Laws.Blend.Ready.{morph-ready}
 use Rattle.blocks.proofs.words.blend.hv_morph_16bpc.Statement.{statement}
 use Rattle.blocks.proofs.words.blend.hv_morph_16bpc.Tie as tie
@@ -30,7 +30,7 @@ morph-rows-requires : tie.Need-morph-rows-requires
 morph-rows-requires c κs =
     let i = c .before .before in let t = entry (i .before) in
     let p = morph-ready _ _ _ (t .args .alpha) (t .args .beta) _ _ (sym (number (i .before)) ∙ i .if1 .taken) in
-    rw (c .before .depth-numbers .ensures, back (t .fits .depth), back (t .fits .alpha), back (t .fits .beta)) (p .1, p .2, p .3, p .4, deep-max _ (p .0))
+    rw (c .before .depth-numbers .ensures, back (t .fits .depth), back (t .fits .alpha), back (t .fits .beta)) (p .1, p .2, p .3, p .4, depth-max _ (p .0))
 
 returns : tie.Need-returns
 returns c =

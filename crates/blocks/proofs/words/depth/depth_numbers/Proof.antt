@@ -2,7 +2,7 @@ use borrow.Author.Needs.{needs}
 use mathlib.Core.Path.{_≡_, ap, _∙_}
 use Rattle.rows.specs.Numbers.{up}
 use Rattle.rows.proofs.Laws.Numbers.Signed.{back}
-use Rattle.blocks.proofs.Laws.words.Deep.{deep-high}
+use Rattle.blocks.proofs.Laws.words.Depth.{depth-high}
 use Rattle.blocks.proofs.words.depth.depth_numbers.Statement.{statement}
 use Rattle.blocks.proofs.words.depth.depth_numbers.Tie as tie
 
@@ -18,5 +18,5 @@ depth-numbers-spec =
     tie.close
     (tie.spec
     (λ c κs. search needs) (λ c κs. search needs) (λ c κs. search needs)  -- above, intermediate-bits, prep-bias
-    (λ c κs. rw (above-is (c .before .before)) (deep-high (c .before .before .before .args .depth) (c .before .before .before .pre)))  -- bitdepth-max-requires
+    (λ c κs. rw (above-is (c .before .before)) (depth-high (c .before .before .before .args .depth) (c .before .before .before .pre)))  -- bitdepth-max-requires
     returns)

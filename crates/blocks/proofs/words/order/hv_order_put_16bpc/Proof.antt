@@ -7,7 +7,7 @@ use Rattle.rows.specs.Numbers.{up}
 use Rattle.rows.proofs.Laws.Numbers.Signed.{back}
 use Rattle.blocks.specs.words.Depth.{depthOk}
 use Rattle.blocks.specs.Order.{kindOf, Tables}
-use Rattle.blocks.proofs.Laws.words.Deep.{deep-bits, deep-bias, deep-max}
+use Rattle.blocks.proofs.Laws.words.Depth.{depth-bits, depth-bias, depth-max}
 use Rattle.blocks.proofs.Laws.Calls.Told.{passed}
 use Rattle.blocks.proofs.Laws.Order.Run.{ordered-number, ordered, ordered-deep, order-part, order-rows, put-done, put-refused, order-passed}
 use Rattle.blocks.proofs.Laws.Order.Run.{setting-passed, put-passed}
@@ -49,7 +49,7 @@ put-kind-requires : tie.Need-put-kind-requires
 put-kind-requires c κs =
     let s = c .before in let d = s .before .before in let t = d .before in let p = deep t in let w = window t in
     let r = order-rows (ordered (depth w) (tables w) refl (w .order-window .ensures) (t .if1 .taken)) (s .pick .ensures) in
-    rw (d .depth-numbers .ensures) (r .0, r .1, deep-bits _ p, deep-bias _ p, deep-max _ p)
+    rw (d .depth-numbers .ensures) (r .0, r .1, depth-bits _ p, depth-bias _ p, depth-max _ p)
 
 returns : tie.Need-returns
 returns c =

@@ -10,7 +10,7 @@ use Rattle.blocks.specs.Refuse.{lowest}
 use Rattle.blocks.specs.words.Depth.{depthOk}
 use Rattle.blocks.specs.Scaled.{scaledTests}
 use Rattle.blocks.specs.inner.Scaled.{scaledPlan}
-use Rattle.blocks.proofs.Laws.words.Deep.{deep-bits, deep-max}
+use Rattle.blocks.proofs.Laws.words.Depth.{depth-bits, depth-max}
 use Rattle.blocks.proofs.Laws.Calls.Refuse.{done, refused}
 use Rattle.blocks.proofs.Laws.Scaled.Ready.{ScaledMet, scaled-ready, even-bits, pairs-met}
 use Rattle.blocks.proofs.Laws.Scaled.Rule.{put-paired}
@@ -46,7 +46,7 @@ unfolding scaledPlan
 put-bilin-scaled-rows-requires c κs =
     let p = c .before in let d = p .before in let t = d .before in let m = met t in let f = begin (t .before) .fits in
     rw (p .scaled-plan .ensures, d .depth-numbers .ensures, back (f .depth), back (f .mx), back (f .my), back (f .dx), back (f .dy))
-    (m .block, m .rows, pairs-met m (pos 0) _ (even-bits (up (begin (t .before) .args .depth))), deep-bits _ (m .deep), deep-max _ (m .deep))
+    (m .block, m .rows, pairs-met m (pos 0) _ (even-bits (up (begin (t .before) .args .depth))), depth-bits _ (m .deep), depth-max _ (m .deep))
 
 pub hv-put-bilin-scaled-16bpc-spec : {M : Type 1} → statement M
 hv-put-bilin-scaled-16bpc-spec =

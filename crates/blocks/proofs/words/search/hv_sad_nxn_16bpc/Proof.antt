@@ -2,7 +2,7 @@ use borrow.Author.Needs.{needs}
 use mathlib.Core.Path.{sym, _∙_}
 use Rattle.rows.proofs.Laws.Numbers.Signed.{back}
 use Rattle.blocks.proofs.Laws.Calls.Refuse.{refused}
-use Rattle.blocks.proofs.Laws.words.Deep.{deep-limits}
+use Rattle.blocks.proofs.Laws.words.Depth.{depth-range}
 use Rattle.blocks.proofs.Laws.Search.Ready.{sads-ready, sad-blocks, sad-done}
 use Rattle.blocks.proofs.words.search.hv_sad_nxn_16bpc.Statement.{statement}
 use Rattle.blocks.proofs.words.search.hv_sad_nxn_16bpc.Tie as tie
@@ -14,7 +14,7 @@ sad-sum-requires : tie.Need-sad-sum-requires
 sad-sum-requires c κs =
     let t = c .before in let k = t .before in let d = back (entry t .fits .depth) in
     let r = sads-ready 0 _ _ _ _ _ _ _ (sym (k .check-sads .ensures) ∙ t .if1 .taken) in
-    (sad-blocks (r .0) (r .1) (r .2), rw (c .up32 .ensures) (deep-limits _ (sym (k .before .depth-ok .ensures) ∙ r .3)))
+    (sad-blocks (r .0) (r .1) (r .2), rw (c .up32 .ensures) (depth-range _ (sym (k .before .depth-ok .ensures) ∙ r .3)))
 
 returns : tie.Need-returns
 returns c =

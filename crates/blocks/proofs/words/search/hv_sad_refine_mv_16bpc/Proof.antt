@@ -3,7 +3,7 @@ use mathlib.Core.Path.{sym, _∙_}
 use mir.Syntax.{w32}
 use Rattle.rows.proofs.Laws.Numbers.Signed.{back, fit}
 use Rattle.blocks.proofs.Laws.Calls.Refuse.{refused}
-use Rattle.blocks.proofs.Laws.words.Deep.{deep-limits}
+use Rattle.blocks.proofs.Laws.words.Depth.{depth-range}
 use Rattle.blocks.proofs.Laws.Search.Ready.{sads-ready, refine-ready, refine-done}
 use Rattle.blocks.proofs.words.search.hv_sad_refine_mv_16bpc.Statement.{statement}
 use Rattle.blocks.proofs.words.search.hv_sad_refine_mv_16bpc.Tie as tie
@@ -14,7 +14,7 @@ entry c = c .before .before .before .before .before
 refine-requires : tie.Need-refine-requires
 refine-requires c κs =
     let t = c .before in let k = t .before in let z = sym (k .check-sads .ensures) ∙ t .if1 .taken in
-    (refine-ready _ _ _ _ _ _ _ z, rw (c .up32 .ensures) (deep-limits _ (sym (k .before .depth-ok .ensures) ∙ sads-ready 8 _ _ _ _ _ _ _ z .3)))
+    (refine-ready _ _ _ _ _ _ _ z, rw (c .up32 .ensures) (depth-range _ (sym (k .before .depth-ok .ensures) ∙ sads-ready 8 _ _ _ _ _ _ _ z .3)))
 
 returns : tie.Need-returns
 returns c =

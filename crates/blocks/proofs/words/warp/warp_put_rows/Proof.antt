@@ -28,7 +28,7 @@ warp-put-row-requires : tie.Need-warp-put-row-requires Inv-loop μ-loop
 warp-put-row-requires c κs =
     let t = c .before in let l = t .before .loop in
     let s = entry t in let lt = t .loop-test .taken in
-    (omega (arith, filled-span 0 (l .inv) (s .pre .0) lt, s .pre .2 .near), s .pre .2 .there (l .y) lt)
+    (omega (arith, filled-span 0 (l .inv) (s .pre .0) lt, s .pre .2 .bounded), s .pre .2 .there (l .y) lt)
 
 loop-again : tie.Need-loop-again Inv-loop μ-loop
 loop-again c =

@@ -14,7 +14,7 @@ use Rattle.rows.proofs.bytes.pairs.scaled_bilin_eight.Tie as tie
 -- what each of the eight columns reads is there
 fetched : (s : tie.Start) (n : ℕ) → n < s .args .i + 8 → let a = s .args in
     (n < 64) × (getD (a .pixels .now) n 0 + 1 < length (a .src .now)) × (getD (a .fractions .now) n 0 ≤ 15)
-fetched s n h = let f = s .pre .2 in (omega arith, omega (arith, f .within n (omega arith)), f .small n (omega arith))
+fetched s n h = let f = s .pre .2 in (omega arith, omega (arith, f .held n (omega arith)), f .small n (omega arith))
 
 returns : tie.Need-returns
 returns c =

@@ -20,7 +20,7 @@ abbrev μ-loop : tie.MeasureT-loop
 scaled-bilin-px-requires : tie.Need-scaled-bilin-px-requires Inv-loop μ-loop
 scaled-bilin-px-requires c κs =
     let f = c .before .before .before .pre .1 in let i = c .before .loop .i in
-    (omega arith, omega (arith, f .within i (omega arith)), f .small i (omega arith))
+    (omega arith, omega (arith, f .held i (omega arith)), f .small i (omega arith))
 
 loop-again : tie.Need-loop-again Inv-loop μ-loop
 loop-again c =

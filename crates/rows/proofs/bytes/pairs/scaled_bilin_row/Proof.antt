@@ -15,7 +15,7 @@ held : (c : tie.Start) → let a = c .args in
 held c =
     let f = c .pre .2 in let l = c .args .src .now in
     let e = span-length 0 l (c .args .o) (length l) (omega arith) in
-    record { within = λ i h. omega (arith, f .within i h, e); small = f .small }
+    record { held = λ i h. omega (arith, f .held i h, e); small = f .small }
 
 returns : tie.Need-returns
 returns c =

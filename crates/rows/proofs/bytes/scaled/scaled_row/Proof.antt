@@ -24,13 +24,13 @@ abbrev μ-loop : tie.MeasureT-loop
 μ-loop rows₀ q w src o table family by bits i₀ rows i = w - i
 
 -- column i isn't far
-near : (c : tie.In-loop Inv-loop μ-loop) → let a = c .before .before .before .args in position (a .by .start) (a .by .step) (c .before .loop .i) < 2 ^ 20
-near c = position-lt (c .before .before .before .pre .0 .5) (omega arith)
+bounded : (c : tie.In-loop Inv-loop μ-loop) → let a = c .before .before .before .args in position (a .by .start) (a .by .step) (c .before .loop .i) < 2 ^ 20
+bounded c = position-lt (c .before .before .before .pre .0 .5) (omega arith)
 
 scaled-px-requires : tie.Need-scaled-px-requires Inv-loop μ-loop
 scaled-px-requires c κs =
     let t = c .before .before in
-    (t .before .before .before .pre .1 (t .before .loop .i) (omega arith), omega arith, omega arith, near t, omega arith)
+    (t .before .before .before .pre .1 (t .before .loop .i) (omega arith), omega arith, omega arith, bounded t, omega arith)
 
 loop-again : tie.Need-loop-again Inv-loop μ-loop
 loop-again c =
@@ -41,8 +41,8 @@ pub scaled-row-spec : {M : Type 1} → statement M
 scaled-row-spec =
     tie.close
     (tie.spec Inv-loop μ-loop (λ c. part-none _ _ _ _ _)  -- while i < w
-    (λ c. omega (arith, near (c .before)))  -- i * by.step
-    (λ c. omega (arith, near (c .before .before)))  -- by.start +
+    (λ c. omega (arith, bounded (c .before)))  -- i * by.step
+    (λ c. omega (arith, bounded (c .before .before)))  -- by.start +
     scaled-px-requires
     (λ c. omega arith) (λ c. omega arith) (λ c. omega arith)  -- rows[q + i] =
     (λ c. omega arith) (λ c. omega arith) loop-again  -- i += 1

@@ -4,7 +4,7 @@ use Prim.Native.Nat.{_+_, _*_, _-_, _≤_}
 use mir.Syntax.{w8}
 use Rattle.rows.specs.Numbers.{px}
 use Rattle.rows.proofs.Laws.Numbers.Signed.{fit}
-use Rattle.rows.proofs.Laws.Numbers.Sum.{within}
+use Rattle.rows.proofs.Laws.Numbers.Sum.{steps-le}
 use Rattle.rows.proofs.Laws.Filters.Near.{NearSum, near-none, near-room, near-more, near-all}
 use Rattle.rows.proofs.bytes.sums.near_sum.Statement.{statement}
 use Rattle.rows.proofs.bytes.sums.near_sum.Tie as tie
@@ -18,7 +18,7 @@ abbrev μ-loop : tie.MeasureT-loop
 
 -- place j is within src
 place : (c : tie.In-loop Inv-loop μ-loop) → c .before .loop .j * c .before .before .before .args .step ≤ 7 * c .before .before .before .args .step
-place c = within (c .before .loop .j) (c .before .before .before .args .step) (c .loop-test .taken)
+place c = steps-le (c .before .loop .j) (c .before .before .before .args .step) (c .loop-test .taken)
 
 loop-again : tie.Need-loop-again Inv-loop μ-loop
 loop-again c =

@@ -18,7 +18,7 @@ abbrev μ-loop : tie.MeasureT-loop
 scaled-bilin-px-requires : tie.Need-scaled-bilin-px-requires Inv-loop μ-loop
 scaled-bilin-px-requires c κs =
     let t = c .before .before in let f = t .before .before .before .pre .1 in let i = t .before .loop .i in
-    (omega (arith, f .within i (omega arith)), f .small i (omega arith), omega arith, omega arith)
+    (omega (arith, f .held i (omega arith)), f .small i (omega arith), omega arith, omega arith)
 
 loop-again : tie.Need-loop-again Inv-loop μ-loop
 loop-again c =
@@ -28,7 +28,7 @@ pub scaled-bilin-by-spec : {M : Type 1} → statement M
 scaled-bilin-by-spec =
     tie.close
     (tie.spec Inv-loop μ-loop (λ c. upto-none _ _ _)  -- while i < w
-    (λ c. omega arith) (λ c. omega (arith, c .before .before .before .before .pre .1 .within (c .before .before .loop .i) (omega arith)))  -- pixels[i] as usize
+    (λ c. omega arith) (λ c. omega (arith, c .before .before .before .before .pre .1 .held (c .before .before .loop .i) (omega arith)))  -- pixels[i] as usize
     (λ c. omega arith)  -- fractions[i]
     scaled-bilin-px-requires
     (λ c. omega arith) (λ c. omega arith)  -- mid[i] =

@@ -4,7 +4,7 @@ use lib.IntN.{pos, _-ℤ_, _*ℤ_}
 use mir.Syntax.{w8}
 use Rattle.rows.specs.Numbers.{at, px}
 use Rattle.rows.proofs.Laws.Numbers.Signed.{back, fit}
-use Rattle.rows.proofs.Laws.Numbers.Sum.{Summed, summed-none, summed-mag, summed-more, within}
+use Rattle.rows.proofs.Laws.Numbers.Sum.{Summed, summed-none, summed-mag, summed-more, steps-le}
 use Rattle.rows.proofs.Laws.Filters.Centred.{product-fits, whole-fits, centred-whole}
 use Rattle.rows.proofs.words.taps.taps.Statement.{statement}
 use Rattle.rows.proofs.words.taps.taps.Tie as tie
@@ -18,7 +18,7 @@ abbrev μ-loop : tie.MeasureT-loop
 
 -- place j is within src
 place : (c : tie.In-loop Inv-loop μ-loop) → c .before .loop .j * c .before .before .before .args .step ≤ 7 * c .before .before .before .args .step
-place c = within (c .before .loop .j) (c .before .before .before .args .step) (c .loop-test .taken)
+place c = steps-le (c .before .loop .j) (c .before .before .before .args .step) (c .loop-test .taken)
 
 loop-again : tie.Need-loop-again Inv-loop μ-loop
 loop-again c =
