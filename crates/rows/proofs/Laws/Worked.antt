@@ -1,7 +1,7 @@
 -- C1 to C10: the definitions give the numbers that document 01 states, by computation. Assumes nothing.
-use mathlib.Core.Path.{_≡_, refl}
+use Rattle.rows.proofs.Usual.{_≡_, refl, low16, sumZ}
 use mathlib.Core.List.{map}
-use Rattle.rows.specs.Numbers.{low16, low32, sumZ}
+use Rattle.rows.specs.Numbers.{low32}
 use Rattle.rows.specs.Places.{fill, fillIn, paint, inBlock}
 use Rattle.rows.specs.Combine.{avg, weighted}
 use Rattle.rows.specs.Subpel.{S, tapped, mid, put8, prep8}

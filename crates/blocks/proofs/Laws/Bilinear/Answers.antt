@@ -1,14 +1,8 @@
 -- Bilinear: an answer is the only one, and calls are accepted. Assumes nothing.
-use mathlib.Core.Path.{_≡_, refl}
-use mathlib.Core.Bool.{Bool, true}
-use mathlib.Core.List.{List}
-use Prim.Native.Nat.{ℕ}
-use lib.IntN.{ℤ, pos}
-use Rattle.blocks.specs.Refuse.{need, lowest, sizeOk, strideOk, holds, reads}
+use Rattle.blocks.proofs.Usual.{true, Bool, List, _≡_, refl, ℕ, pos, ℤ, lowest, holds, strideOk, sizeOk, need, reads, unique}
 use Rattle.blocks.specs.words.Depth.{depthOk}
 use Rattle.blocks.specs.Subpel.{sixteenthOk}
 use Rattle.blocks.specs.Bilinear.{bilinTests, PutBilinAnswer, PrepBilinAnswer}
-use Rattle.blocks.proofs.Laws.Calls.Answer.{unique}
 
 module _ (deep : Bool) (depth : ℕ) (src : List ℕ) (s ds w h : ℕ) (mx my : ℤ) {r r′ : ℕ} where
   pub put-bilin-unique : (dst : List ℕ) {d d′ : List ℕ}

@@ -1,25 +1,10 @@
 -- Bilinear blocks: what the number tells, and what each case's rows rely on. Assumes nothing.
-use mathlib.Core.Path.{_≡_, sym, _∙_}
-use mathlib.Core.Bool.{Bool, true}
-use mathlib.Core.List.{List}
-use Prim.Native.Nat.{ℕ, zero, suc, _+_, _-_, _*_, _^_, _≤_, _<_, min}
-use native.Mathlib.Omega.{arith}
-use borrow.Author.Tests.{le-leb, lt-leb, le-ltb, lt-ltb}
-use lib.IntN.{ℤ, pos}
-use lib.ListN.{length}
-use lib.Signed.{leZ}
-use Rattle.rows.specs.Numbers.{up, half}
-use Rattle.rows.specs.Places.{span}
-use Rattle.rows.proofs.Laws.Blocks.Places.{by-lt, row-fits}
-use Rattle.rows.proofs.Laws.Blocks.Fill.{and-true}
-use Rattle.rows.proofs.Laws.Numbers.Signed.{le-yes, one-part}
-use Rattle.blocks.specs.Refuse.{lowest, holds, reads}
+use Rattle.blocks.proofs.Usual.{true, Bool, List, _≡_, _∙_, sym, ℕ, _≤_, _*_, _+_, _-_, _<_, _^_, suc, zero, min, arith, le-leb, le-ltb, lt-leb, lt-ltb}
+use Rattle.blocks.proofs.Usual.{pos, ℤ, length, leZ, up, half, span, lowest, holds, reads, Rows, Block, and-true, by-lt, row-fits, one-part, le-yes}
+use Rattle.blocks.proofs.Usual.{rows-met, block-met, all-met, holds-met, stride-met, Filled, row-in, filled-span}
 use Rattle.blocks.specs.Subpel.{on, sixteenthOk}
 use Rattle.blocks.specs.Bilinear.{bilinTests}
-use Rattle.blocks.specs.inner.Ready.{Block, Rows, Pairs, Bilin}
-use Rattle.blocks.proofs.Laws.Calls.Refuse.{all-met, stride-met, holds-met}
-use Rattle.blocks.proofs.Laws.Calls.Ready.{block-met, rows-met}
-use Rattle.blocks.proofs.Laws.Loops.Rows.{Filled, filled-span, row-in}
+use Rattle.blocks.specs.inner.Ready.{Pairs, Bilin}
 
 -- ---- the number
 

@@ -1,17 +1,9 @@
 -- Bilinear blocks: what the rows compute, pass by pass, is the pixel rule on the pixels around a place. Assumes nothing.
-use mathlib.Core.Path.{_≡_, refl, sym, ap, ap₂, _∙_}
-use mathlib.Core.List.{List}
-use Prim.Native.Nat.{ℕ, zero, suc, _+_, _-_, _*_, _^_, _≤_, _<_}
-use native.Mathlib.Omega.{arith}
-use lib.IntN.{ℤ, pos, _+ℤ_}
-use lib.ListN.{length, getD}
-use lib.Signed.{shrZ}
-use Rattle.rows.specs.Numbers.{at, px, clip, low16, minus16}
-use Rattle.rows.specs.Places.{pixel, fill, around}
+use Rattle.blocks.proofs.Usual.{List, _≡_, _∙_, refl, sym, ap, ap₂, ℕ, _≤_, _*_, _+_, _-_, _<_, _^_, suc, zero, arith, pos, ℤ, _+ℤ_, length, getD, shrZ}
+use Rattle.blocks.proofs.Usual.{at, clip, minus16, px, low16, pixel, fill, around, fill-same, fill-in}
 use Rattle.rows.specs.Copy.{put, prep}
 use Rattle.rows.specs.Bilinear.{bilin, R, along, down, bilinMid, putBilin, prepBilin}
 use Rattle.rows.specs.inner.Bilinear.{bilinAt}
-use Rattle.rows.proofs.Laws.Blocks.Fill.{fill-in, fill-same}
 use Rattle.rows.proofs.Laws.Numbers.Low.{low16-again}
 use Rattle.rows.proofs.Laws.Filters.Bilinear.{shr-none}
 use Rattle.blocks.specs.inner.Ready.{Bilin}

@@ -1,16 +1,10 @@
 -- The search for a mask's value above 64: where it ends, as a number of places and as a row and a column. Assumes nothing.
-use mathlib.Core.Path.{_≡_, refl, sym, _∙_, subst}
-use mathlib.Core.Bool.{Bool, true, false}
-use mathlib.Core.List.{List}
-use Prim.Native.Nat.{ℕ, zero, suc, _+_, _*_, _≤_, _<_}
-use native.Mathlib.Nat.{add-zero, zero-add, not-suc-le-zero, le-of-suc-le-suc, mul-comm}
-use native.Mathlib.Omega.{arith}
-use borrow.Author.Tests.{le-leb, lt-leb, leb-true}
-use lib.Dec.{leb}
-use lib.ListN.{getD}
+use Rattle.blocks.proofs.Usual.{true, Bool, false, List, _≡_, _∙_, refl, sym, subst, ℕ, _≤_, _*_, _+_, _<_, suc, zero, mul-comm, arith, leb-true, le-leb}
+use Rattle.blocks.proofs.Usual.{lt-leb, leb, getD, by-lt}
+use native.Mathlib.Nat.{add-zero, zero-add, not-suc-le-zero, le-of-suc-le-suc}
 use Rattle.rows.specs.Places.{pick}
 use Rattle.rows.specs.inner.Combine.{AtMost}
-use Rattle.rows.proofs.Laws.Blocks.Places.{by-lt, row-le, col-of, row-of}
+use Rattle.rows.proofs.Laws.Blocks.Places.{row-le, col-of, row-of}
 use Rattle.blocks.specs.Blend.{firstAbove, spotAt}
 use Rattle.blocks.specs.declared.blend.Spot.{Spot}
 

@@ -1,16 +1,9 @@
 -- blend's and morph's answers: one for each call, and an accepted call of each. Assumes nothing.
-use mathlib.Core.Path.{_≡_, refl, ap}
-use mathlib.Core.Bool.{Bool}
-use mathlib.Core.List.{List, [], _∷_}
-use Prim.Native.Nat.{ℕ}
-use lib.IntN.{ℤ, pos, negsuc}
-use Rattle.rows.specs.Depth.{maxOf}
-use Rattle.rows.specs.Places.{pixel, fill}
+use Rattle.blocks.proofs.Usual.{Bool, List, [], _∷_, _≡_, refl, ap, ℕ, pos, ℤ, negsuc, maxOf, pixel, fill, lowest, holds, strideOk, sizeOk, need, orSame}
+use Rattle.blocks.proofs.Usual.{unique-of}
 use Rattle.rows.specs.Combine.{blend, morph}
-use Rattle.blocks.specs.Refuse.{need, lowest, orSame, sizeOk, strideOk, holds}
 use Rattle.blocks.specs.words.Depth.{depthOk}
 use Rattle.blocks.specs.Blend.{firstAbove, noneAbove, blendTests, spotOf, BlendAnswer, morphTests, MorphAnswer}
-use Rattle.blocks.proofs.Laws.Calls.Answer.{unique-of}
 use Rattle.blocks.specs.declared.blend.Spot.{Spot}
 
 pub blend-unique : (dst : List ℕ) (ds : ℕ) (tmp : List ℕ) (w h : ℕ) (mask : List ℕ) (r r′ : ℕ) (d d′ : List ℕ) (row col row′ col′ : ℕ)

@@ -1,22 +1,13 @@
 -- blend and morph: what their rows rely on, and which answer each way out of blend is. Assumes nothing.
-use mathlib.Core.Path.{_≡_, refl, sym, ap, _∙_}
-use mathlib.Core.Bool.{Bool, true, false}
-use mathlib.Core.List.{List, [], _∷_, _++_}
-use Prim.Native.Nat.{ℕ, _*_, _/_, _^_, _≤_, _<_}
-use native.Mathlib.Nat.{mul-comm, le-div-iff-mul-le, div-lt-iff-lt-mul}
-use native.Mathlib.Omega.{arith}
-use borrow.Author.Tests.{le-leb, lt-leb, leb-true, ne-eqb}
-use lib.IntN.{ℤ, natAbs}
-use lib.ListN.{length}
-use Rattle.rows.specs.Places.{pixel, fill}
+use Rattle.blocks.proofs.Usual.{true, Bool, false, List, [], _∷_, _++_, _≡_, _∙_, refl, sym, ap, ℕ, _≤_, _*_, _<_, _^_, _/_, mul-comm, arith, leb-true}
+use Rattle.blocks.proofs.Usual.{le-leb, lt-leb, ne-eqb, ℤ, natAbs, length, pixel, fill, lowest, Test, _asks_, blockSide, holds, strideOk, sizeOk, need}
+use Rattle.blocks.proofs.Usual.{orSame, Rows, Block, rows-met, block-met, refused, all-met, later, sooner}
+use native.Mathlib.Nat.{le-div-iff-mul-le, div-lt-iff-lt-mul}
 use Rattle.rows.specs.Combine.{blend}
 use Rattle.rows.specs.inner.Combine.{AtMost}
-use Rattle.blocks.specs.Refuse.{Test, need, lowest, orSame, sizeOk, blockSide, strideOk, holds, above64, _asks_}
-use Rattle.blocks.specs.inner.Ready.{Block, Rows}
+use Rattle.blocks.specs.Refuse.{above64}
 use Rattle.blocks.specs.Blend.{firstAbove, noneAbove, blendShape, spotAt, spotOf, BlendAnswer, morphTests}
 use Rattle.blocks.specs.declared.blend.Spot.{Spot}
-use Rattle.blocks.proofs.Laws.Calls.Refuse.{all-met, later, sooner, refused}
-use Rattle.blocks.proofs.Laws.Calls.Ready.{block-met, rows-met}
 use Rattle.blocks.proofs.Laws.Loops.Gapless.{gapless-met}
 use Rattle.blocks.proofs.Laws.Blend.Above.{first-all}
 

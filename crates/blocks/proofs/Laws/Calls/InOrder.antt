@@ -1,9 +1,5 @@
 -- The tests of each entry stand in the order of their numbers, so the first that isn't met gives the lowest number that applies. Assumes nothing.
-use mathlib.Core.Path.{_≡_, refl}
-use mathlib.Core.Bool.{Bool, true}
-use mathlib.Core.List.{List}
-use Prim.Native.Nat.{ℕ}
-use lib.IntN.{ℤ}
+use Rattle.blocks.proofs.Usual.{true, Bool, List, _≡_, refl, ℕ, ℤ, Setting, LentPlane, windowTests, Asked}
 use Rattle.blocks.specs.Refuse.{inOrder}
 use Rattle.blocks.specs.Copy.{putTests, prepTests}
 use Rattle.blocks.specs.Combine.{combineTests}
@@ -16,8 +12,8 @@ use Rattle.blocks.specs.WMask.{wMaskTests}
 use Rattle.blocks.specs.Search.{sadsTests}
 use Rattle.blocks.specs.Warp.{warpTests}
 use Rattle.blocks.specs.Shear.{divisorTests, shearTests, affineMvTests}
-use Rattle.blocks.specs.Window.{LentPlane, Asked, windowTests, rowTests}
-use Rattle.blocks.specs.Order.{Setting, orderTests}
+use Rattle.blocks.specs.Window.{rowTests}
+use Rattle.blocks.specs.Order.{orderTests}
 use Rattle.blocks.specs.declared.order.Order.{Order}
 
 put-order : (dl dstStride sl srcStride w h : ℕ) → inOrder 1 (putTests dl dstStride sl srcStride w h) ≡ true

@@ -1,9 +1,5 @@
 -- "Limits: w 64 accepted, 65 is number 1; matrix[2] of 1 accepted, 0 is number 8." Assumes nothing.
-use mathlib.Core.Path.{_≡_, refl}
-use mathlib.Core.Bool.{true, false}
-use mathlib.Core.List.{List, [], _∷_}
-use lib.IntN.{ℤ, pos, negsuc}
-use Rattle.blocks.specs.Refuse.{need, lowest, blockSide, sizeOk, strideOk, holds}
+use Rattle.blocks.proofs.Usual.{true, false, List, [], _∷_, _≡_, refl, pos, ℤ, negsuc, lowest, blockSide, holds, strideOk, sizeOk, need}
 use Rattle.blocks.specs.Copy.{putTests}
 use Rattle.blocks.specs.Shear.{recipOk, entriesOk, shearTests}
 

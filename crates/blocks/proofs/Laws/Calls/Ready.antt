@@ -1,8 +1,6 @@
 -- Tests that are met give what the rows rely on. Assumes nothing.
-use mathlib.Core.Path.{_≡_}
-use mathlib.Core.Bool.{Bool, true}
+use Rattle.rows.proofs.Usual.{true, Bool, _≡_, ℕ}
 use mathlib.Core.List.{[], _∷_}
-use Prim.Native.Nat.{ℕ}
 use Rattle.blocks.specs.Refuse.{size, _asks_, need, blockSide, sizeOk, strideOk, holds}
 use Rattle.blocks.specs.inner.Ready.{Block, Rows}
 use Rattle.blocks.proofs.Laws.Calls.Refuse.{all-met, later, sooner, size-met, stride-met, holds-met}

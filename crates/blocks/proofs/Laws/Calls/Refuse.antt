@@ -1,11 +1,8 @@
 -- What a number tells: 0, that every test is met. What a buffer holds then, and otherwise. Assumes nothing.
-use mathlib.Core.Path.{_≡_, refl}
-use mathlib.Core.Bool.{Bool, true, false}
-use mathlib.Core.List.{List, [], _∷_}
-use Prim.Native.Nat.{ℕ, zero, suc, _+_, _-_, _*_, _≤_, _<_}
-use native.Mathlib.Omega.{arith}
-use borrow.Author.Tests.{leb-true, ltb-true, le-leb, lt-ltb, le-ltb}
-use lib.Dec.{leb, ltb}
+use Rattle.rows.proofs.Usual.{true, Bool, false, List, _≡_, refl, _-_, _+_, _*_, _≤_, _<_, ℕ, suc, zero, arith, ltb-true, ltb}
+use mathlib.Core.List.{[], _∷_}
+use borrow.Author.Tests.{leb-true, le-leb, lt-ltb, le-ltb}
+use lib.Dec.{leb}
 use Rattle.rows.proofs.Laws.Blocks.Fill.{and-true, and-false}
 use Rattle.blocks.specs.Refuse.{Reason, size, stride, number, table, read, written, above64, matrix, numberOf, Test, need, lowest, orSame, sizeOk, strideOk, holds, reads}
 

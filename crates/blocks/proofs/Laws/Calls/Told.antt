@@ -1,11 +1,7 @@
 -- A struct's numbers as a call passes them: they are what they were, since each is in the range of its type. Assumes nothing.
-use mathlib.Core.Path.{_≡_}
-use Prim.Native.Nat.{_^_, _<_}
-use lib.IntN.{ℤ}
-use lib.Signed.{mag}
-use mir.Syntax.{Width, w64}
-use mir.Val.{toZ, ofZ, hbits}
-use Rattle.rows.proofs.Laws.Numbers.Signed.{back, fit}
+use Rattle.rows.proofs.Usual.{_≡_, _<_, _^_, ℤ, mag, w64, toZ, ofZ, back, fit}
+use mir.Syntax.{Width}
+use mir.Val.{hbits}
 use Rattle.blocks.specs.declared.frame.Area.{Area}
 
 -- what is told of a number that stands before others

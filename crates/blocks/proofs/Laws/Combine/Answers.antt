@@ -1,13 +1,7 @@
 -- avg, w_avg and mask: an answer is the only one, and calls are accepted. Assumes nothing.
-use mathlib.Core.Path.{_≡_, refl}
-use mathlib.Core.Bool.{Bool, true}
-use mathlib.Core.List.{List}
-use Prim.Native.Nat.{ℕ}
-use lib.IntN.{ℤ, pos, negsuc}
-use Rattle.blocks.specs.Refuse.{need, lowest, sizeOk, strideOk, holds}
+use Rattle.blocks.proofs.Usual.{true, Bool, List, _≡_, refl, ℕ, pos, ℤ, negsuc, lowest, holds, strideOk, sizeOk, need, unique}
 use Rattle.blocks.specs.words.Depth.{depthOk}
 use Rattle.blocks.specs.Combine.{avgTests, wAvgTests, maskTests, weightOk, AvgAnswer, WAvgAnswer, MaskAnswer}
-use Rattle.blocks.proofs.Laws.Calls.Answer.{unique}
 
 module _ (deep : Bool) (depth : ℕ) (dst : List ℕ) (ds : ℕ) (tmp1 tmp2 : List ℤ) (w h : ℕ) {r r′ : ℕ} {d d′ : List ℕ} where
   pub avg-unique : AvgAnswer deep depth dst ds tmp1 tmp2 w h r d → AvgAnswer deep depth dst ds tmp1 tmp2 w h r′ d′ → (r ≡ r′) × (d ≡ d′)

@@ -1,21 +1,13 @@
 -- The combining laws of demand 3 as equations of what calls answer: their numbers, and their whole destinations. Assumes nothing.
-use mathlib.Core.Path.{_≡_, refl, sym, ap, _∙_, fun-ext}
-use mathlib.Core.Bool.{Bool, true, false, _&&_}
-use mathlib.Core.List.{List}
-use Prim.Native.Nat.{ℕ, _+_, _*_, _<_, _≤_}
-use native.Mathlib.Omega.{arith}
-use lib.IntN.{ℤ, pos, negsuc, _-ℤ_}
-use lib.ListN.{length, replicate, getD-replicate}
-use lib.Signed.{mag, leZ, ltZ}
-use borrow.Author.Tests.{le-leb}
-use Rattle.rows.specs.Numbers.{up, dn, at}
-use Rattle.rows.specs.Depth.{bitsOf, biasOf, maxOf}
-use Rattle.rows.specs.Places.{pixel, fill}
+use Rattle.blocks.proofs.Usual.{true, Bool, false, _&&_, List, _≡_, _∙_, refl, sym, ap, ℕ, _≤_, _*_, _+_, _<_, arith, le-leb, pos, ℤ, negsuc, _-ℤ_}
+use Rattle.blocks.proofs.Usual.{length, leZ, mag, ltZ, bitsOf, maxOf, biasOf, up, at, dn, pixel, fill, lowest, holds, need, and-true, fill-same}
+use Rattle.blocks.proofs.Usual.{one-part, le-yes, eq-of, sub-parts}
+use mathlib.Core.Path.{fun-ext}
+use lib.ListN.{replicate, getD-replicate}
 use Rattle.rows.specs.Combine.{weighted, masked, both}
-use Rattle.rows.proofs.Laws.Numbers.Signed.{eq-of, le-yes, le-no, lt-yes, lt-no, mag-up, mag-dn, one-part, sub-parts}
-use Rattle.rows.proofs.Laws.Blocks.Fill.{and-true, fill-same}
+use Rattle.rows.proofs.Laws.Numbers.Signed.{le-no, lt-yes, lt-no, mag-up, mag-dn}
 use Rattle.rows.proofs.Laws.Pixels.Combine.{swap-avg, swap-weight, mask-weight}
-use Rattle.blocks.specs.Refuse.{need, lowest, holds, holdsAll}
+use Rattle.blocks.specs.Refuse.{holdsAll}
 use Rattle.blocks.specs.Combine.{combineTests, wAvgTests, maskTests, weightOk, AvgAnswer, WAvgAnswer, MaskAnswer}
 use Rattle.blocks.proofs.Laws.Calls.Answer.{same-answer}
 use Rattle.blocks.proofs.Laws.Combine.Ready.{mask-ready}

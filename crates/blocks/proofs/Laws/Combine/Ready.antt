@@ -1,17 +1,7 @@
 -- avg, w_avg and mask: what number 0 gives to their rows. Assumes nothing.
-use mathlib.Core.Path.{_≡_}
-use mathlib.Core.Bool.{Bool, true, _&&_}
-use Prim.Native.Nat.{ℕ, _<_}
-use native.Mathlib.Omega.{arith}
-use borrow.Author.Tests.{leb-true}
-use lib.IntN.{ℤ, pos, negsuc}
-use lib.Signed.{mag, leZ}
-use Rattle.rows.proofs.Laws.Blocks.Fill.{and-true}
-use Rattle.blocks.specs.Refuse.{lowest, holds}
-use Rattle.blocks.specs.inner.Ready.{Block, Rows}
+use Rattle.blocks.proofs.Usual.{true, Bool, _&&_, _≡_, ℕ, _<_, arith, leb-true, pos, ℤ, negsuc, leZ, mag, lowest, holds, Rows, Block, and-true, rows-met}
+use Rattle.blocks.proofs.Usual.{block-met, all-met, holds-met}
 use Rattle.blocks.specs.Combine.{combineTests, avgTests, wAvgTests, maskTests, weightOk}
-use Rattle.blocks.proofs.Laws.Calls.Refuse.{all-met, holds-met}
-use Rattle.blocks.proofs.Laws.Calls.Ready.{block-met, rows-met}
 
 -- a buffer of w x h places without gaps
 whole-met : {w h : ℕ} (l : ℕ) → Block w h → holds l w w h ≡ true → Rows l w w h

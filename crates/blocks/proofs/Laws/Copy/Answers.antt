@@ -1,13 +1,7 @@
 -- put and prep: an answer is the only one, and calls are accepted. Assumes nothing.
-use mathlib.Core.Path.{_≡_, refl}
-use mathlib.Core.Bool.{Bool, true}
-use mathlib.Core.List.{List}
-use Prim.Native.Nat.{ℕ}
-use lib.IntN.{ℤ, pos}
-use Rattle.blocks.specs.Refuse.{need, lowest, sizeOk, strideOk, holds}
+use Rattle.blocks.proofs.Usual.{true, Bool, List, _≡_, refl, ℕ, pos, ℤ, lowest, holds, strideOk, sizeOk, need, unique}
 use Rattle.blocks.specs.words.Depth.{depthOk}
 use Rattle.blocks.specs.Copy.{putTests, prepTests, PutAnswer, PrepAnswer}
-use Rattle.blocks.proofs.Laws.Calls.Answer.{unique}
 
 pub put-unique : (dst : List ℕ) (ds : ℕ) (src : List ℕ) (ss w h : ℕ) {r r′ : ℕ} {d d′ : List ℕ}
     → PutAnswer dst ds src ss w h r d → PutAnswer dst ds src ss w h r′ d′ → (r ≡ r′) × (d ≡ d′)

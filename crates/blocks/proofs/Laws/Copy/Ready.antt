@@ -1,12 +1,6 @@
 -- put and prep: what number 0 gives to their rows. Assumes nothing.
-use mathlib.Core.Path.{_≡_}
-use mathlib.Core.Bool.{Bool, true}
-use Prim.Native.Nat.{ℕ}
-use Rattle.blocks.specs.Refuse.{lowest}
-use Rattle.blocks.specs.inner.Ready.{Block, Rows}
+use Rattle.blocks.proofs.Usual.{true, Bool, _≡_, ℕ, lowest, Rows, Block, rows-met, block-met, all-met}
 use Rattle.blocks.specs.Copy.{putTests, prepTests}
-use Rattle.blocks.proofs.Laws.Calls.Refuse.{all-met}
-use Rattle.blocks.proofs.Laws.Calls.Ready.{block-met, rows-met}
 
 pub put-ready : (dl ds sl ss w h : ℕ) → lowest (putTests dl ds sl ss w h) ≡ 0 → Block w h × Rows dl ds w h × Rows sl ss w h
 put-ready dl ds sl ss w h e =

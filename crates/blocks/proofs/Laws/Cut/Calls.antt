@@ -1,32 +1,24 @@
 -- Demand 3's calls: a rectangle's picture is the block's, moved along; what a call that isn't refused tells, and what it leaves. The depth is a number
 -- of the setting, so the laws hold of bytes and of 16-bit pixels. Assumes nothing.
-use mathlib.Core.Path.{_≡_, refl, sym, ap, ap₂, _∙_, fun-ext}
-use mathlib.Core.Bool.{true, true≢false}
-use mathlib.Core.List.{List, [], _∷_, _++_}
-use Prim.Native.Nat.{ℕ, _+_, _-_, _*_, _≤_, _<_}
+use Rattle.blocks.proofs.Usual.{true, List, [], _∷_, _++_, _≡_, _∙_, refl, sym, ap, ap₂, ℕ, _≤_, _*_, _+_, _-_, _<_, arith, pos, ℤ, length, drop, bitsOf}
+use Rattle.blocks.proofs.Usual.{maxOf, biasOf, up, at, fill, Setting, Tables, putRule, orderDst, before, Rows, Block, fill-in, length-fill, by-lt}
+use Rattle.blocks.proofs.Usual.{row-fits, done}
+use mathlib.Core.Path.{fun-ext}
+use mathlib.Core.Bool.{true≢false}
 use native.Mathlib.Nat.{le-refl}
-use native.Mathlib.Omega.{arith}
-use lib.IntN.{ℤ, pos}
-use lib.ListN.{length, take, drop, length-drop}
-use Rattle.rows.specs.Numbers.{up, at}
-use Rattle.rows.specs.Depth.{bitsOf, biasOf, maxOf}
-use Rattle.rows.specs.Places.{fill, lentFrom}
+use lib.ListN.{take, length-drop}
+use Rattle.rows.specs.Places.{lentFrom}
 use Rattle.rows.specs.Subpel.{filterBits, put8, prep8}
 use Rattle.rows.specs.Cut.{Rect, Each, Cut, SameSide, begins, putEach}
-use Rattle.rows.proofs.Laws.Blocks.Places.{by-lt, row-fits}
-use Rattle.rows.proofs.Laws.Blocks.Fill.{length-fill, fill-in}
 use Rattle.rows.proofs.Laws.Cut.Cut.{length-lent, each-map, cut-each, fill-narrow}
 use Rattle.rows.proofs.Laws.Cut.Kernel.{around-moved, same-across, same-down}
-use Rattle.blocks.specs.inner.Ready.{Block, Rows}
 use Rattle.blocks.specs.Subpel.{put8Rule, prep8Rule}
-use Rattle.blocks.specs.Window.{before}
-use Rattle.blocks.specs.Order.{kindNumber, Tables, Setting, putRule, prepRule, aroundIn, putPicture, prepPicture, endlessPut, endlessPrep, orderDst}
+use Rattle.blocks.specs.Order.{kindNumber, prepRule, aroundIn, putPicture, prepPicture, endlessPut, endlessPrep}
 use Rattle.blocks.specs.Order.{orderTmp}
 use Rattle.blocks.specs.Cut.{unwarped, cutOrder, callNumber, callDst, callTmp, putRects, putNumber}
 use Rattle.blocks.specs.declared.order.Order.{Order}
 use Rattle.blocks.specs.declared.order.Kind.{Kind}
 use Rattle.blocks.specs.declared.order.Kind.the-variants.{Copy, Subpel, Bilinear, Warp}
-use Rattle.blocks.proofs.Laws.Calls.Refuse.{done}
 use Rattle.blocks.proofs.Laws.Order.Ready.{order-met, order-block, order-dst}
 
 -- ---- a rectangle on the block's side of four has the block's rule

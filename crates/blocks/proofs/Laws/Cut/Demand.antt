@@ -2,22 +2,12 @@
 -- "Fetch and predict each by itself, in any order": `putRects` makes a call for each rectangle, one after the other as they stand in any list.
 -- "if depth, tables, fraction and filter type stay the same": they are fields of the one `Setting`, and of the block's kind, which is each rectangle's.
 -- Depth and the outcome of its test are any there, so bytes and 16-bit pixels have the same laws. Assumes nothing.
-use mathlib.Core.Path.{_≡_, refl, sym, ap, _∙_}
-use mathlib.Core.Logic.{_⊎_, inr}
-use mathlib.Core.Bool.{true}
-use mathlib.Core.List.{List}
-use Prim.Native.Nat.{ℕ, _+_, _-_, _*_, _/_, _%_, _≤_, _<_}
-use native.Mathlib.Nat.{add-mul}
-use native.Mathlib.Omega.{arith}
-use lib.IntN.{ℤ, pos}
-use lib.ListN.{length, getD}
-use Rattle.rows.specs.Numbers.{at}
-use Rattle.rows.specs.Places.{pixel, fill}
+use Rattle.blocks.proofs.Usual.{true, List, inr, _≡_, _∙_, refl, sym, ap, ℕ, _≤_, _*_, _+_, _-_, _<_, _/_, _%_, add-mul, arith, pos, ℤ, length, getD, at}
+use Rattle.blocks.proofs.Usual.{pixel, fill, Setting, fill-in, length-fill, row-fits}
+use mathlib.Core.Logic.{_⊎_}
 use Rattle.rows.specs.Cut.{Rect, Inside, Each, Cut, SameSide, begins}
-use Rattle.rows.proofs.Laws.Blocks.Places.{row-fits}
-use Rattle.rows.proofs.Laws.Blocks.Fill.{length-fill, fill-in}
 use Rattle.rows.proofs.Laws.Cut.Cut.{each-map, each-both, in-one, beside-fill}
-use Rattle.blocks.specs.Order.{Setting, endlessPut, endlessPrep}
+use Rattle.blocks.specs.Order.{endlessPut, endlessPrep}
 use Rattle.blocks.specs.Cut.{unwarped, cutOrder, callNumber, callDst, callTmp, putRects, putNumber}
 use Rattle.blocks.specs.declared.order.Order.{Order}
 use Rattle.blocks.proofs.Laws.Cut.Calls.{prep-moved, call-met, call-dst, call-tmp, call-tmp-at, begun, puts, drawn-block}

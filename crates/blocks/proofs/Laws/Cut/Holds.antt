@@ -1,26 +1,19 @@
 -- Demand 3's premises can be met, and its law without the side of four would be false: both by a block of one row from a plane of one pixel. Assumes
 -- nothing.
-use mathlib.Core.Path.{_≡_, refl, sym, ap, _∙_}
-use mathlib.Core.Bool.{Bool, true, false, cond, _||_}
-use mathlib.Core.List.{List, [], _∷_}
-use Prim.Native.Nat.{ℕ, _+_, _≤_}
-use native.Mathlib.Omega.{arith}
-use lib.Dec.{ltb}
-use lib.IntN.{pos}
-use lib.ListN.{length, getD}
+use Rattle.blocks.proofs.Usual.{true, Bool, false, List, [], _∷_, _≡_, _∙_, refl, sym, ap, ℕ, _≤_, _+_, arith, ltb, pos, length, getD, fill, rowOf}
+use Rattle.blocks.proofs.Usual.{rowFrom, Setting, putRule, orderDst, kindSizeOk, motionOk, filtersOk, holds, strideOk, sizeOk, need, orSame}
+use Rattle.blocks.proofs.Usual.{wholeFilters, before, frameNamesOk, after, frameSizesOk, planeSide, by-lt}
+use mathlib.Core.Bool.{cond, _||_}
 use Rattle.rows.specs.Numbers.{sumZ}
-use Rattle.rows.specs.Places.{rowFrom, rowOf, paint, fillIn, fill, inBlock}
+use Rattle.rows.specs.Places.{paint, fillIn, inBlock}
 use Rattle.rows.specs.Edge.{endless, aroundAt}
 use Rattle.rows.specs.Subpel.{filter, family, axis, S, tapped, put8}
 use Rattle.rows.specs.Cut.{Rect, has, covered, Each, Cut}
-use Rattle.rows.proofs.Laws.Blocks.Places.{by-lt}
 use Rattle.rows.proofs.Laws.Cut.Cut.{box-in}
-use Rattle.blocks.specs.Refuse.{need, orSame, sizeOk, strideOk, holds, wholeFilters}
 use Rattle.blocks.specs.Edge.{placeOk}
 use Rattle.blocks.specs.WMask.{flagsOk}
 use Rattle.blocks.specs.Subpel.{typeOk, sixteenthOk, fractionOk, subpelOk, filterIn, put8Rule}
-use Rattle.blocks.specs.Window.{planeSide, frameSizesOk, frameNamesOk, before, after}
-use Rattle.blocks.specs.Order.{kindSizeOk, motionOk, filtersOk, Setting, orderDst, putRule, putPicture, endlessPut}
+use Rattle.blocks.specs.Order.{putPicture, endlessPut}
 use Rattle.blocks.specs.Cut.{unwarped, callNumber, putRects, putNumber}
 use Rattle.blocks.specs.declared.order.Order.{Order}
 use Rattle.blocks.specs.declared.order.Kind.the-variants.{Subpel}

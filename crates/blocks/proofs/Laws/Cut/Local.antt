@@ -1,14 +1,10 @@
 -- A kind's pixel reads no more than its window gives: pictures that agree on a single pixel's window give the same pixel. Assumes nothing.
-use mathlib.Core.Path.{_≡_, ap}
-use mathlib.Core.List.{List}
-use Prim.Native.Nat.{ℕ}
-use native.Mathlib.Omega.{arith}
-use lib.IntN.{ℤ}
+use Rattle.blocks.proofs.Usual.{List, _≡_, ap, ℕ, arith, ℤ, putRule, before, after}
 use Rattle.rows.specs.Copy.{prep}
 use Rattle.rows.proofs.Laws.Cut.Local.{Agree, put8-local, prep8-local, putBilin-local, prepBilin-local, warpPut-local, warpPrep-local}
 use Rattle.blocks.specs.Subpel.{put8Rule, prep8Rule}
-use Rattle.blocks.specs.Window.{before, after, windowSide}
-use Rattle.blocks.specs.Order.{kindNumber, putRule, prepRule}
+use Rattle.blocks.specs.Window.{windowSide}
+use Rattle.blocks.specs.Order.{kindNumber, prepRule}
 use Rattle.blocks.specs.declared.order.Kind.{Kind}
 use Rattle.blocks.specs.declared.order.Kind.the-variants.{Copy, Subpel, Bilinear, Warp}
 

@@ -1,16 +1,11 @@
 -- Demand 3 of calls as the contracts of orders tell of them: each has its number, and scratch and dst (or tmp) at the end. Assumes nothing.
-use mathlib.Core.Path.{_≡_, refl, sym, ap, _∙_}
-use mathlib.Core.Bool.{true}
-use mathlib.Core.List.{List, [], _∷_, _++_}
-use Prim.Native.Nat.{ℕ, _+_, _-_, _*_, _≤_, _<_}
-use lib.IntN.{ℤ}
-use lib.ListN.{length, take, drop, length-drop}
-use Rattle.rows.specs.Numbers.{at}
-use Rattle.rows.specs.Places.{fill, lentFrom}
+use Rattle.blocks.proofs.Usual.{true, List, [], _∷_, _++_, _≡_, _∙_, refl, sym, ap, ℕ, _≤_, _*_, _+_, _-_, _<_, ℤ, length, drop, at, fill, Setting}
+use Rattle.blocks.proofs.Usual.{orderDst, orSame}
+use lib.ListN.{take, length-drop}
+use Rattle.rows.specs.Places.{lentFrom}
 use Rattle.rows.specs.Cut.{Rect, Each, begins, putEach}
 use Rattle.rows.proofs.Laws.Cut.Cut.{each-map}
-use Rattle.blocks.specs.Refuse.{orSame}
-use Rattle.blocks.specs.Order.{Setting, endlessPut, endlessPrep, orderDst, orderTmp, OrderPutAnswer, OrderPrepAnswer}
+use Rattle.blocks.specs.Order.{endlessPut, endlessPrep, orderTmp, OrderPutAnswer, OrderPrepAnswer}
 use Rattle.blocks.specs.Cut.{cutOrder, callNumber}
 use Rattle.blocks.specs.declared.order.Order.{Order}
 use Rattle.blocks.proofs.Laws.Cut.Calls.{prep-moved, call-tmp, call-tmp-at, Begun, begun, drawn, length-drawn, drawn-block}

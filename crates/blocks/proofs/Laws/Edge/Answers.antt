@@ -1,14 +1,7 @@
 -- `emu_edge`: its answer is the only one, and a call is accepted. Assumes nothing.
-use mathlib.Core.Path.{_≡_, refl}
-use mathlib.Core.List.{List}
-use Prim.Native.Nat.{ℕ}
-use lib.IntN.{ℤ, pos, negsuc}
-use lib.ListN.{length}
-use Rattle.rows.specs.Places.{fill}
+use Rattle.blocks.proofs.Usual.{List, _≡_, refl, ℕ, pos, ℤ, negsuc, length, fill, lowest, holds, strideOk, sizeOk, need, orSame, unique-of}
 use Rattle.rows.specs.Edge.{edge}
-use Rattle.blocks.specs.Refuse.{need, lowest, orSame, sizeOk, strideOk, holds}
 use Rattle.blocks.specs.Edge.{placeOk, edgeTests, EdgeAnswer}
-use Rattle.blocks.proofs.Laws.Calls.Answer.{unique-of}
 
 -- there is one
 edge-unique : (bw bh iw ih : ℕ) (x y : ℤ) (dst : List ℕ) (ds : ℕ) (plane : List ℕ) (ps : ℕ) (r r′ : ℕ) (d d′ : List ℕ)

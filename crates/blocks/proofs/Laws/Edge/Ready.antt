@@ -1,27 +1,14 @@
 -- `emu_edge`: what its number 0 gives, and its rows. Assumes nothing.
-use mathlib.Core.Path.{_≡_, refl, sym, ap, _∙_}
-use mathlib.Core.Bool.{Bool, true, false, _&&_}
-use mathlib.Core.List.{List}
-use Prim.Native.Nat.{ℕ, suc, _+_, _-_, _*_, _^_, _≤_, _<_}
-use native.Mathlib.Omega.{arith}
-use borrow.Author.Tests.{leb-true}
-use lib.Dec.{leb, leb·suc-suc}
-use lib.IntN.{ℤ, pos, negsuc, natAbs, _+ℤ_, _-ℤ_}
-use lib.Signed.{leZ}
-use lib.ListN.{getD}
-use mir.Syntax.{w64}
-use mir.Val.{SFits, toZ, ofZ}
-use Rattle.rows.specs.Numbers.{clip, isWithin}
-use Rattle.rows.specs.Places.{rowOf}
+use Rattle.blocks.proofs.Usual.{true, Bool, false, _&&_, List, _≡_, _∙_, refl, sym, ap, ℕ, _≤_, _*_, _+_, _-_, _<_, _^_, suc, arith, leb-true, leb, pos}
+use Rattle.blocks.proofs.Usual.{ℤ, negsuc, natAbs, _+ℤ_, _-ℤ_, getD, leZ, w64, SFits, toZ, ofZ, clip, rowOf, lowest, back, backn, fit-abs, eq-of}
+use Rattle.blocks.proofs.Usual.{sub-parts, rows-met, all-met, size-met, row-in}
+use lib.Dec.{leb·suc-suc}
+use Rattle.rows.specs.Numbers.{isWithin}
 use Rattle.rows.specs.Edge.{endless, edge}
-use Rattle.rows.proofs.Laws.Numbers.Signed.{back, backn, fit-abs, abs-add, sub-parts, eq-of, clip-up}
-use Rattle.blocks.specs.Refuse.{lowest}
+use Rattle.rows.proofs.Laws.Numbers.Signed.{abs-add, clip-up}
 use Rattle.blocks.specs.inner.Ready.{Fetch}
 use Rattle.blocks.specs.declared.frame.Area.{Area}
 use Rattle.blocks.specs.Edge.{placeOk, edgeTests}
-use Rattle.blocks.proofs.Laws.Calls.Refuse.{all-met, size-met}
-use Rattle.blocks.proofs.Laws.Calls.Ready.{rows-met}
-use Rattle.blocks.proofs.Laws.Loops.Rows.{row-in}
 
 -- ---- positions
 and-of-true : (a : Bool) → a && true ≡ a

@@ -1,16 +1,9 @@
 -- Rows changed where they lie: a row that a loop has yet to reach is the entry's. Assumes nothing.
-use mathlib.Core.Path.{_≡_, ap, _∙_}
-use mathlib.Core.List.{List}
-use mathlib.Core.Logic.{inr}
-use Prim.Native.Nat.{ℕ, _+_, _*_, _≤_, _<_}
+use Rattle.blocks.proofs.Usual.{List, inr, _≡_, _∙_, ap, ℕ, _≤_, _*_, _+_, _<_, arith, length, getD, span, splice, rowOf, Rows, row-same, Filled, row-in}
+use Rattle.blocks.proofs.Usual.{filled-more, filled-span}
 use native.Mathlib.Nat.{le-refl}
-use native.Mathlib.Omega.{arith}
-use lib.ListN.{length, getD}
-use Rattle.rows.specs.Places.{rowOf, span, splice}
-use Rattle.rows.proofs.Laws.Blocks.Places.{span-at, row-same}
+use Rattle.rows.proofs.Laws.Blocks.Places.{span-at}
 use Rattle.rows.proofs.Laws.Blocks.Fill.{fill-out}
-use Rattle.blocks.specs.inner.Ready.{Rows}
-use Rattle.blocks.proofs.Laws.Loops.Rows.{Filled, filled-more, filled-span, row-in}
 
 module _ {A : Type 0} (z : A) where
   pub filled-here : {s w : ℕ} {f : ℕ → ℕ → A} {d₀ : List A} {h y : ℕ} {d : List A} → Filled s w f d₀ h y d → Rows (length d₀) s w h → y < h

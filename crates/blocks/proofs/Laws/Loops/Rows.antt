@@ -1,12 +1,7 @@
 -- Where a loop over the rows of a block stands: the first y of h rows of d₀ are filled by the picture f. Assumes nothing.
-use mathlib.Core.Path.{_≡_, refl, ap, _∙_}
-use mathlib.Core.List.{List}
-use Prim.Native.Nat.{ℕ, _+_, _-_, _*_, _≤_, _<_}
-use native.Mathlib.Omega.{arith}
-use borrow.Author.Needs.{needs}
-use lib.ListN.{length, getD}
-use Rattle.rows.specs.Places.{rowOf, span, splice, fill}
-use Rattle.rows.proofs.Laws.Blocks.Places.{length-rowOf, getD-rowOf, row-fits, span-length}
+use Rattle.rows.proofs.Usual.{List, _≡_, _∙_, refl, ap, _-_, _+_, _*_, _≤_, _<_, ℕ, arith, needs, length, getD, span, splice, rowOf, span-length}
+use Rattle.rows.specs.Places.{fill}
+use Rattle.rows.proofs.Laws.Blocks.Places.{length-rowOf, getD-rowOf, row-fits}
 use Rattle.rows.proofs.Laws.Blocks.Fill.{fill-none, fill-more, length-fill}
 use Rattle.blocks.specs.inner.Ready.{Rows}
 

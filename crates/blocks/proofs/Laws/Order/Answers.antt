@@ -1,23 +1,17 @@
 -- The orders' answers: each is the only one, and there are calls of each kind that are accepted. Assumes nothing.
-use mathlib.Core.Path.{_≡_, refl}
-use mathlib.Core.Bool.{Bool, true, false}
-use mathlib.Core.List.{List, [], _∷_}
-use Prim.Native.Nat.{ℕ}
-use lib.Dec.{leb}
-use lib.IntN.{ℤ, pos, negsuc}
-use Rattle.rows.specs.Places.{rowFrom, rowOf, paint, fillIn, inBlock, fill}
+use Rattle.blocks.proofs.Usual.{true, Bool, false, List, [], _∷_, _≡_, refl, ℕ, leb, pos, ℤ, negsuc, fill, rowOf, rowFrom, Setting, putRule, orderDst}
+use Rattle.blocks.proofs.Usual.{kindSizeOk, motionOk, filtersOk, kindOf, holds, strideOk, sizeOk, need, orSame, wholeFilters, before, frameNamesOk}
+use Rattle.blocks.proofs.Usual.{after, frameSizesOk, planeSide, unique-of}
+use Rattle.rows.specs.Places.{paint, fillIn, inBlock}
 use Rattle.rows.specs.Edge.{endless, aroundAt}
 use Rattle.rows.specs.Warp.{filterNo, isThere, every, allThere}
-use Rattle.blocks.specs.Refuse.{need, orSame, sizeOk, strideOk, holds, wholeFilters}
 use Rattle.blocks.specs.words.Depth.{depthOk}
 use Rattle.blocks.specs.Edge.{placeOk}
 use Rattle.blocks.specs.WMask.{flagsOk}
 use Rattle.blocks.specs.Subpel.{typeOk, sixteenthOk, fractionOk, subpelOk, filterIn}
 use Rattle.blocks.specs.Warp.{warpPlaceOk}
-use Rattle.blocks.specs.Window.{planeSide, frameSizesOk, frameNamesOk, before, after}
-use Rattle.blocks.specs.Order.{kindOf, kindSizeOk, motionOk, filtersOk, Setting, orderNumber, orderScratch, orderDst, orderTmp, putRule, putPicture}
+use Rattle.blocks.specs.Order.{orderNumber, orderScratch, orderTmp, putPicture}
 use Rattle.blocks.specs.Order.{OrderPutAnswer, OrderPrepAnswer}
-use Rattle.blocks.proofs.Laws.Calls.Answer.{unique-of}
 use Rattle.blocks.specs.declared.order.Order.{Order}
 use Rattle.blocks.specs.declared.order.Kind.{Kind}
 use Rattle.blocks.specs.declared.order.Kind.the-variants.{Copy, Subpel, Bilinear, Warp}

@@ -1,22 +1,12 @@
 -- A block of a kind from its window: what the kind's rows rely on, its numbers as a call passes them, its first place and its pixels where no margin stands
 -- before it. Assumes nothing.
-use mathlib.Core.Path.{_≡_, ap, fun-ext}
-use mathlib.Core.Bool.{_&&_}
-use mathlib.Core.List.{List}
-use Prim.Native.Nat.{ℕ, zero, suc, _+_, _-_, _*_, _/_, _≤_, _<_}
-use native.Mathlib.Omega.{arith}
-use borrow.Author.Tests.{eqb-true}
-use lib.Dec.{eqb}
-use lib.ListN.{getD}
-use mir.Syntax.{w16, w32}
-use Rattle.rows.specs.Numbers.{up}
-use Rattle.rows.specs.Places.{pixel, around}
-use Rattle.rows.proofs.Laws.Blocks.Fill.{and-true}
+use Rattle.blocks.proofs.Usual.{_&&_, List, _≡_, ap, ℕ, _≤_, _*_, _+_, _-_, _<_, suc, zero, _/_, arith, eqb-true, eqb, getD, w32, w16, up, pixel, around}
+use Rattle.blocks.proofs.Usual.{kindSizeOk, motionOk, filtersOk, before, after, Rows, Block, and-true, told-back}
+use mathlib.Core.Path.{fun-ext}
 use Rattle.blocks.specs.Subpel.{typeOk, sixteenthOk, fractionOk, filterIn, on}
 use Rattle.blocks.specs.Warp.{warpPlaceOk}
-use Rattle.blocks.specs.Window.{before, after, aroundPart}
-use Rattle.blocks.specs.Order.{kindSizeOk, motionOk, filtersOk}
-use Rattle.blocks.specs.inner.Ready.{Block, Rows, Taps, Bilin, Warps, Windowed}
+use Rattle.blocks.specs.Window.{aroundPart}
+use Rattle.blocks.specs.inner.Ready.{Taps, Bilin, Warps, Windowed}
 use Rattle.blocks.specs.declared.order.Kind.{Kind}
 use Rattle.blocks.specs.declared.order.Kind.the-variants.{Copy, Subpel, Bilinear, Warp}
 use Rattle.blocks.specs.declared.subpel.plan.SubpelMotion.{SubpelMotion}
@@ -24,7 +14,7 @@ use Rattle.blocks.specs.declared.order.BilinMotion.{BilinMotion}
 use Rattle.blocks.specs.declared.warp.Shears.{Shears}
 use Rattle.blocks.proofs.Laws.Subpel.Ready.{held}
 use Rattle.blocks.proofs.Laws.Bilinear.Ready.{sixteenth-met}
-use Rattle.blocks.proofs.Laws.Calls.Told.{Told, passed, told-back, told-one}
+use Rattle.blocks.proofs.Laws.Calls.Told.{Told, passed, told-one}
 use Rattle.blocks.proofs.Laws.Warp.Ready.{passes}
 
 -- ---- a window's places hold those of each tap, with a filter on an axis where x or y is 1

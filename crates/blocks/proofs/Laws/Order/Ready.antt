@@ -1,23 +1,17 @@
 -- An order's tests in three parts, as the code makes them; and what its number 0 gives: an accepted window, and what the rows of its kind rely on.
 -- Assumes nothing.
-use mathlib.Core.Path.{_≡_, refl, _∙_}
-use mathlib.Core.Bool.{Bool, true}
-use mathlib.Core.List.{List, [], _∷_}
-use Prim.Native.Nat.{ℕ, _^_, _≤_}
-use lib.Dec.{leb}
-use lib.IntN.{natAbs}
-use lib.ListN.{length}
-use Rattle.rows.proofs.Laws.Blocks.Fill.{and-true}
-use Rattle.blocks.specs.Refuse.{Test, size, stride, number, table, read, written, _asks_, lowest, sizeOk, blockSide, strideOk, holds, holdsAll}
-use Rattle.blocks.specs.Refuse.{wholeFilters}
+use Rattle.blocks.proofs.Usual.{true, Bool, List, [], _∷_, _≡_, _∙_, refl, ℕ, _≤_, _^_, leb, natAbs, length, Setting, kindSizeOk, motionOk, filtersOk}
+use Rattle.blocks.proofs.Usual.{lowest, Test, _asks_, blockSide, stride, size, number, read, written, holds, strideOk, sizeOk, wholeFilters, LentPlane}
+use Rattle.blocks.proofs.Usual.{windowTests, lentW, lentH, frameNamesOk, frameSizesOk, Rows, Block, and-true, rows-met, block-met, all-met, later}
+use Rattle.blocks.proofs.Usual.{sooner}
+use Rattle.blocks.specs.Refuse.{table, holdsAll}
 use Rattle.blocks.specs.Edge.{placeOk}
 use Rattle.blocks.specs.Subpel.{subpelOk}
 use Rattle.blocks.specs.Warp.{warpPlaceOk}
-use Rattle.blocks.specs.Window.{frameSizesOk, frameNamesOk, LentPlane, lentW, lentH, windowSide, windowTests}
-use Rattle.blocks.specs.Order.{kindNumber, kindSizeOk, motionOk, filtersOk, Setting, askedBy, orderNumber}
-use Rattle.blocks.specs.inner.Ready.{Block, Rows, Windowed}
-use Rattle.blocks.proofs.Laws.Calls.Refuse.{all-met, then, later, sooner, both-met}
-use Rattle.blocks.proofs.Laws.Calls.Ready.{block-met, rows-met}
+use Rattle.blocks.specs.Window.{windowSide}
+use Rattle.blocks.specs.Order.{kindNumber, askedBy, orderNumber}
+use Rattle.blocks.specs.inner.Ready.{Windowed}
+use Rattle.blocks.proofs.Laws.Calls.Refuse.{then, both-met}
 use Rattle.blocks.proofs.Laws.Warp.Ready.{place-met}
 use Rattle.blocks.proofs.Laws.Window.Ready.{met-window}
 use Rattle.blocks.specs.declared.order.Order.{Order}

@@ -1,23 +1,13 @@
 -- An accepted order: its window is fetched and picked, its kind's rows run on it, and their picture is the order's on the endless plane. Assumes nothing.
-use mathlib.Core.Path.{_≡_, refl, sym, ap, _∙_}
-use mathlib.Core.Bool.{Bool, true}
-use mathlib.Core.List.{List}
-use Prim.Native.Nat.{ℕ, _≤_}
-use native.Mathlib.Omega.{arith}
-use lib.IntN.{ℤ, pos}
-use lib.ListN.{length}
-use Rattle.rows.specs.Depth.{bitsOf, biasOf, maxOf}
-use Rattle.rows.specs.Places.{rowOf, fill}
-use Rattle.rows.proofs.Laws.Blocks.Places.{length-rowOf}
-use Rattle.rows.proofs.Laws.Blocks.Fill.{fill-same}
-use Rattle.blocks.specs.Refuse.{orSame}
-use Rattle.blocks.specs.inner.Ready.{Rows, Windowed, PartIn}
-use Rattle.blocks.specs.Window.{LentPlane, areaOf, noPart, windowOf, scratchOf, partOf, aroundPart}
+use Rattle.blocks.proofs.Usual.{true, Bool, List, _≡_, _∙_, refl, sym, ap, ℕ, _≤_, arith, pos, ℤ, length, bitsOf, maxOf, biasOf, fill, rowOf, Setting}
+use Rattle.blocks.proofs.Usual.{Tables, putRule, orderDst, kindOf, orSame, LentPlane, areaOf, windowOf, partOf, scratchOf, Rows, fill-same, length-rowOf}
+use Rattle.blocks.proofs.Usual.{done, refused}
+use Rattle.blocks.specs.inner.Ready.{Windowed, PartIn}
+use Rattle.blocks.specs.Window.{noPart, aroundPart}
 use Rattle.blocks.specs.inner.Window.{areaAt, areaFetched}
-use Rattle.blocks.specs.Order.{kindNumber, kindOf, Tables, Setting, askedBy, putRule, prepRule, putPicture, prepPicture, planeOf, orderNumber}
-use Rattle.blocks.specs.Order.{orderScratch, orderDst, orderTmp, OrderPutAnswer, OrderPrepAnswer}
+use Rattle.blocks.specs.Order.{kindNumber, askedBy, prepRule, putPicture, prepPicture, planeOf, orderNumber}
+use Rattle.blocks.specs.Order.{orderScratch, orderTmp, OrderPutAnswer, OrderPrepAnswer}
 use Rattle.blocks.specs.inner.Order.{settingOf, lengthsOf, orderPart, OrderWindow}
-use Rattle.blocks.proofs.Laws.Calls.Refuse.{done, refused}
 use Rattle.blocks.proofs.Laws.Window.Ready.{no-part-of, answer-number, window-number, window-is, Accepted, accepted-scratch, scratch-kept}
 use Rattle.blocks.proofs.Laws.Window.Holds.{picked-in, Picked, picked}
 use Rattle.blocks.proofs.Laws.Cut.Local.{putRule-local, prepRule-local}

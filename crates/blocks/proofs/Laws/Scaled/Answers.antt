@@ -1,15 +1,9 @@
 -- Scaled blocks: an answer is the only one, and calls are accepted; the limits of the numbers and of what is read. Assumes nothing.
-use mathlib.Core.Path.{_≡_, refl}
-use mathlib.Core.Bool.{Bool, true, false}
-use mathlib.Core.List.{List}
-use Prim.Native.Nat.{ℕ}
-use lib.IntN.{ℤ, pos, negsuc}
-use Rattle.blocks.specs.Refuse.{need, lowest, sizeOk, strideOk, holds, reads}
+use Rattle.blocks.proofs.Usual.{true, Bool, false, List, _≡_, refl, ℕ, pos, ℤ, negsuc, lowest, holds, strideOk, sizeOk, need, reads, unique}
 use Rattle.blocks.specs.words.Depth.{depthOk}
 use Rattle.blocks.specs.Subpel.{subpelOk}
 use Rattle.blocks.specs.Scaled.{startOk, stepOk, scaledTypeOk, each, columnRead, readsScaled, scaledTests}
 use Rattle.blocks.specs.Scaled.{Put8ScaledAnswer, Prep8ScaledAnswer, PutBilinScaledAnswer, PrepBilinScaledAnswer}
-use Rattle.blocks.proofs.Laws.Calls.Answer.{unique}
 
 -- ---- two results that meet one answer are equal
 module _ (deep : Bool) (depth ds : ℕ) (src : List ℕ) (o ss w h : ℕ) (mx my dx dy : ℤ) {r r′ : ℕ} where

@@ -1,23 +1,17 @@
 -- Scaled blocks: a row of the block from the last eight filtered rows, and from two; what the plan's rows are on the pixels around a place. Assumes nothing.
-use mathlib.Core.Path.{_≡_, refl, sym, ap, _∙_}
-use mathlib.Core.List.{List}
-use Prim.Native.Nat.{ℕ, zero, suc, _+_, _-_, _*_, _/_, _%_, _^_, _≤_, _<_}
-use native.Mathlib.Nat.{mul-le-mul-right, mul-div-mul-left, div-div-eq-div-mul}
-use native.Mathlib.Omega.{arith}
-use lib.IntN.{ℤ, pos, negsuc, _+ℤ_, _-ℤ_, _*ℤ_}
-use lib.ListN.{getD}
+use Rattle.blocks.proofs.Usual.{List, _≡_, _∙_, refl, sym, ap, ℕ, _≤_, _*_, _+_, _-_, _<_, _^_, suc, zero, _/_, _%_, mul-le-mul-right, arith, pos, ℤ}
+use Rattle.blocks.proofs.Usual.{negsuc, _+ℤ_, _-ℤ_, _*ℤ_, getD, w16, toZ, up, at, clip, minus16, half, dn, low16, rowOf, row-same, add-parts, eq-of}
+use Rattle.blocks.proofs.Usual.{sub-parts}
+use native.Mathlib.Nat.{mul-div-mul-left, div-div-eq-div-mul}
 use lib.Pow.{pow-add}
-use mir.Syntax.{w16}
-use mir.Val.{toZ}
-use Rattle.rows.specs.Numbers.{at, up, dn, half, clip, low16, minus16, modZ, _>>_}
-use Rattle.rows.specs.Places.{rowOf}
+use Rattle.rows.specs.Numbers.{modZ, _>>_}
 use Rattle.rows.specs.Subpel.{Axis, whole, by, filter, tapped}
 use Rattle.rows.specs.Bilinear.{bilin, R}
 use Rattle.rows.specs.inner.Bilinear.{bilinAt}
 use Rattle.rows.specs.Scaled.{position, pixelOf, inFamily, putDown, prepDown}
 use Rattle.rows.proofs.Laws.Numbers.Low.{toZ-ind}
-use Rattle.rows.proofs.Laws.Blocks.Places.{getD-rowOf, row-same}
-use Rattle.rows.proofs.Laws.Numbers.Signed.{add-parts, sub-parts, times-up, times-dn, eq-of}
+use Rattle.rows.proofs.Laws.Blocks.Places.{getD-rowOf}
+use Rattle.rows.proofs.Laws.Numbers.Signed.{times-up, times-dn}
 use Rattle.rows.proofs.Laws.Filters.Taps.{tapped-same}
 use Rattle.blocks.specs.inner.Scaled.{Turned, Filtered}
 use Rattle.blocks.specs.declared.scaled.ScaledPlan.{ScaledPlan}

@@ -1,25 +1,16 @@
 -- Scaled blocks by bilinear: the last two filtered rows as they come in and as they are read. Assumes nothing.
-use mathlib.Core.Path.{_≡_, sym, ap, ap₂, _∙_}
-use mathlib.Core.List.{List}
-use Prim.Native.Nat.{ℕ, _+_, _-_, _*_, _%_, _^_, _≤_, _<_}
-use native.Mathlib.Nat.{mul-le-mul-right}
-use native.Mathlib.Omega.{arith}
-use lib.IntN.{ℤ, pos, _+ℤ_, _*ℤ_}
-use lib.ListN.{length, getD}
-use Rattle.rows.specs.Numbers.{at, px, low16}
-use Rattle.rows.specs.Places.{rowOf, span, splice}
+use Rattle.blocks.proofs.Usual.{List, _≡_, _∙_, sym, ap, ap₂, ℕ, _≤_, _*_, _+_, _-_, _<_, _^_, _%_, mul-le-mul-right, arith, pos, ℤ, _+ℤ_, _*ℤ_, length}
+use Rattle.blocks.proofs.Usual.{getD, at, px, low16, span, splice, rowOf, Rows, Block, by-lt, row-same, add-parts, eq-of, Filled, filled-none}
+use Rattle.blocks.proofs.Usual.{filled-more, turn, filled-span}
 use Rattle.rows.specs.Bilinear.{R, bilin}
 use Rattle.rows.specs.inner.Bilinear.{bilinAt}
 use Rattle.rows.specs.Scaled.{position, pixelOf, sixteenth}
 use Rattle.rows.specs.inner.Scaled.{Tabled, PairsFetched}
 use Rattle.rows.proofs.Laws.Filters.Bilinear.{weighed}
-use Rattle.rows.proofs.Laws.Blocks.Places.{by-lt, row-at, row-length, row-same, splice-before, splice-in, splice-after, splice-length, span-length}
+use Rattle.rows.proofs.Laws.Blocks.Places.{row-at, row-length, splice-before, splice-in, splice-after, splice-length, span-length}
 use Rattle.rows.proofs.Laws.Filters.Scaled.{position-lt}
-use Rattle.rows.proofs.Laws.Numbers.Signed.{add-parts, eq-of}
-use Rattle.blocks.specs.inner.Ready.{Block, Rows}
 use Rattle.blocks.specs.declared.scaled.ScaledPlan.{ScaledPlan}
 use Rattle.blocks.specs.inner.Scaled.{LastTwo, Paired, byParity, pairLineOf}
-use Rattle.blocks.proofs.Laws.Loops.Rows.{Filled, filled-none, filled-more, filled-span, turn}
 use Rattle.blocks.proofs.Laws.Scaled.Rows.{parity-even, parity-odd}
 
 -- ---- rows come in

@@ -1,15 +1,8 @@
 -- Scaled blocks, refusal number 5: a source of sl places is accepted exactly where it holds each place that the Rust fetches. Place o is that of the pixel that
 -- the block starts in, and pixels and rows are counted from there. Assumes nothing.
-use mathlib.Core.Path.{_≡_, refl, sym, _∙_}
-use mathlib.Core.Bool.{Bool, true, false}
-use mathlib.Core.Logic.{_⊎_, inl, inr, ⊎-elim}
-use Prim.Native.Nat.{ℕ, _+_, _-_, _*_, _≤_, _<_}
-use native.Mathlib.Nat.{add-mul, mul-le-mul-right}
-use native.Mathlib.Omega.{arith}
-use lib.IntN.{ℤ}
-use Rattle.rows.specs.Numbers.{up}
+use Rattle.blocks.proofs.Usual.{true, Bool, false, inr, _≡_, _∙_, refl, sym, ℕ, _≤_, _*_, _+_, _-_, _<_, mul-le-mul-right, add-mul, arith, ℤ, up, by-lt}
+use mathlib.Core.Logic.{_⊎_, inl, ⊎-elim}
 use Rattle.rows.specs.Scaled.{position, pixelOf, sixteenth}
-use Rattle.rows.proofs.Laws.Blocks.Places.{by-lt}
 use Rattle.blocks.specs.Scaled.{each, columnRead, readsScaled}
 use Rattle.blocks.proofs.Laws.Scaled.Pairs.{position-le}
 use Rattle.blocks.proofs.Laws.Scaled.Ready.{each-at, each-all, each-none, taps-read, read-taps, row-taps, pair-read, read-pair}

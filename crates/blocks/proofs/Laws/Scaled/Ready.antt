@@ -1,26 +1,17 @@
 -- Scaled blocks: the tests in two parts, as the code makes them, and what they tell where none refuses. Assumes nothing.
-use mathlib.Core.Path.{_≡_, refl}
-use mathlib.Core.Bool.{Bool, true, false, cond}
-use mathlib.Core.List.{List, [], _∷_}
-use Prim.Native.Nat.{ℕ, zero, suc, _+_, _-_, _*_, _%_, _≤_, _<_, min}
-use native.Mathlib.Nat.{add-mul, add-sub-cancel-left, mul-le-mul-right, zero-add}
-use native.Mathlib.Omega.{arith}
-use borrow.Author.Tests.{leb-true, eqb-true}
-use lib.Dec.{leb, eqb}
-use lib.IntN.{ℤ, pos, negsuc}
-use Rattle.rows.specs.Depth.{bitsOf}
-use Rattle.rows.specs.Numbers.{up, between}
+use Rattle.blocks.proofs.Usual.{true, Bool, false, List, [], _∷_, _≡_, refl, ℕ, _≤_, _*_, _+_, _-_, _<_, suc, zero, _%_, min, mul-le-mul-right, add-mul}
+use Rattle.blocks.proofs.Usual.{arith, leb-true, eqb-true, leb, eqb, pos, ℤ, negsuc, bitsOf, up, lowest, Test, _asks_, blockSide, stride, size, number}
+use Rattle.blocks.proofs.Usual.{read, written, holds, strideOk, sizeOk, Rows, Block, and-true, by-lt, rows-met, block-met, all-met, stride-met}
+use mathlib.Core.Bool.{cond}
+use native.Mathlib.Nat.{add-sub-cancel-left, zero-add}
+use Rattle.rows.specs.Numbers.{between}
 use Rattle.rows.specs.Scaled.{position, pixelOf, sixteenth}
 use Rattle.rows.specs.inner.Scaled.{Steps}
-use Rattle.rows.proofs.Laws.Blocks.Fill.{and-true}
-use Rattle.rows.proofs.Laws.Blocks.Places.{by-lt}
-use Rattle.blocks.specs.Refuse.{Test, size, stride, number, table, read, written, _asks_, lowest, sizeOk, blockSide, strideOk, holds}
-use Rattle.blocks.specs.inner.Ready.{Block, Rows}
+use Rattle.blocks.specs.Refuse.{table}
 use Rattle.blocks.specs.Subpel.{subpelOk}
 use Rattle.blocks.specs.Scaled.{startOk, stepOk, scaledTypeOk, each, columnRead, readsScaled, scaledTests}
 use Rattle.blocks.specs.inner.Scaled.{scaledPlan, Filtered, Paired}
-use Rattle.blocks.proofs.Laws.Calls.Refuse.{all-met, both-met, stride-met, reads-met, met-reads, reads-past}
-use Rattle.blocks.proofs.Laws.Calls.Ready.{block-met, rows-met}
+use Rattle.blocks.proofs.Laws.Calls.Refuse.{both-met, reads-met, met-reads, reads-past}
 use Rattle.blocks.proofs.Laws.Subpel.Ready.{family-le}
 
 -- ---- all of n are true

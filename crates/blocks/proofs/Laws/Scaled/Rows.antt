@@ -1,17 +1,11 @@
 -- Scaled blocks: the last filtered rows as they come in and as they are read. Assumes nothing.
-use mathlib.Core.Path.{_≡_, refl, sym, ap, ap₂, _∙_}
-use mathlib.Core.List.{List}
-use Prim.Native.Nat.{ℕ, zero, suc, _+_, _-_, _*_, _%_, _≤_, _<_}
-use native.Mathlib.Omega.{arith}
-use borrow.Author.Tests.{eq-eqb, ne-eqb}
-use lib.IntN.{ℤ, pos, _+ℤ_, _*ℤ_}
-use lib.ListN.{length, getD}
-use Rattle.rows.specs.Numbers.{at, sumZ, up, dn, _>>_}
-use Rattle.rows.specs.Places.{rowOf, splice}
+use Rattle.blocks.proofs.Usual.{List, _≡_, _∙_, refl, sym, ap, ap₂, ℕ, _≤_, _*_, _+_, _-_, _<_, suc, zero, _%_, arith, ne-eqb, pos, ℤ, _+ℤ_, _*ℤ_}
+use Rattle.blocks.proofs.Usual.{length, getD, up, at, dn, splice, rowOf, by-lt, row-same, length-rowOf, add-parts, eq-of}
+use borrow.Author.Tests.{eq-eqb}
+use Rattle.rows.specs.Numbers.{sumZ, _>>_}
 use Rattle.rows.specs.Subpel.{S, tapped}
-use Rattle.rows.proofs.Laws.Blocks.Places.{by-lt, length-rowOf, getD-rowOf, row-same, splice-before, splice-in, splice-after, splice-length}
+use Rattle.rows.proofs.Laws.Blocks.Places.{getD-rowOf, splice-before, splice-in, splice-after, splice-length}
 use Rattle.rows.proofs.Laws.Filters.Taps.{sum-same}
-use Rattle.rows.proofs.Laws.Numbers.Signed.{add-parts, eq-of}
 use Rattle.rows.specs.Scaled.{pixelOf, sixteenth}
 use Rattle.blocks.specs.inner.Scaled.{LastEight, LastTwo, Turned, byParity}
 

@@ -1,16 +1,9 @@
 -- Scaled blocks: what the plan's rows give is the rule on the pixels around a place. Assumes nothing.
-use mathlib.Core.Path.{_≡_, refl, ap, ap₂, _∙_}
-use mathlib.Core.List.{List}
-use Prim.Native.Nat.{ℕ, _+_, _-_, _*_, _^_, _≤_, _<_}
-use native.Mathlib.Omega.{arith}
-use lib.IntN.{ℤ, pos}
-use lib.ListN.{getD}
-use Rattle.rows.specs.Numbers.{up, px, half, clip, low16, minus16}
-use Rattle.rows.specs.Places.{fill, around}
+use Rattle.blocks.proofs.Usual.{List, _≡_, _∙_, refl, ap, ap₂, ℕ, _≤_, _*_, _+_, _-_, _<_, _^_, arith, pos, ℤ, getD, up, clip, minus16, half, px, low16}
+use Rattle.blocks.proofs.Usual.{fill, around, fill-same}
 use Rattle.rows.specs.Subpel.{Axis, whole, by, family, tapped}
 use Rattle.rows.specs.Bilinear.{bilin, R, along, bilinMid}
 use Rattle.rows.specs.Scaled.{position, pixelOf, sixteenth, inFamily, scaledMid, putDown, prepDown, putScaled, prepScaled, putBilinScaled, prepBilinScaled}
-use Rattle.rows.proofs.Laws.Blocks.Fill.{fill-same}
 use Rattle.rows.proofs.Laws.Filters.Taps.{tapped-same}
 use Rattle.blocks.specs.Scaled.{scaledAxis, scaledAround}
 use Rattle.blocks.specs.inner.Scaled.{scaledPlan, lineOf, pairLineOf}

@@ -1,15 +1,7 @@
 -- `sad_nxn` and `sad_refine_mv`: an answer is the only one, and calls are accepted. Assumes nothing.
-use mathlib.Core.Path.{_≡_, refl, ap}
-use mathlib.Core.Bool.{Bool, true}
-use mathlib.Core.List.{List}
-use Prim.Native.Nat.{ℕ}
-use lib.IntN.{ℤ, pos}
-use lib.ListN.{length}
-use Rattle.rows.specs.Places.{pixel}
+use Rattle.blocks.proofs.Usual.{true, Bool, List, _≡_, refl, ap, ℕ, pos, ℤ, length, pixel, lowest, holds, strideOk, sizeOk, need, orSame, unique-of}
 use Rattle.rows.specs.Search.{sad, Offset, centre, refine}
-use Rattle.blocks.specs.Refuse.{need, lowest, orSame, sizeOk, strideOk, holds}
 use Rattle.blocks.specs.Search.{sadTests, refineTests, SadAnswer, RefineAnswer}
-use Rattle.blocks.proofs.Laws.Calls.Answer.{unique-of}
 
 -- there is one
 sad-unique : (deep : Bool) (depth : ℕ) (p : List ℕ) (s : ℕ) (q : List ℕ) (s′ w h : ℕ) (r r′ : ℕ) (t t′ : ℤ)

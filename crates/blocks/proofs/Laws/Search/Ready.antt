@@ -1,28 +1,22 @@
 -- `sad_nxn` and `sad_refine_mv`: what their numbers give, sums, and the search. Assumes nothing.
-use mathlib.Core.Path.{_≡_, refl, sym, ap, ap₂, _∙_, fun-ext}
-use mathlib.Core.Bool.{Bool, true, false, _&&_}
-use mathlib.Core.List.{List, [], _∷_}
-use Prim.Native.Nat.{ℕ, _+_, _-_, _*_, _/_, _^_, _≤_, _<_}
-use native.Mathlib.Nat.{add-zero, le-trans, div-le-self, mul-le-mul-right, add-mul}
-use native.Mathlib.Omega.{arith}
-use borrow.Author.Tests.{lt-ltb, le-ltb, eqb-true, eqb-false, eq-eqb, ne-eqb}
-use lib.Dec.{T, ltb, eqb}
-use lib.IntN.{ℤ, pos, negsuc, natAbs, _+ℤ_, _-ℤ_}
+use Rattle.blocks.proofs.Usual.{true, Bool, false, _&&_, List, [], _∷_, _≡_, _∙_, refl, sym, ap, ap₂, ℕ, _≤_, _*_, _+_, _-_, _<_, _^_, _/_}
+use Rattle.blocks.proofs.Usual.{mul-le-mul-right, add-mul, arith, le-ltb, eqb-true, lt-ltb, ne-eqb, ltb, eqb, pos, ℤ, negsuc, natAbs, _+ℤ_, _-ℤ_, getD}
+use Rattle.blocks.proofs.Usual.{w32, w64, SFits, toZ, ofZ, up, dn, px, pixel, lowest, orSame, Rows, Block, back, backn, fit-abs, one-part, add-parts}
+use Rattle.blocks.proofs.Usual.{sub-parts, rows-met, block-met, done, all-met}
+use mathlib.Core.Path.{fun-ext}
+use native.Mathlib.Nat.{add-zero, le-trans, div-le-self}
+use borrow.Author.Tests.{eqb-false, eq-eqb}
+use lib.Dec.{T}
 use lib.Signed.{nonNeg}
-use lib.ListN.{getD}
-use mir.Syntax.{w32, w64}
-use mir.Val.{SFits, Fits, toZ, ofZ}
-use Rattle.rows.specs.Numbers.{up, dn, px, apart, sum}
-use Rattle.rows.specs.Places.{pick, pixel}
+use mir.Val.{Fits}
+use Rattle.rows.specs.Numbers.{apart, sum}
+use Rattle.rows.specs.Places.{pick}
 use Rattle.rows.specs.Search.{rowApart, sad, moved, sadAt, Offset, Best, none, best, better, visit, through, steps, search, answer, centre, refine}
-use Rattle.rows.proofs.Laws.Numbers.Signed.{back, backn, fit-abs, add-parts, sub-parts, one-part, abs-parts, nonNeg-of}
-use Rattle.blocks.specs.Refuse.{lowest, orSame}
-use Rattle.blocks.specs.inner.Ready.{Block, Rows, Blocks, Wider}
+use Rattle.rows.proofs.Laws.Numbers.Signed.{abs-parts, nonNeg-of}
+use Rattle.blocks.specs.inner.Ready.{Blocks, Wider}
 use Rattle.blocks.specs.declared.search.Best as code
 use Rattle.blocks.specs.Search.{sadsTests, refineTests, RefineAnswer}
 use Rattle.blocks.specs.inner.Search.{bestOf}
-use Rattle.blocks.proofs.Laws.Calls.Refuse.{all-met, done}
-use Rattle.blocks.proofs.Laws.Calls.Ready.{block-met, rows-met}
 
 -- ---- what the rows rely on
 pub sads-ready : (m : ℕ) (deep : Bool) (l0 s0 l1 s1 w h : ℕ) → lowest (sadsTests m deep l0 s0 l1 s1 w h) ≡ 0

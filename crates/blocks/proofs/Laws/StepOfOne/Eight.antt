@@ -1,21 +1,18 @@
 -- Scaled blocks at a step of one pixel: where pixels are within the depth, 8-tap is as without a scale. Assumes nothing.
-use mathlib.Core.Path.{_≡_, refl, sym, ap, ap₂, _∙_}
-use mathlib.Core.List.{List, [], _∷_}
-use Prim.Native.Nat.{ℕ, zero, suc, _+_, _-_, _*_, _/_, _^_, _≤_, _<_, min}
-use native.Mathlib.Nat.{le-trans, mul-le-mul-right, mul-comm, mul-div-cancel, div-div-eq-div-mul}
-use native.Mathlib.Omega.{arith}
-use lib.IntN.{ℤ, pos, negsuc, natAbs, _+ℤ_, _*ℤ_, +ℤ-assoc, +ℤ-comm}
+use Rattle.blocks.proofs.Usual.{List, [], _∷_, _≡_, _∙_, refl, sym, ap, ap₂, ℕ, _≤_, _*_, _+_, _-_, _<_, _^_, suc, zero, _/_, min, mul-le-mul-right}
+use Rattle.blocks.proofs.Usual.{mul-comm, arith, pos, ℤ, negsuc, natAbs, _+ℤ_, _*ℤ_, mag, shrZ, w16, up, at, clip, minus16, half, dn, low16, fit}
+use Rattle.blocks.proofs.Usual.{add-parts, eq-of}
+use native.Mathlib.Nat.{le-trans, mul-div-cancel, div-div-eq-div-mul}
+use lib.IntN.{+ℤ-assoc, +ℤ-comm}
 use lib.Pow.{pow-add, pow-pos}
-use lib.Signed.{mag, shrZ}
-use mir.Syntax.{w16}
-use Rattle.rows.specs.Numbers.{at, up, dn, clip, half, low16, minus16, sum, sumZ, _>>_}
+use Rattle.rows.specs.Numbers.{sum, sumZ, _>>_}
 use Rattle.rows.specs.Copy.{prep}
 use Rattle.rows.specs.Subpel.{Axis, whole, by, S, tapped, mid, put8, prep8}
 use Rattle.rows.specs.inner.Subpel.{Near}
 use Rattle.rows.specs.Scaled.{scaledMid, putDown, prepDown, putScaled, prepScaled}
 use Rattle.rows.proofs.Laws.Numbers.Low.{low16-keeps}
 use Rattle.rows.proofs.Laws.Filters.Near.{shr-apart}
-use Rattle.rows.proofs.Laws.Numbers.Signed.{fit, eq-of, add-parts, mul-up, mul-dn, mag-abs, mag-shr, abs-add, abs-mul-le}
+use Rattle.rows.proofs.Laws.Numbers.Signed.{mul-up, mul-dn, mag-abs, mag-shr, abs-add, abs-mul-le}
 use Rattle.rows.proofs.Laws.Filters.Taps.{tapped-same}
 use Rattle.blocks.proofs.Laws.StepOfOne.Positions.{by-bits}
 

@@ -1,16 +1,11 @@
 -- Scaled blocks at a step of one pixel: positions go pixel by pixel, and where pixels are within the depth, bilinear is as without a scale. Assumes nothing.
-use mathlib.Core.Path.{_≡_, refl, sym, ap, ap₂, subst, _∙_}
-use Prim.Native.Nat.{ℕ, zero, suc, _+_, _-_, _*_, _/_, _^_, _≤_, _<_, min}
-use native.Mathlib.Nat.{mul-assoc, add-mul, mul-le-mul-left, mul-le-mul-right}
-use native.Mathlib.Omega.{arith}
-use lib.IntN.{ℤ, pos, _+ℤ_}
-use mir.Syntax.{w16}
-use Rattle.rows.specs.Numbers.{clip, half, low16, minus16, _>>_}
+use Rattle.blocks.proofs.Usual.{_≡_, _∙_, refl, sym, ap, ap₂, subst, ℕ, _≤_, _*_, _+_, _-_, _<_, _^_, suc, zero, _/_, min, mul-le-mul-right, add-mul}
+use Rattle.blocks.proofs.Usual.{arith, pos, ℤ, _+ℤ_, w16, clip, minus16, half, low16, by-lt, fit}
+use native.Mathlib.Nat.{mul-assoc, mul-le-mul-left}
+use Rattle.rows.specs.Numbers.{_>>_}
 use Rattle.rows.specs.Copy.{prep}
 use Rattle.rows.specs.Bilinear.{bilin, R, along, down, bilinMid, putBilin, prepBilin}
 use Rattle.rows.specs.Scaled.{position, pixelOf, sixteenth, putBilinScaled, prepBilinScaled}
-use Rattle.rows.proofs.Laws.Blocks.Places.{by-lt}
-use Rattle.rows.proofs.Laws.Numbers.Signed.{fit}
 use Rattle.rows.proofs.Laws.Numbers.Low.{low16-keeps}
 use Rattle.rows.proofs.Laws.Filters.Bilinear.{weighed}
 

@@ -1,34 +1,22 @@
 -- At a step of one pixel, from a whole number of sixteenths on, with pixels within the depth: where a scaled call is accepted, the call without a scale is
 -- accepted too, and gives the same. Assumes nothing.
-use mathlib.Core.Path.{_≡_, refl, sym, subst, ap, ap₂, _∙_}
-use mathlib.Core.Bool.{Bool, true, false}
-use mathlib.Core.Logic.{_⊎_, inl, inr, ⊎-elim}
-use mathlib.Core.List.{List}
-use Prim.Native.Nat.{ℕ, zero, suc, _+_, _-_, _*_, _^_, _≤_, _<_, min}
-use native.Mathlib.Nat.{mul-le-mul-right}
-use native.Mathlib.Omega.{arith}
-use borrow.Author.Tests.{leb-true, le-leb}
-use lib.Dec.{leb}
-use lib.IntN.{ℤ, pos, negsuc}
-use lib.ListN.{length, getD, List·getD-eq-default}
-use Rattle.rows.specs.Depth.{bitsOf, biasOf, maxOf}
+use Rattle.blocks.proofs.Usual.{true, Bool, false, List, inr, _≡_, _∙_, refl, sym, ap, ap₂, subst, ℕ, _≤_, _*_, _+_, _-_, _<_, _^_, suc, zero, min}
+use Rattle.blocks.proofs.Usual.{mul-le-mul-right, arith, leb-true, le-leb, leb, pos, ℤ, negsuc, length, getD, bitsOf, maxOf, biasOf, up, around, lowest}
+use Rattle.blocks.proofs.Usual.{need, orSame, reads, wholeFilters, and-true, fill-same, by-lt, all-met, stride-met, size-met}
+use mathlib.Core.Logic.{_⊎_, inl, ⊎-elim}
+use lib.ListN.{List·getD-eq-default}
 use Rattle.rows.specs.inner.Depth.{HighDepth}
-use Rattle.rows.specs.Numbers.{up}
-use Rattle.rows.specs.Places.{around}
 use Rattle.rows.specs.Subpel.{Axis, family, axis, filterBits, put8, prep8}
 use Rattle.rows.specs.Bilinear.{putBilin, prepBilin}
 use Rattle.rows.specs.Scaled.{position, pixelOf, sixteenth, inFamily, putScaled, prepScaled, putBilinScaled, prepBilinScaled}
 use Rattle.rows.proofs.Laws.Numbers.Depth.{high}
-use Rattle.rows.proofs.Laws.Blocks.Fill.{and-true, fill-same}
-use Rattle.rows.proofs.Laws.Blocks.Places.{by-lt}
-use Rattle.blocks.specs.Refuse.{need, lowest, orSame, reads, wholeFilters}
 use Rattle.blocks.specs.words.Depth.{depthOk}
 use Rattle.blocks.specs.Subpel.{typeOk, sixteenthOk, fractionOk, subpelOk, filterIn, on, subpelTests, put8Rule, prep8Rule, Put8Answer, Prep8Answer}
 use Rattle.blocks.specs.Bilinear.{bilinTests, PutBilinAnswer, PrepBilinAnswer}
 use Rattle.blocks.specs.Scaled.{startOk, scaledTypeOk, readsScaled, scaledTests, scaledAxis, scaledAround}
 use Rattle.blocks.specs.Scaled.{Put8ScaledAnswer, Prep8ScaledAnswer, PutBilinScaledAnswer, PrepBilinScaledAnswer}
 use Rattle.blocks.proofs.Laws.Calls.Answer.{same-answer}
-use Rattle.blocks.proofs.Laws.Calls.Refuse.{all-met, size-met, stride-met, met-reads}
+use Rattle.blocks.proofs.Laws.Calls.Refuse.{met-reads}
 use Rattle.blocks.proofs.Laws.words.Depth.{depth-high}
 use Rattle.blocks.proofs.Laws.Scaled.Ready.{each-at, taps-read, pair-read}
 use Rattle.blocks.proofs.Laws.StepOfOne.Positions.{step-one, put-one, prep-one}

@@ -1,12 +1,6 @@
 -- 8-tap: an answer is the only one, and calls are accepted; the limits of what is read. Assumes nothing.
-use mathlib.Core.Path.{_≡_, refl}
-use mathlib.Core.Bool.{Bool, true}
-use mathlib.Core.List.{List}
-use Prim.Native.Nat.{ℕ}
-use lib.IntN.{ℤ, pos, negsuc}
-use Rattle.blocks.specs.Refuse.{need, lowest, sizeOk, strideOk, holds, reads, wholeFilters}
+use Rattle.blocks.proofs.Usual.{true, Bool, List, _≡_, refl, ℕ, pos, ℤ, negsuc, lowest, holds, strideOk, sizeOk, need, reads, wholeFilters, unique}
 use Rattle.blocks.specs.words.Depth.{depthOk}
-use Rattle.blocks.proofs.Laws.Calls.Answer.{unique}
 use Rattle.blocks.specs.Subpel.{typeOk, sixteenthOk, fractionOk, subpelOk, filterIn, subpelTests, Put8Answer, Prep8Answer}
 
 -- ---- two results that meet one answer are equal

@@ -1,19 +1,12 @@
 -- 8-tap: what the rows of a plan read and compute is the pixel rule on the pixels around a place, in each of the four cases. Assumes nothing.
-use mathlib.Core.Path.{_≡_, refl, sym, ap, ap₂, _∙_}
-use mathlib.Core.Bool.{Bool, true, false, true≢false}
-use mathlib.Core.List.{List}
-use Prim.Native.Nat.{ℕ, zero, suc, _+_, _-_, _*_, _^_, _≤_, _<_, min}
-use native.Mathlib.Omega.{arith}
-use lib.IntN.{ℤ, pos, negsuc}
-use lib.ListN.{length, getD}
-use Rattle.rows.specs.Numbers.{up, at, px, half, clip, low16, minus16}
-use Rattle.rows.specs.Places.{fill, around}
+use Rattle.blocks.proofs.Usual.{true, Bool, false, List, _≡_, _∙_, refl, sym, ap, ap₂, ℕ, _≤_, _*_, _+_, _-_, _<_, _^_, suc, zero, min, arith, pos, ℤ}
+use Rattle.blocks.proofs.Usual.{negsuc, length, getD, up, at, clip, minus16, half, px, low16, fill, around, Rows, Block, fill-same, fill-in}
+use mathlib.Core.Bool.{true≢false}
 use Rattle.rows.specs.Copy.{prep}
 use Rattle.rows.specs.Subpel.{Axis, whole, by, axis, filterBits, tapped, mid, put8, prep8}
-use Rattle.rows.proofs.Laws.Blocks.Fill.{fill-in, fill-same}
 use Rattle.rows.proofs.Laws.Filters.Taps.{tapped-same}
 use Rattle.rows.proofs.Laws.Numbers.Low.{low16-again}
-use Rattle.blocks.specs.inner.Ready.{Block, Rows, Taps, Lines}
+use Rattle.blocks.specs.inner.Ready.{Taps, Lines}
 use Rattle.blocks.specs.Subpel.{put8Rule, prep8Rule}
 use Rattle.blocks.specs.inner.Subpel.{tapsOf, planOf, putLine, prepLine, along}
 use Rattle.blocks.specs.declared.subpel.plan.Plan.{Plan}

@@ -1,12 +1,6 @@
 -- 8-tap: the filter that the code chooses is the axis of document 01, and the four cases of its plan. Assumes nothing.
-use mathlib.Core.Path.{_≡_, refl, ap}
-use mathlib.Core.Bool.{true}
-use mathlib.Core.List.{List}
-use Prim.Native.Nat.{ℕ, zero, suc, _+_, _-_, _*_, _%_, _≤_, _<_}
-use native.Mathlib.Omega.{arith}
-use borrow.Author.Tests.{le-ltb, lt-ltb}
-use lib.IntN.{ℤ, pos, negsuc}
-use Rattle.rows.specs.Numbers.{up, dn, half}
+use Rattle.blocks.proofs.Usual.{true, List, _≡_, refl, ap, ℕ, _≤_, _*_, _+_, _-_, _<_, suc, zero, _%_, arith, le-ltb, lt-ltb, pos, ℤ, negsuc, up, half}
+use Rattle.blocks.proofs.Usual.{dn}
 use Rattle.rows.specs.Subpel.{family, axis, filterBits}
 use Rattle.blocks.specs.inner.Subpel.{axisOf, filterOf, tapsOf, byOne, planOf}
 use Rattle.blocks.specs.declared.subpel.plan.Filter.the-variants.{Off, Ext, Subpel}

@@ -1,19 +1,11 @@
 -- 8-tap: the rows of a block by one filter at most, and the turns of the loops over them. Assumes nothing.
-use mathlib.Core.Path.{_≡_, refl, ap}
-use mathlib.Core.List.{List}
-use Prim.Native.Nat.{ℕ, zero, suc, _+_, _-_, _*_, _^_, _≤_, _<_}
+use Rattle.blocks.proofs.Usual.{List, _≡_, refl, ap, ℕ, _≤_, _*_, _+_, _-_, _<_, _^_, suc, zero, arith, pos, ℤ, length, getD, clip, minus16, half, low16}
+use Rattle.blocks.proofs.Usual.{span, rowOf, row-same, row-fits, Filled, row-in, filled-span}
 use native.Mathlib.Nat.{pow-le-pow-right}
-use native.Mathlib.Omega.{arith}
-use lib.IntN.{ℤ, pos}
-use lib.ListN.{length, getD}
-use Rattle.rows.specs.Numbers.{half, clip, low16, minus16}
-use Rattle.rows.specs.Places.{rowOf, span}
 use Rattle.rows.specs.Copy.{put, prep}
 use Rattle.rows.specs.Subpel.{tapped}
-use Rattle.rows.proofs.Laws.Blocks.Places.{row-same, row-fits}
 use Rattle.blocks.specs.inner.Ready.{Lines}
 use Rattle.blocks.specs.inner.Subpel.{putLine, prepLine}
-use Rattle.blocks.proofs.Laws.Loops.Rows.{Filled, filled-span, row-in}
 
 -- ---- the rounding of a shift by n
 pub half-le : (n k : ℕ) → n ≤ k → 2 * half n ≤ 2 ^ k

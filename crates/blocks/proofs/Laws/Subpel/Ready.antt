@@ -1,23 +1,12 @@
 -- 8-tap: the tests in two parts, as the code makes them, and what they tell where none refuses. Assumes nothing.
-use mathlib.Core.Path.{_≡_, refl, sym, _∙_}
-use mathlib.Core.Bool.{Bool, true, false, _&&_, _||_}
-use mathlib.Core.List.{List, [], _∷_}
-use Prim.Native.Nat.{ℕ, zero, suc, _+_, _-_, _*_, _≤_}
-use native.Mathlib.Omega.{arith}
-use borrow.Author.Tests.{leb-true, ltb-true, eqb-true, le-ltb}
-use lib.Dec.{leb, ltb}
-use lib.IntN.{ℤ, pos, negsuc}
-use lib.Signed.{leZ}
-use Rattle.rows.specs.Numbers.{up}
+use Rattle.blocks.proofs.Usual.{true, Bool, false, _&&_, List, [], _∷_, _≡_, _∙_, refl, sym, ℕ, _≤_, _*_, _+_, _-_, suc, zero, arith, leb-true, le-ltb}
+use Rattle.blocks.proofs.Usual.{eqb-true, ltb-true, leb, ltb, pos, ℤ, negsuc, leZ, up, lowest, Test, _asks_, blockSide, stride, size, strideOk, sizeOk}
+use Rattle.blocks.proofs.Usual.{reads, Rows, Block, and-true, by-lt, rows-met, block-met, all-met, stride-met}
+use mathlib.Core.Bool.{_||_}
 use Rattle.rows.specs.Subpel.{family}
-use Rattle.rows.proofs.Laws.Blocks.Places.{by-lt}
-use Rattle.rows.proofs.Laws.Blocks.Fill.{and-true}
-use Rattle.blocks.specs.Refuse.{Test, size, stride, _asks_, lowest, sizeOk, blockSide, strideOk, reads}
-use Rattle.blocks.specs.inner.Ready.{Block, Rows, Taps}
+use Rattle.blocks.specs.inner.Ready.{Taps}
 use Rattle.blocks.specs.Subpel.{typeOk, sixteenthOk, fractionOk, subpelOk, filterIn, on, subpelTests}
 use Rattle.blocks.specs.inner.Subpel.{filterOf, Held}
-use Rattle.blocks.proofs.Laws.Calls.Refuse.{all-met, stride-met}
-use Rattle.blocks.proofs.Laws.Calls.Ready.{block-met, rows-met}
 use Rattle.blocks.proofs.Laws.Subpel.Choice.{family-low, family-high}
 
 abbrev pub shapeTests : (ds ss w h : ℕ) → List Test

@@ -1,18 +1,10 @@
 -- w_mask's answer: one for each call, and accepted calls. Assumes nothing.
-use mathlib.Core.Path.{_≡_, refl}
-use mathlib.Core.Bool.{Bool, true, false}
-use mathlib.Core.List.{List}
-use Prim.Native.Nat.{ℕ, _*_}
-use lib.IntN.{ℤ, pos}
-use Rattle.rows.specs.Numbers.{up}
-use Rattle.rows.specs.Depth.{bitsOf, biasOf, maxOf}
-use Rattle.rows.specs.Places.{fill}
+use Rattle.blocks.proofs.Usual.{true, Bool, false, List, _≡_, refl, ℕ, _*_, pos, ℤ, bitsOf, maxOf, biasOf, up, fill, lowest, holds, strideOk, sizeOk}
+use Rattle.blocks.proofs.Usual.{need, orSame, unique-of}
 use Rattle.rows.specs.Combine.{masked, both}
 use Rattle.rows.specs.WMask.{maskAt}
-use Rattle.blocks.specs.Refuse.{need, lowest, orSame, sizeOk, strideOk, holds}
 use Rattle.blocks.specs.words.Depth.{depthOk}
 use Rattle.blocks.specs.WMask.{evenOk, maskSide, flagsOk, signOk, wMaskTests, weights, WMaskAnswer}
-use Rattle.blocks.proofs.Laws.Calls.Answer.{unique-of}
 
 pub w-mask-unique : (deep : Bool) (depth : ℕ) (dst : List ℕ) (ds : ℕ) (tmp1 tmp2 : List ℤ) (w h : ℕ) (mask : List ℕ) (ms : ℕ) (sign : ℤ) (ssHor ssVer : Bool)
     (r r′ : ℕ) (d d′ m m′ : List ℕ) → WMaskAnswer deep depth dst ds tmp1 tmp2 w h mask ms sign ssHor ssVer r d m

@@ -1,23 +1,10 @@
 -- w_mask: what its flags tell, and what its rows rely on. Assumes nothing.
-use mathlib.Core.Path.{_≡_, refl, sym}
-use mathlib.Core.Bool.{Bool, true, false, true≢false}
-use mathlib.Core.List.{List}
-use Prim.Native.Nat.{ℕ, _%_, _≤_}
-use native.Mathlib.Omega.{arith}
-use borrow.Author.Tests.{eqb-true}
-use lib.IntN.{ℤ, pos}
-use lib.ListN.{length}
-use lib.Signed.{leZ}
-use Rattle.rows.specs.Numbers.{up}
-use Rattle.rows.specs.Places.{fill}
+use Rattle.blocks.proofs.Usual.{true, Bool, false, List, _≡_, refl, sym, ℕ, _≤_, _%_, arith, eqb-true, pos, ℤ, length, leZ, up, fill, lowest, Rows}
+use Rattle.blocks.proofs.Usual.{and-true, one-part, le-yes, rows-met, block-met, all-met}
+use mathlib.Core.Bool.{true≢false}
 use Rattle.rows.specs.WMask.{maskAt}
-use Rattle.rows.proofs.Laws.Numbers.Signed.{le-yes, one-part}
-use Rattle.rows.proofs.Laws.Blocks.Fill.{and-true}
-use Rattle.blocks.specs.Refuse.{lowest}
-use Rattle.blocks.specs.inner.Ready.{Rows, Weighing}
+use Rattle.blocks.specs.inner.Ready.{Weighing}
 use Rattle.blocks.specs.WMask.{evenOk, maskSide, flagsOk, signOk, wMaskTests}
-use Rattle.blocks.proofs.Laws.Calls.Refuse.{all-met}
-use Rattle.blocks.proofs.Laws.Calls.Ready.{block-met, rows-met}
 use Rattle.blocks.proofs.Laws.Loops.Gapless.{gapless-met}
 use Rattle.blocks.proofs.Laws.WMask.Weighed.{Kept}
 

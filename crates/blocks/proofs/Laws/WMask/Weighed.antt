@@ -1,19 +1,12 @@
 -- w_mask's rows: what is read of a row of weights, and of a mask that keeps each. Assumes nothing.
-use mathlib.Core.Path.{_≡_, ap, ap₂, _∙_}
-use mathlib.Core.List.{List, _++_}
-use Prim.Native.Nat.{ℕ, _+_, _-_, _*_, _≤_, _<_}
+use Rattle.blocks.proofs.Usual.{List, _++_, _≡_, _∙_, ap, ap₂, ℕ, _≤_, _*_, _+_, _-_, _<_, arith, ℤ, length, getD, drop, pixel, fill, rowOf, Rows}
+use Rattle.blocks.proofs.Usual.{fill-same, fill-in, length-fill, row-same, length-rowOf, row-in}
 use native.Mathlib.Nat.{zero-add}
-use native.Mathlib.Omega.{arith}
-use lib.IntN.{ℤ}
-use lib.ListN.{length, getD, take, drop, length-append, length-drop, List·getD-append}
+use lib.ListN.{take, length-append, length-drop, List·getD-append}
 use lib.Seq.{length-take-le}
-use Rattle.rows.specs.Places.{rowOf, pixel, fill}
 use Rattle.rows.specs.Combine.{masked, both}
 use Rattle.rows.specs.WMask.{weightOf, pairOf, fourOf}
-use Rattle.rows.proofs.Laws.Blocks.Places.{length-rowOf, getD-rowOf, row-same}
-use Rattle.rows.proofs.Laws.Blocks.Fill.{length-fill, fill-in, fill-same}
-use Rattle.blocks.specs.inner.Ready.{Rows}
-use Rattle.blocks.proofs.Laws.Loops.Rows.{row-in}
+use Rattle.rows.proofs.Laws.Blocks.Places.{getD-rowOf}
 
 -- the weight at column i of row j, the pixel there by a weight v, and the pixel by its own
 abbrev pub weigh : (depth B : ℕ) (tmp1 tmp2 : List ℤ) (w : ℕ) → ℕ → ℕ → ℕ

@@ -1,19 +1,12 @@
 -- The warp model's and warp's answers: each is the only one, and there is a call that is accepted. Assumes nothing.
-use mathlib.Core.Path.{_≡_, refl, sym, ap, _∙_}
-use mathlib.Core.Bool.{Bool, true}
-use mathlib.Core.List.{List, [], _∷_}
-use Prim.Native.Nat.{ℕ}
-use lib.IntN.{ℤ, pos, negsuc}
+use Rattle.blocks.proofs.Usual.{true, Bool, List, [], _∷_, _≡_, _∙_, refl, sym, ap, ℕ, pos, ℤ, negsuc, bitsOf, maxOf, biasOf, fill, around, lowest}
+use Rattle.blocks.proofs.Usual.{holds, strideOk, need, orSame, reads, wholeFilters, unique-of}
 use lib.ListN.{replicate}
-use Rattle.rows.specs.Depth.{bitsOf, biasOf, maxOf}
 use Rattle.rows.specs.Numbers.{low32}
-use Rattle.rows.specs.Places.{fill, around}
 use Rattle.rows.specs.Shear.{Q, g, topBelow, recipPlace, recipOf, shiftOf, shearA, shearB, shearC, shearD, affineOf, middle, offsetOf, entry0, entry1}
 use Rattle.rows.specs.Warp.{filterNo, isThere, every, allThere, warpPut, warpPrep}
-use Rattle.blocks.specs.Refuse.{need, lowest, orSame, strideOk, holds, reads, wholeFilters}
 use Rattle.blocks.specs.Shear.{recipOk, divisorOf, entriesOk, shearTests, sheared, ShearAnswer, affineMvTests, withMv, AffineMvAnswer}
 use Rattle.blocks.specs.Warp.{warpPlaceOk, warpTests, WarpAnswer, WarpTAnswer}
-use Rattle.blocks.proofs.Laws.Calls.Answer.{unique-of}
 use Rattle.blocks.specs.declared.shear.Divisor.{Divisor}
 use Rattle.blocks.specs.declared.shear.WarpParams.{WarpParams}
 

@@ -1,19 +1,12 @@
 -- The filters of a pass are in the table where those at its four corners are: the number grows, or falls, with the row and with the column.
 -- Assumes nothing.
-use mathlib.Core.Path.{_≡_, refl, sym, subst}
+use Rattle.blocks.proofs.Usual.{true, Bool, false, _&&_, _≡_, refl, sym, subst, ℕ, _≤_, _*_, _+_, _-_, _<_, suc, zero, _/_, arith, lt-ltb, ltb-true, ltb}
+use Rattle.blocks.proofs.Usual.{pos, ℤ, negsuc, natAbs, _+ℤ_, _*ℤ_, ltZ, shrZ, up, dn, and-true, one-part, add-parts}
 use mathlib.Core.Logic.{⊎-elim}
-use mathlib.Core.Bool.{Bool, true, false, _&&_}
-use Prim.Native.Nat.{ℕ, zero, suc, _+_, _-_, _*_, _/_, _≤_, _<_}
 use native.Mathlib.Nat as N
-use native.Mathlib.Omega.{arith}
-use borrow.Author.Tests.{ltb-true, lt-ltb}
-use lib.Dec.{T, ltb}
-use lib.IntN.{ℤ, pos, negsuc, natAbs, _+ℤ_, _*ℤ_}
-use lib.Signed.{shrZ, ltZ}
-use Rattle.rows.specs.Numbers.{up, dn}
+use lib.Dec.{T}
 use Rattle.rows.specs.Warp.{filterNo, isThere, every}
-use Rattle.rows.proofs.Laws.Blocks.Fill.{and-true}
-use Rattle.rows.proofs.Laws.Numbers.Signed.{sub-ind, add-parts, times-up, times-dn, one-part}
+use Rattle.rows.proofs.Laws.Numbers.Signed.{sub-ind, times-up, times-dn}
 
 -- ---- tests of all
 pub every-at : (n : ℕ) (p : ℕ → Bool) → every n p ≡ true → (k : ℕ) → k < n → p k ≡ true

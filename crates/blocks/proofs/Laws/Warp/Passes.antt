@@ -1,17 +1,9 @@
 -- Warp's two passes: a whole row more in a block, the columns of the first pass, and the second pass over the first. Assumes nothing.
-use mathlib.Core.Path.{_≡_, sym, ap, _∙_}
-use mathlib.Core.List.{List}
-use Prim.Native.Nat.{ℕ, _+_, _-_, _*_, _≤_, _<_}
-use native.Mathlib.Omega.{arith}
-use lib.IntN.{ℤ, pos}
-use lib.ListN.{length, getD}
-use Rattle.rows.specs.Numbers.{at, px, clip, low16, minus16}
-use Rattle.rows.specs.Places.{rowOf, splice, fill, around}
+use Rattle.blocks.proofs.Usual.{List, _≡_, _∙_, sym, ap, ℕ, _≤_, _*_, _+_, _-_, _<_, arith, pos, ℤ, length, getD, at, clip, minus16, px, low16, splice}
+use Rattle.blocks.proofs.Usual.{fill, rowOf, around, Rows, fill-same, fill-in, Filled, filled-more, Turn, turn, filled-span}
 use Rattle.rows.specs.Warp.{warped, warpMid, warpPut, warpPrep}
-use Rattle.rows.proofs.Laws.Blocks.Fill.{fill-in, fill-same}
 use Rattle.rows.proofs.Laws.Filters.Taps.{tapped-same}
-use Rattle.blocks.specs.inner.Ready.{Rows, Margins}
-use Rattle.blocks.proofs.Laws.Loops.Rows.{Filled, Turn, turn, filled-more, filled-span}
+use Rattle.blocks.specs.inner.Ready.{Margins}
 
 -- a row kernel of w columns left row y as the picture has it
 pub filled-row : {A : Type 0} (z : A) {s w : ℕ} {f : ℕ → ℕ → A} {d₀ : List A} {h y : ℕ} {d : List A} (r : List A) → Filled s w f d₀ h y d

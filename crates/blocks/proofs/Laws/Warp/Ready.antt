@@ -1,18 +1,11 @@
 -- Warp's number 0 gives what its passes rely on; its tests in two parts. Assumes nothing.
-use mathlib.Core.Path.{_≡_, sym}
-use mathlib.Core.Bool.{Bool, true}
-use mathlib.Core.List.{List, [], _∷_}
-use Prim.Native.Nat.{ℕ, _+_, _*_, _/_, _^_, _≤_}
-use borrow.Author.Tests.{leb-true, ltb-true}
-use lib.Dec.{leb, ltb}
-use lib.IntN.{ℤ, natAbs}
+use Rattle.blocks.proofs.Usual.{true, Bool, List, [], _∷_, _≡_, sym, ℕ, _≤_, _*_, _+_, _^_, _/_, leb-true, ltb-true, leb, ltb, ℤ, natAbs, lowest, Test}
+use Rattle.blocks.proofs.Usual.{_asks_, stride, number, read, written, holds, strideOk, reads, wholeFilters, and-true, rows-met, all-met, later, sooner}
+use Rattle.blocks.proofs.Usual.{stride-met}
 use Rattle.rows.specs.Warp.{filterNo, isThere, every, allThere}
-use Rattle.rows.proofs.Laws.Blocks.Fill.{and-true}
-use Rattle.blocks.specs.Refuse.{Test, stride, number, table, read, written, _asks_, lowest, strideOk, holds, reads, wholeFilters}
+use Rattle.blocks.specs.Refuse.{table}
 use Rattle.blocks.specs.inner.Ready.{Pass, Margins, Warps}
 use Rattle.blocks.specs.Warp.{warpPlaceOk, warpTests}
-use Rattle.blocks.proofs.Laws.Calls.Refuse.{all-met, later, sooner, stride-met}
-use Rattle.blocks.proofs.Laws.Calls.Ready.{rows-met}
 use Rattle.blocks.proofs.Laws.Warp.Corners.{every-at}
 
 -- ---- the first part of warp's tests

@@ -1,29 +1,18 @@
 -- The warp model's numbers: the top bit, the divisor's place in the table, ranges. Assumes nothing.
-use mathlib.Core.Path.{_≡_, refl, ap, _∙_}
-use mathlib.Core.Bool.{Bool, true, _&&_}
-use mathlib.Core.List.{List}
-use Prim.Native.Nat.{ℕ, zero, suc, _+_, _-_, _*_, _/_, _%_, _^_, _≤_, _<_, zero-le}
+use Rattle.blocks.proofs.Usual.{true, Bool, _&&_, List, _≡_, _∙_, refl, ap, ℕ, _≤_, _*_, _+_, _-_, _<_, _^_, suc, zero, _/_, _%_, arith, leb-true}
+use Rattle.blocks.proofs.Usual.{le-leb, le-ltb, lt-leb, eqb-true, ltb-true, leb, pos, ℤ, negsuc, natAbs, _*ℤ_, length, leZ, ltZ, shrZ, w32, w64, SFits}
+use Rattle.blocks.proofs.Usual.{toZ, at, lowest, need, and-true, by-lt, fit, one-part, le-yes, done, all-met}
+use Prim.Native.Nat.{zero-le}
 use native.Mathlib.Nat as N
-use native.Mathlib.Omega.{arith}
-use borrow.Author.Tests.{le-leb, lt-leb, le-ltb, leb-true, ltb-true, eqb-true}
 use lib.Count.{leadingZeros, leading-top}
-use lib.Dec.{leb}
-use lib.IntN.{ℤ, pos, negsuc, natAbs, _*ℤ_}
-use lib.ListN.{length}
 use lib.Pow.{pow-pos, pow-add, pow-mono, shl-lt, shl-exact}
-use lib.Signed.{shrZ, ltZ, leZ}
-use mir.Syntax.{w32, w64}
-use mir.Val.{SFits, toZ, boolByte}
-use Rattle.rows.specs.Numbers.{at, between, isWithin}
+use mir.Val.{boolByte}
+use Rattle.rows.specs.Numbers.{between, isWithin}
 use Rattle.rows.specs.Shear.{isNeg, topBelow, topBit, recipPlace, recipOf, shiftOf}
-use Rattle.rows.proofs.Laws.Numbers.Signed.{mag-lt, mul-up, mul-dn, fit, le-yes, abs-parts, one-part}
-use Rattle.rows.proofs.Laws.Blocks.Fill.{and-true}
-use Rattle.rows.proofs.Laws.Blocks.Places.{by-lt}
-use Rattle.blocks.specs.Refuse.{need, lowest}
+use Rattle.rows.proofs.Laws.Numbers.Signed.{mag-lt, mul-up, mul-dn, abs-parts}
 use Rattle.blocks.specs.inner.Ready.{Divides, Entries, Moves}
 use Rattle.blocks.specs.Shear.{recipOk, divisorTests, divisorOf, entriesOk, shearTests, affineMvTests}
 use Rattle.blocks.specs.declared.shear.Divisor.{Divisor}
-use Rattle.blocks.proofs.Laws.Calls.Refuse.{all-met, done}
 
 -- ---- Q
 -- a test v < 0, made a number

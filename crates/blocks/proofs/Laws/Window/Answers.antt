@@ -1,15 +1,10 @@
 -- Windows' and rows' answers: each is the only one, and there are calls that are accepted. Assumes nothing.
-use mathlib.Core.Path.{_≡_, refl, sym, ap, _∙_}
-use mathlib.Core.Bool.{true}
-use mathlib.Core.List.{List}
-use Prim.Native.Nat.{ℕ}
-use lib.IntN.{ℤ, pos}
-use Rattle.rows.specs.Places.{rowFrom, rowOf}
-use Rattle.blocks.specs.Refuse.{need, orSame, sizeOk, strideOk, holds}
+use Rattle.blocks.proofs.Usual.{true, List, _≡_, _∙_, refl, sym, ap, ℕ, pos, ℤ, rowOf, rowFrom, holds, strideOk, sizeOk, need, orSame, LentPlane, Asked}
+use Rattle.blocks.proofs.Usual.{before, frameNamesOk, after, windowOf, frameSizesOk, planeSide, isPlanes, windowAt, scratchOf, rowAt}
 use Rattle.blocks.specs.Edge.{placeOk}
 use Rattle.blocks.specs.WMask.{flagsOk}
-use Rattle.blocks.specs.Window.{planeSide, frameSizesOk, frameNamesOk, LentPlane, before, after, Asked, inside, isPlanes, windowAt, windowOf}
-use Rattle.blocks.specs.Window.{scratchOf, rowAt, PartAnswer, WindowAnswer}
+use Rattle.blocks.specs.Window.{inside}
+use Rattle.blocks.specs.Window.{PartAnswer, WindowAnswer}
 use Rattle.blocks.specs.declared.window.Part.{Part}
 
 -- ---- one answer for each call

@@ -1,24 +1,16 @@
 -- What a window holds: in either mode, and wherever it lies, the pixels of the endless plane. Assumes nothing.
-use mathlib.Core.Path.{_≡_, refl, ap, _∙_}
-use mathlib.Core.Bool.{Bool, true, false}
-use mathlib.Core.List.{List}
-use Prim.Native.Nat.{ℕ, zero, suc, _+_, _-_, _*_, _≤_, _<_}
-use native.Mathlib.Nat.{add-mul, mul-le-mul-right, zero-add}
-use native.Mathlib.Omega.{arith}
-use lib.Dec.{eqb}
-use lib.IntN.{ℤ, pos, _+ℤ_}
-use lib.ListN.{length, getD}
-use lib.Signed.{leZ}
-use Rattle.rows.specs.Numbers.{up, dn, clip}
-use Rattle.rows.specs.Places.{pixel, span, fill, around}
+use Rattle.blocks.proofs.Usual.{true, Bool, false, List, _≡_, _∙_, refl, ap, ℕ, _≤_, _*_, _+_, _-_, _<_, suc, zero, mul-le-mul-right, add-mul, arith}
+use Rattle.blocks.proofs.Usual.{eqb, pos, ℤ, _+ℤ_, length, getD, leZ, up, clip, dn, pixel, span, fill, around, lowest, orSame, LentPlane, windowTests}
+use Rattle.blocks.proofs.Usual.{areaOf, Asked, lentW, lentH, before, windowOf, partOf, isPlanes, windowAt, scratchOf, Rows, and-true, fill-in}
+use Rattle.blocks.proofs.Usual.{length-fill, row-fits, one-part, add-parts, le-yes}
+use native.Mathlib.Nat.{zero-add}
 use Rattle.rows.specs.Edge.{endless, edge, aroundAt}
-use Rattle.rows.proofs.Laws.Numbers.Signed.{le-yes, add-parts, one-part, clip-up}
-use Rattle.rows.proofs.Laws.Blocks.Places.{span-length, span-at, row-fits}
-use Rattle.rows.proofs.Laws.Blocks.Fill.{and-true, length-fill, fill-in}
-use Rattle.blocks.specs.Refuse.{lowest, orSame, partLen}
-use Rattle.blocks.specs.inner.Ready.{Rows, Fetch, PartIn}
-use Rattle.blocks.specs.Window.{LentPlane, lentW, lentH, before, windowSide, Asked, windowTests, areaOf, inside, isPlanes, ownPlane, windowAt, noPart}
-use Rattle.blocks.specs.Window.{windowOf, fetched, scratchOf, partOf, aroundPart}
+use Rattle.rows.proofs.Laws.Numbers.Signed.{clip-up}
+use Rattle.rows.proofs.Laws.Blocks.Places.{span-length, span-at}
+use Rattle.blocks.specs.Refuse.{partLen}
+use Rattle.blocks.specs.inner.Ready.{Fetch, PartIn}
+use Rattle.blocks.specs.Window.{windowSide, inside, ownPlane, noPart}
+use Rattle.blocks.specs.Window.{fetched, aroundPart}
 use Rattle.blocks.specs.Order.{planeOf}
 use Rattle.blocks.proofs.Laws.Window.Ready.{window-ready, window-number}
 use Rattle.blocks.specs.declared.frame.Area.{Area}

@@ -1,27 +1,17 @@
 -- Odd pictures (E3): a chroma plane has a column for every luma column, and the C functions of windows and rows hand out each, the last one too. What is
 -- said of columns holds of rows, for both sides are planeSide's. Assumes nothing.
-use mathlib.Core.Path.{_≡_, refl, ap, _∙_}
-use mathlib.Core.Bool.{Bool, true, false, _&&_}
-use mathlib.Core.List.{List, []}
-use Prim.Native.Nat.{ℕ, _+_, _-_, _*_, _/_, _^_, _≤_, _<_}
-use native.Mathlib.Omega.{arith}
-use borrow.Author.Tests.{le-leb, lt-ltb}
-use lib.Dec.{leb, eqb}
-use lib.IntN.{pos, _+ℤ_, _-ℤ_}
-use lib.ListN.{length, getD}
-use Rattle.rows.specs.Numbers.{clip}
-use Rattle.rows.specs.Places.{pick, pixel}
+use Rattle.blocks.proofs.Usual.{true, Bool, false, _&&_, List, [], _≡_, _∙_, refl, ap, ℕ, _≤_, _*_, _+_, _-_, _<_, _^_, _/_, arith, le-leb, lt-ltb, leb}
+use Rattle.blocks.proofs.Usual.{eqb, pos, _+ℤ_, _-ℤ_, length, getD, clip, pixel, lowest, holds, strideOk, sizeOk, need, orSame, LentPlane, windowTests}
+use Rattle.blocks.proofs.Usual.{areaOf, Asked, lentW, lentH, before, frameNamesOk, after, windowOf, frameSizesOk, planeSide, partOf, isPlanes, windowAt}
+use Rattle.blocks.proofs.Usual.{scratchOf, rowAt, Rows, and-true, row-fits, one-part, add-parts, sub-parts, done, size-met}
+use Rattle.rows.specs.Places.{pick}
 use Rattle.rows.specs.Edge.{endless}
-use Rattle.rows.proofs.Laws.Numbers.Signed.{add-parts, sub-parts, one-part, clip-up}
-use Rattle.rows.proofs.Laws.Blocks.Places.{span-at, row-fits}
-use Rattle.rows.proofs.Laws.Blocks.Fill.{and-true}
-use Rattle.blocks.specs.Refuse.{need, lowest, orSame, sizeOk, strideOk, holds}
+use Rattle.rows.proofs.Laws.Numbers.Signed.{clip-up}
+use Rattle.rows.proofs.Laws.Blocks.Places.{span-at}
 use Rattle.blocks.specs.Edge.{placeOk}
 use Rattle.blocks.specs.WMask.{flagsOk}
-use Rattle.blocks.specs.inner.Ready.{Rows}
-use Rattle.blocks.specs.Window.{planeSide, planeW, planeH, frameSizesOk, frameNamesOk, LentPlane, lentW, lentH, before, after, Asked, windowTests}
-use Rattle.blocks.specs.Window.{areaOf, inside, isPlanes, ownPlane, windowAt, windowOf, scratchOf, partOf, rowTests, rowAt, PartAnswer, WindowAnswer}
-use Rattle.blocks.proofs.Laws.Calls.Refuse.{size-met, done}
+use Rattle.blocks.specs.Window.{planeW, planeH}
+use Rattle.blocks.specs.Window.{inside, ownPlane, rowTests, PartAnswer, WindowAnswer}
 use Rattle.blocks.proofs.Laws.Window.Ready.{side-le, met-window, window-number}
 use Rattle.blocks.proofs.Laws.Window.Holds.{part-pixel}
 use Rattle.blocks.proofs.Laws.Window.Rows.{met-row}

@@ -1,30 +1,20 @@
 -- Windows: their margins, their tests in two parts, and what number 0 gives. Assumes nothing.
-use mathlib.Core.Path.{_≡_, refl, sym, ap, _∙_}
-use mathlib.Core.Bool.{Bool, true, false, _&&_}
-use mathlib.Core.List.{List, [], _∷_}
-use Prim.Native.Nat.{ℕ, zero, suc, _+_, _*_, _^_, _≤_}
-use native.Mathlib.Omega.{arith}
-use borrow.Author.Tests.{leb-true}
-use lib.Dec.{leb, eqb}
-use lib.IntN.{ℤ, pos, natAbs}
-use lib.ListN.{length}
-use mir.Syntax.{w64}
-use mir.Val.{SFits}
-use Rattle.rows.specs.Numbers.{up}
-use Rattle.rows.specs.Places.{rowOf, pick, fill}
+use Rattle.blocks.proofs.Usual.{true, Bool, false, _&&_, List, [], _∷_, _≡_, _∙_, refl, sym, ap, ℕ, _≤_, _*_, _+_, _^_, suc, zero, arith, leb-true, leb}
+use Rattle.blocks.proofs.Usual.{eqb, pos, ℤ, natAbs, length, w64, SFits, up, fill, rowOf, lowest, Test, _asks_, blockSide, stride, size, number, read}
+use Rattle.blocks.proofs.Usual.{written, holds, strideOk, sizeOk, orSame, LentPlane, windowTests, areaOf, Asked, lentW, lentH, before, frameNamesOk}
+use Rattle.blocks.proofs.Usual.{after, windowOf, frameSizesOk, planeSide, isPlanes, windowAt, scratchOf, and-true, length-rowOf, fit-abs, rows-met, done}
+use Rattle.blocks.proofs.Usual.{refused, all-met, later, sooner, holds-met, size-met}
+use Rattle.rows.specs.Places.{pick}
 use Rattle.rows.specs.Edge.{edge}
-use Rattle.rows.proofs.Laws.Numbers.Signed.{abs-sub, fit-abs}
-use Rattle.rows.proofs.Laws.Blocks.Places.{length-rowOf}
-use Rattle.rows.proofs.Laws.Blocks.Fill.{and-true}
-use Rattle.blocks.specs.Refuse.{Test, size, stride, number, read, written, _asks_, lowest, orSame, sizeOk, blockSide, strideOk, partLen, holds, holdsAll}
+use Rattle.rows.proofs.Laws.Numbers.Signed.{abs-sub}
+use Rattle.blocks.specs.Refuse.{partLen, holdsAll}
 use Rattle.blocks.specs.Edge.{placeOk}
 use Rattle.blocks.specs.inner.Ready.{Fetch}
-use Rattle.blocks.specs.Window.{planeW, planeH, planeSide, frameSizesOk, frameNamesOk, LentPlane, lentW, lentH, eightTaps, before, after, windowSide}
-use Rattle.blocks.specs.Window.{windowStart, Asked, windowTests, areaOf, isPlanes, ownPlane, windowAt, noPart, windowOf, fetched, scratchOf}
+use Rattle.blocks.specs.Window.{planeW, planeH, eightTaps, windowSide}
+use Rattle.blocks.specs.Window.{windowStart, ownPlane, noPart, fetched}
 use Rattle.blocks.specs.Window.{PartAnswer}
 use Rattle.blocks.specs.inner.Window.{areaAt, areaFetched}
-use Rattle.blocks.proofs.Laws.Calls.Refuse.{Met, all-met, met-all, later, sooner, size-met, holds-met, done, refused}
-use Rattle.blocks.proofs.Laws.Calls.Ready.{rows-met}
+use Rattle.blocks.proofs.Laws.Calls.Refuse.{Met, met-all}
 use Rattle.blocks.proofs.Laws.Edge.Ready.{place-met}
 use Rattle.blocks.specs.declared.frame.Area.{Area}
 use Rattle.blocks.specs.declared.frame.Frame.{Frame}

@@ -1,21 +1,11 @@
 -- A row of a plane: what its number 0 gives. Assumes nothing.
-use mathlib.Core.Path.{_≡_, refl}
-use mathlib.Core.Bool.{true, false, _&&_}
-use Prim.Native.Nat.{ℕ, zero, suc, _+_, _*_, _≤_}
-use native.Mathlib.Omega.{arith}
-use borrow.Author.Tests.{ltb-true, le-leb}
-use lib.Dec.{ltb}
-use lib.IntN.{ℤ, pos, negsuc}
-use lib.ListN.{length}
-use lib.Signed.{leZ, ltZ}
-use Rattle.rows.specs.Numbers.{up}
-use Rattle.rows.proofs.Laws.Numbers.Signed.{le-yes, lt-yes, lt-no, one-part}
-use Rattle.rows.proofs.Laws.Blocks.Fill.{and-true}
-use Rattle.rows.proofs.Laws.Blocks.Places.{row-fits}
-use Rattle.blocks.specs.Refuse.{lowest, orSame, strideOk, holds}
+use Rattle.blocks.proofs.Usual.{true, false, _&&_, _≡_, refl, ℕ, _≤_, _*_, _+_, suc, zero, arith, le-leb, ltb-true, ltb, pos, ℤ, negsuc, length, leZ}
+use Rattle.blocks.proofs.Usual.{ltZ, up, lowest, holds, strideOk, orSame, LentPlane, lentW, lentH, frameNamesOk, frameSizesOk, rowAt, and-true, row-fits}
+use Rattle.blocks.proofs.Usual.{one-part, le-yes, all-met, holds-met}
+use Rattle.rows.proofs.Laws.Numbers.Signed.{lt-yes, lt-no}
 use Rattle.blocks.specs.inner.Ready.{PartIn}
-use Rattle.blocks.specs.Window.{frameSizesOk, frameNamesOk, LentPlane, lentW, lentH, rowTests, noPart, rowAt}
-use Rattle.blocks.proofs.Laws.Calls.Refuse.{all-met, met-all, holds-met}
+use Rattle.blocks.specs.Window.{rowTests, noPart}
+use Rattle.blocks.proofs.Laws.Calls.Refuse.{met-all}
 
 -- ---- a row below 0 is none of h rows, and another is where it is below h
 pub below-none : (row : ℤ) (h : ℕ) → ltZ row (pos 0) ≡ true → false ≡ leZ (pos 0) row && ltZ row (pos h)

@@ -1,12 +1,5 @@
 -- A depth that passed its test is 8. Assumes nothing.
-use mathlib.Core.Path.{_≡_, refl, sym, subst}
-use mathlib.Core.Bool.{true}
-use Prim.Native.Nat.{ℕ}
-use native.Mathlib.Omega.{arith}
-use borrow.Author.Tests.{eqb-true}
-use lib.IntN.{ℤ}
-use Rattle.rows.specs.Numbers.{up}
-use Rattle.rows.specs.Depth.{bitsOf, biasOf, maxOf}
+use Rattle.blocks.proofs.Usual.{true, _≡_, refl, sym, subst, ℕ, arith, eqb-true, ℤ, bitsOf, maxOf, biasOf, up}
 use Rattle.rows.specs.inner.bytes.Pixel.{BitsOk, BiasOk, MaxOk}
 use Rattle.blocks.specs.bytes.Depth.{depthOk}
 use Rattle.blocks.specs.inner.Ready.{DepthRange}

@@ -1,14 +1,7 @@
 -- A depth that passed its test is 10 or 12. Assumes nothing.
-use mathlib.Core.Path.{_≡_, refl}
-use mathlib.Core.Bool.{Bool, true, false, _||_}
-use mathlib.Core.Logic.{inl, inr}
-use Prim.Native.Nat.{ℕ}
-use native.Mathlib.Omega.{arith}
-use borrow.Author.Tests.{eqb-true}
-use lib.Dec.{eqb}
-use lib.IntN.{ℤ}
-use Rattle.rows.specs.Numbers.{up}
-use Rattle.rows.specs.Depth.{bitsOf, biasOf, maxOf}
+use Rattle.blocks.proofs.Usual.{true, Bool, false, inr, _≡_, refl, ℕ, arith, eqb-true, eqb, ℤ, bitsOf, maxOf, biasOf, up}
+use mathlib.Core.Bool.{_||_}
+use mathlib.Core.Logic.{inl}
 use Rattle.rows.specs.inner.Depth.{HighDepth}
 use Rattle.rows.specs.inner.words.Pixel.{BitsOk, BiasOk, MaxOk}
 use Rattle.rows.proofs.Laws.Numbers.Depth.{high}

@@ -1,11 +1,6 @@
-use mathlib.Core.Path.{sym, _∙_}
-use native.Mathlib.Omega.{arith}
-use borrow.Author.Needs.{needs}
-use Rattle.rows.proofs.Laws.Numbers.Signed.{back}
-use Rattle.blocks.specs.inner.Ready.{Block}
+use Rattle.blocks.proofs.Usual.{_∙_, sym, arith, needs, Block, back}
 use Rattle.blocks.proofs.Laws.Bilinear.Ready.{reads-holds}
 use Rattle.blocks.proofs.Laws.Calls.Ready.{sizes-stop, sizes-pass, sizes-block}
-use Rattle.blocks.proofs.bilinear.check_bilin.Statement.{statement}
 use Rattle.blocks.proofs.bilinear.check_bilin.Tie as tie
 
 block : (c : tie.Else1) → let a = c .before .before .args in Block (a .w) (a .h)
@@ -39,7 +34,7 @@ returns-2 c =
     )
     (sizes-pass _ _ _ (sym (t .before .sizes .ensures) ∙ t .if1 .left))
 
-pub check-bilin-spec : {M : Type 1} → statement M
+pub check-bilin-spec : {M : Type 1} → Rattle.blocks.proofs.bilinear.check_bilin.Statement.statement M
 check-bilin-spec =
     tie.close
     (tie.spec

@@ -1,13 +1,5 @@
-use mathlib.Core.Path.{_≡_, ap, _∙_}
-use mathlib.Core.Bool.{true}
-use native.Mathlib.Omega.{arith}
-use borrow.Author.Needs.{needs}
-use lib.IntN.{ℤ, pos, negsuc, _-ℤ_}
-use lib.Signed.{mag, ltZ}
-use mir.Syntax.{w32}
-use mir.Val.{SFits, toZ, ofZ}
-use Rattle.rows.proofs.Laws.Numbers.Signed.{signed, rd, back, backs, fit, flip, below}
-use Rattle.blocks.proofs.blend.absolute.Statement.{statement}
+use Rattle.blocks.proofs.Usual.{true, _≡_, _∙_, ap, arith, needs, pos, ℤ, negsuc, _-ℤ_, mag, ltZ, w32, SFits, toZ, ofZ, back, fit, rd, signed}
+use Rattle.rows.proofs.Laws.Numbers.Signed.{backs, flip, below}
 use Rattle.blocks.proofs.blend.absolute.Tie as tie
 
 under : (c : tie.Then1) → ltZ (c .before .args .v) (pos 0) ≡ true
@@ -20,7 +12,7 @@ minus c = ap (λ (z : ℤ). negsuc 0 -ℤ z) (back (c .before .fits .v)) ∙ fli
 fits : (c : tie.Then1) → SFits w32 (pos (mag (c .before .args .v)))
 fits c = fit w32 (c .before .fits .v .sfits)
 
-pub absolute-spec : {M : Type 1} → statement M
+pub absolute-spec : {M : Type 1} → Rattle.blocks.proofs.blend.absolute.Statement.statement M
 absolute-spec =
     tie.close
     (tie.spec (λ c. rw (minus c) (fits c)) (λ c. rw (backs w32 (minus c) (fits c)) (omega (signed, fits c)))  -- (-1 - v) as u32

@@ -1,5 +1,4 @@
-use borrow.Author.Needs.{needs}
-use Rattle.blocks.proofs.blend.check_blend.Statement.{statement}
+use Rattle.blocks.proofs.Usual.{needs}
 use Rattle.blocks.proofs.blend.check_blend.Tie as tie
 
 returns : tie.Need-returns
@@ -12,7 +11,7 @@ returns c =
       c .before .before .before .before .held .ensures,
     )
 
-pub check-blend-spec : {M : Type 1} → statement M
+pub check-blend-spec : {M : Type 1} → Rattle.blocks.proofs.blend.check_blend.Statement.statement M
 check-blend-spec =
     tie.close
     (tie.spec

@@ -1,6 +1,4 @@
-use borrow.Author.Needs.{needs}
-use Rattle.rows.proofs.Laws.Numbers.Signed.{back}
-use Rattle.blocks.proofs.blend.check_morph.Statement.{statement}
+use Rattle.blocks.proofs.Usual.{needs, back}
 use Rattle.blocks.proofs.blend.check_morph.Tie as tie
 
 returns : tie.Need-returns
@@ -19,7 +17,7 @@ returns c =
       back (t .fits .beta),
     )
 
-pub check-morph-spec : {M : Type 1} → statement M
+pub check-morph-spec : {M : Type 1} → Rattle.blocks.proofs.blend.check_morph.Statement.statement M
 check-morph-spec =
     tie.close
     (tie.spec

@@ -1,13 +1,7 @@
-use native.Mathlib.Omega.{arith}
-use native.Mathlib.Nat.{suc-mul, zero-mul, mul-comm}
-use Prim.Native.Nat.{_+_, _-_, _*_, _≤_}
-use mathlib.Core.Path.{_≡_, refl}
-use lib.ListN.{length}
-use borrow.Author.Needs.{needs}
+use Rattle.blocks.proofs.Usual.{_≡_, refl, _≤_, _*_, _+_, _-_, mul-comm, arith, needs, length, row-in}
+use native.Mathlib.Nat.{suc-mul, zero-mul}
 use Rattle.rows.specs.inner.Combine.{AtMost}
-use Rattle.blocks.proofs.Laws.Loops.Rows.{row-in}
 use Rattle.blocks.proofs.Laws.Blend.Above.{at-most-more, spot-found, spot-none}
-use Rattle.blocks.proofs.blend.find_above.Statement.{statement}
 use Rattle.blocks.proofs.blend.find_above.Tie as tie
 
 -- in a row, all before its column col are at most 64
@@ -55,7 +49,7 @@ returns-2 c =
     spot-found (s .before .args .mask .now) (s .before .args .w) (s .before .args .h) (s .search .row) (t .before .loop .col) (t .before .loop .inv .1)
     (t .before .before .search-test .taken) (t .loop-test .taken) (c .if1 .taken)
 
-pub find-above-spec : {M : Type 1} → statement M
+pub find-above-spec : {M : Type 1} → Rattle.blocks.proofs.blend.find_above.Statement.statement M
 find-above-spec =
     tie.close
     (tie.spec Inv-loop μ-loop

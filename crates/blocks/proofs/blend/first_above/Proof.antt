@@ -1,10 +1,6 @@
-use native.Mathlib.Omega.{arith}
-use Prim.Native.Nat.{_*_, _≤_}
-use lib.ListN.{length}
-use borrow.Author.Needs.{needs}
+use Rattle.blocks.proofs.Usual.{_≤_, _*_, arith, needs, length}
 use Rattle.blocks.proofs.Laws.Loops.Gapless.{gapless-all}
 use Rattle.blocks.proofs.Laws.Blend.Above.{at-most-wider, spot-none}
-use Rattle.blocks.proofs.blend.first_above.Statement.{statement}
 use Rattle.blocks.proofs.blend.first_above.Tie as tie
 
 -- the block's places are within the mask
@@ -19,7 +15,7 @@ returns c =
     let m = c .before .largest in
     spot-none l (t .args .w) (t .args .h) (at-most-wider (m .result) l 64 n (c .if1 .taken) (m .ensures)) (t .pre .0 .w1)
 
-pub first-above-spec : {M : Type 1} → statement M
+pub first-above-spec : {M : Type 1} → Rattle.blocks.proofs.blend.first_above.Statement.statement M
 first-above-spec =
     tie.close
     (tie.spec

@@ -1,9 +1,6 @@
-use native.Mathlib.Omega.{arith}
-use Prim.Native.Nat.{_-_, _≤_}
-use borrow.Author.Needs.{needs}
+use Rattle.blocks.proofs.Usual.{_≤_, _-_, arith, needs}
 use Rattle.rows.specs.inner.Combine.{AtMost}
 use Rattle.blocks.proofs.Laws.Blend.Above.{at-most-none, at-most-more, at-most-wider}
-use Rattle.blocks.proofs.blend.largest.Statement.{statement}
 use Rattle.blocks.proofs.blend.largest.Tie as tie
 
 abbrev Inv-loop : tie.InvT-loop
@@ -19,7 +16,7 @@ loop-again c =
     let w = at-most-wider (t .loop .m) l (c .larger .result) (t .loop .i) (c .larger .ensures .0) (t .loop .inv .1) in
     (omega arith, at-most-more (c .larger .result) l (t .loop .i) w (c .larger .ensures .1))
 
-pub largest-spec : {M : Type 1} → statement M
+pub largest-spec : {M : Type 1} → Rattle.blocks.proofs.blend.largest.Statement.statement M
 largest-spec =
     tie.close
     (tie.spec Inv-loop μ-loop

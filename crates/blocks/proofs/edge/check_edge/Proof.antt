@@ -1,6 +1,5 @@
-use borrow.Author.Needs.{needs}
+use Rattle.blocks.proofs.Usual.{needs}
 use Rattle.blocks.proofs.Laws.Calls.Told.{left-passed, top-passed}
-use Rattle.blocks.proofs.edge.check_edge.Statement.{statement}
 use Rattle.blocks.proofs.edge.check_edge.Tie as tie
 
 returns : tie.Need-returns
@@ -18,7 +17,7 @@ returns c =
       top-passed a (t .struct-told .given),
     )
 
-pub check-edge-spec : {M : Type 1} → statement M
+pub check-edge-spec : {M : Type 1} → Rattle.blocks.proofs.edge.check_edge.Statement.statement M
 check-edge-spec =
     tie.close
     (tie.spec

@@ -1,13 +1,5 @@
-use borrow.Author.Needs.{needs}
-use mathlib.Core.Path.{ap, _∙_}
-use Prim.Native.Nat.{_-_}
-use native.Mathlib.Omega.{arith}
-use lib.IntN.{pos, _+ℤ_}
-use mir.Syntax.{w64}
-use Rattle.rows.specs.Numbers.{clip}
-use Rattle.rows.proofs.Laws.Numbers.Signed.{fit}
+use Rattle.blocks.proofs.Usual.{_∙_, ap, _-_, arith, needs, pos, _+ℤ_, w64, clip, fit}
 use Rattle.blocks.proofs.Laws.Edge.Ready.{Below, below, clip-below}
-use Rattle.blocks.proofs.edge.nearest_row.Statement.{statement}
 use Rattle.blocks.proofs.edge.nearest_row.Tie as tie
 
 row : (c : tie.Start) → Below (c .args .y) (c .args .j)
@@ -18,7 +10,7 @@ returns c =
     let s = c .before in let e = c .left-of .ensures ∙ ap (clip (s .args .ih - 1)) (row s .is) in
     (e, rw e (clip-below (s .args .ih) (s .args .y +ℤ pos (s .args .j)) (s .pre .2)))
 
-pub nearest-row-spec : {M : Type 1} → statement M
+pub nearest-row-spec : {M : Type 1} → Rattle.blocks.proofs.edge.nearest_row.Statement.statement M
 nearest-row-spec =
     tie.close
     (tie.spec

@@ -1,9 +1,7 @@
-use borrow.Author.Needs.{needs}
-use Rattle.rows.proofs.Laws.Numbers.Signed.{back}
-use Rattle.blocks.proofs.edge.places.Statement.{statement}
+use Rattle.blocks.proofs.Usual.{needs, back}
 use Rattle.blocks.proofs.edge.places.Tie as tie
 
-pub places-spec : {M : Type 1} → statement M
+pub places-spec : {M : Type 1} → Rattle.blocks.proofs.edge.places.Statement.statement M
 places-spec =
     tie.close
     (tie.spec

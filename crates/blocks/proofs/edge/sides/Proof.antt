@@ -1,8 +1,7 @@
-use borrow.Author.Needs.{needs}
-use Rattle.blocks.proofs.edge.sides.Statement.{statement}
+use Rattle.blocks.proofs.Usual.{needs}
 use Rattle.blocks.proofs.edge.sides.Tie as tie
 
-pub sides-spec : {M : Type 1} → statement M
+pub sides-spec : {M : Type 1} → Rattle.blocks.proofs.edge.sides.Statement.statement M
 sides-spec =
     tie.close
     (tie.spec

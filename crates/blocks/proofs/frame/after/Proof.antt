@@ -1,7 +1,5 @@
-use mathlib.Core.Path.{refl}
-use borrow.Author.Tests.{eq-eqb, ne-eqb}
-use Rattle.blocks.specs.Window.{after}
-use Rattle.blocks.proofs.frame.after.Statement.{statement}
+use Rattle.blocks.proofs.Usual.{refl, ne-eqb, after}
+use borrow.Author.Tests.{eq-eqb}
 use Rattle.blocks.proofs.frame.after.Tie as tie
 
 returns : tie.Need-returns
@@ -16,5 +14,5 @@ returns-3 : tie.Need-returns-3
 unfolding after
 returns-3 c = rw (c .before .if1 .left, ne-eqb _ 2 (c .if2 .left)) refl
 
-pub after-spec : {M : Type 1} → statement M
+pub after-spec : {M : Type 1} → Rattle.blocks.proofs.frame.after.Statement.statement M
 after-spec = tie.close (tie.spec returns returns-2 returns-3)

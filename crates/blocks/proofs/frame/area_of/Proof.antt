@@ -1,11 +1,7 @@
-use mathlib.Core.Path.{_≡_, refl}
-use borrow.Author.Needs.{needs}
-use mir.Syntax.{w64}
-use mir.Val.{toZ, ofZ}
-use Rattle.rows.proofs.Laws.Numbers.Signed.{back, backs}
+use Rattle.blocks.proofs.Usual.{_≡_, refl, needs, w64, toZ, ofZ, back}
+use Rattle.rows.proofs.Laws.Numbers.Signed.{backs}
 use Rattle.blocks.specs.Window.{windowStart}
 use Rattle.blocks.proofs.Laws.Window.Ready.{start-fits}
-use Rattle.blocks.proofs.frame.area_of.Statement.{statement}
 use Rattle.blocks.proofs.frame.area_of.Tie as tie
 
 left-is : (c : tie.After-window-start) →
@@ -25,7 +21,7 @@ returns c plane mode =
     let l = c .before in let p = l .before in let t = p .before .before in
     rw (top-is c, left-is l, p .plane-h .ensures, p .before .plane-w .ensures, t .window-side2 .ensures, t .before .window-side .ensures) refl
 
-pub area-of-spec : {M : Type 1} → statement M
+pub area-of-spec : {M : Type 1} → Rattle.blocks.proofs.frame.area_of.Statement.statement M
 area-of-spec =
     tie.close
     (tie.spec

@@ -1,7 +1,5 @@
-use mathlib.Core.Path.{sym}
-use borrow.Author.Needs.{needs}
+use Rattle.blocks.proofs.Usual.{sym, needs}
 use Rattle.blocks.proofs.Laws.Window.OddPictures.{chroma-never-empty}
-use Rattle.blocks.proofs.frame.frame_sizes_ok.Statement.{statement}
 use Rattle.blocks.proofs.frame.frame_sizes_ok.Tie as tie
 
 returns : tie.Need-returns
@@ -9,7 +7,7 @@ returns c =
     let s = c .before .before in
     rw (c .size-ok2 .ensures, c .before .size-ok .ensures) (sym (chroma-never-empty (s .args .f) (s .args .plane-no)))
 
-pub frame-sizes-ok-spec : {M : Type 1} → statement M
+pub frame-sizes-ok-spec : {M : Type 1} → Rattle.blocks.proofs.frame.frame_sizes_ok.Statement.statement M
 frame-sizes-ok-spec =
     tie.close
     (tie.spec

@@ -1,8 +1,7 @@
-use borrow.Author.Needs.{needs}
-use Rattle.blocks.proofs.frame.plane_h.Statement.{statement}
+use Rattle.blocks.proofs.Usual.{needs}
 use Rattle.blocks.proofs.frame.plane_h.Tie as tie
 
-pub plane-h-spec : {M : Type 1} → statement M
+pub plane-h-spec : {M : Type 1} → Rattle.blocks.proofs.frame.plane_h.Statement.statement M
 plane-h-spec =
     tie.close
     (tie.spec

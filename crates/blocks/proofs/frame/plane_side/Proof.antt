@@ -1,7 +1,4 @@
-use mathlib.Core.Path.{refl}
-use native.Mathlib.Omega.{arith}
-use Rattle.blocks.specs.Window.{planeSide}
-use Rattle.blocks.proofs.frame.plane_side.Statement.{statement}
+use Rattle.blocks.proofs.Usual.{refl, arith, planeSide}
 use Rattle.blocks.proofs.frame.plane_side.Tie as tie
 
 returns : tie.Need-returns
@@ -12,7 +9,7 @@ returns-2 : tie.Need-returns-2
 unfolding planeSide
 returns-2 c = rw (c .if1 .left) refl
 
-pub plane-side-spec : {M : Type 1} → statement M
+pub plane-side-spec : {M : Type 1} → Rattle.blocks.proofs.frame.plane_side.Statement.statement M
 plane-side-spec =
     tie.close
     (tie.spec

@@ -1,8 +1,7 @@
-use borrow.Author.Needs.{needs}
-use Rattle.blocks.proofs.frame.plane_w.Statement.{statement}
+use Rattle.blocks.proofs.Usual.{needs}
 use Rattle.blocks.proofs.frame.plane_w.Tie as tie
 
-pub plane-w-spec : {M : Type 1} → statement M
+pub plane-w-spec : {M : Type 1} → Rattle.blocks.proofs.frame.plane_w.Statement.statement M
 plane-w-spec =
     tie.close
     (tie.spec

@@ -1,11 +1,8 @@
-use mathlib.Core.Path.{refl}
-use native.Mathlib.Omega.{arith}
-use borrow.Author.Needs.{needs}
+use Rattle.blocks.proofs.Usual.{refl, arith, needs}
 use Rattle.blocks.proofs.Laws.Window.Ready.{margins}
-use Rattle.blocks.proofs.frame.window_side.Statement.{statement}
 use Rattle.blocks.proofs.frame.window_side.Tie as tie
 
-pub window-side-spec : {M : Type 1} → statement M
+pub window-side-spec : {M : Type 1} → Rattle.blocks.proofs.frame.window_side.Statement.statement M
 window-side-spec =
     tie.close
     (tie.spec

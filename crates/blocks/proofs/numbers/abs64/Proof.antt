@@ -1,13 +1,6 @@
 -- -1 - v always fits, and is the magnitude of a v below 0.
-use mathlib.Core.Path.{_≡_}
-use native.Mathlib.Omega.{arith}
-use lib.IntN.{ℤ, pos}
-use lib.Signed.{mag, ltZ}
-use mathlib.Core.Bool.{true}
-use mir.Syntax.{w64}
-use mir.Val.{SFits}
-use Rattle.rows.proofs.Laws.Numbers.Signed.{back, flip, below, above, abs-mag}
-use Rattle.blocks.proofs.numbers.abs64.Statement.{statement}
+use Rattle.blocks.proofs.Usual.{true, _≡_, arith, pos, ℤ, mag, ltZ, w64, SFits, back}
+use Rattle.rows.proofs.Laws.Numbers.Signed.{flip, below, above, abs-mag}
 use Rattle.blocks.proofs.numbers.abs64.Tie as tie
 
 module _ (c : tie.Then1) where
@@ -26,7 +19,7 @@ cast-result-2 c =
     let e = above (c .before .args .v) (rw (back f) at (c .if1 .left)) in
     rw (back f) (rw e tt, omega (arith, abs-mag (c .before .args .v)))
 
-pub abs64-spec : {M : Type 1} → statement M
+pub abs64-spec : {M : Type 1} → Rattle.blocks.proofs.numbers.abs64.Statement.statement M
 abs64-spec =
     tie.close
     (tie.spec

@@ -1,8 +1,7 @@
-use Rattle.rows.proofs.Laws.Numbers.Signed.{signed, rd}
-use Rattle.blocks.proofs.numbers.on_axis.Statement.{statement}
+use Rattle.blocks.proofs.Usual.{rd, signed}
 use Rattle.blocks.proofs.numbers.on_axis.Tie as tie
 
-pub on-axis-spec : {M : Type 1} → statement M
+pub on-axis-spec : {M : Type 1} → Rattle.blocks.proofs.numbers.on_axis.Statement.statement M
 on-axis-spec =
     tie.close
     (tie.spec

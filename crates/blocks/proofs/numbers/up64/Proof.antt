@@ -1,8 +1,7 @@
-use Rattle.rows.proofs.Laws.Numbers.Signed.{signed, rd}
-use Rattle.blocks.proofs.numbers.up64.Statement.{statement}
+use Rattle.blocks.proofs.Usual.{rd, signed}
 use Rattle.blocks.proofs.numbers.up64.Tie as tie
 
-pub up64-spec : {M : Type 1} → statement M
+pub up64-spec : {M : Type 1} → Rattle.blocks.proofs.numbers.up64.Statement.statement M
 up64-spec =
     tie.close
     (tie.spec

@@ -1,16 +1,6 @@
-use mathlib.Core.Path.{_≡_, sym, _∙_}
-use mathlib.Core.List.{List, []}
-use Prim.Native.Nat.{ℕ}
-use mir.Syntax.{w64}
-use borrow.Author.Needs.{needs}
-use Rattle.blocks.specs.Refuse.{lowest}
-use Rattle.blocks.specs.Window.{LentPlane}
-use Rattle.blocks.specs.Order.{Tables, Setting}
-use Rattle.blocks.specs.inner.Window.{lentOf}
+use Rattle.blocks.proofs.Usual.{List, [], _≡_, _∙_, sym, ℕ, needs, w64, Setting, Tables, lowest, LentPlane, lentOf, told-back}
 use Rattle.blocks.specs.inner.Order.{settingOf}
-use Rattle.blocks.proofs.Laws.Calls.Told.{told-back}
 use Rattle.blocks.proofs.Laws.Order.Ready.{shapeTests, numberTests, shape-met, numbers-met, shape-block, shape-stop, numbers-stop, order-go}
-use Rattle.blocks.proofs.order.check_order.Statement.{statement}
 use Rattle.blocks.proofs.order.check_order.Tie as tie
 
 -- the plane that is lent. The first two parts of the tests read none of its places
@@ -67,7 +57,7 @@ returns-3 c depth plane tables l t =
     rw (c .order-tables .ensures, c .before .window-held .ensures, c .before .before .kind-number .ensures, h .held .ensures, ← l, ← t)
     (order-go (tested (e .before .before) depth plane tables) _ _ _ _ _ (none e) (no-number n))
 
-pub check-order-spec : {M : Type 1} → statement M
+pub check-order-spec : {M : Type 1} → Rattle.blocks.proofs.order.check_order.Statement.statement M
 check-order-spec =
     tie.close
     (tie.spec

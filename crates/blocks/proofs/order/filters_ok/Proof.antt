@@ -1,9 +1,6 @@
-use borrow.Author.Needs.{needs}
-use mathlib.Core.Path.{refl}
-use Rattle.blocks.specs.Order.{filtersOk}
+use Rattle.blocks.proofs.Usual.{refl, needs, filtersOk}
 use Rattle.blocks.proofs.Laws.Order.Kinds.{subpel-passed}
 use Rattle.blocks.proofs.Laws.Order.Ready.{warp-near}
-use Rattle.blocks.proofs.order.filters_ok.Statement.{statement}
 use Rattle.blocks.proofs.order.filters_ok.Tie as tie
 
 filters-there-requires : tie.Need-filters-there-requires
@@ -31,7 +28,7 @@ returns-4 c =
     let k = c .before .before in
     rw (k .k2 .given .1, c .filters-there .ensures)
 
-pub filters-ok-spec : {M : Type 1} → statement M
+pub filters-ok-spec : {M : Type 1} → Rattle.blocks.proofs.order.filters_ok.Statement.statement M
 filters-ok-spec =
     tie.close
     (tie.spec

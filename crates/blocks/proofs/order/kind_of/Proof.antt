@@ -1,8 +1,4 @@
-use mathlib.Core.Path.{refl}
-use borrow.Author.Tests.{ne-eqb}
-use Rattle.rows.proofs.Laws.Numbers.Signed.{back}
-use Rattle.blocks.specs.Order.{kindOf}
-use Rattle.blocks.proofs.order.kind_of.Statement.{statement}
+use Rattle.blocks.proofs.Usual.{refl, ne-eqb, kindOf, back}
 use Rattle.blocks.proofs.order.kind_of.Tie as tie
 
 returns : tie.Need-returns
@@ -23,5 +19,5 @@ returns-4 : tie.Need-returns-4
 unfolding kindOf
 returns-4 c = rw (ne-eqb _ _ (c .before .before .if1 .left), ne-eqb _ _ (c .before .if2 .left), ne-eqb _ _ (c .if3 .left)) refl
 
-pub kind-of-spec : {M : Type 1} → statement M
+pub kind-of-spec : {M : Type 1} → Rattle.blocks.proofs.order.kind_of.Statement.statement M
 kind-of-spec = tie.close (tie.spec returns returns-2 returns-3 returns-4)

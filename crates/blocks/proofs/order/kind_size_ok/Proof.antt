@@ -1,7 +1,4 @@
-use borrow.Author.Needs.{needs}
-use mathlib.Core.Path.{refl}
-use Rattle.blocks.specs.Order.{kindSizeOk}
-use Rattle.blocks.proofs.order.kind_size_ok.Statement.{statement}
+use Rattle.blocks.proofs.Usual.{refl, needs, kindSizeOk}
 use Rattle.blocks.proofs.order.kind_size_ok.Tie as tie
 
 returns : tie.Need-returns
@@ -20,7 +17,7 @@ returns-4 : tie.Need-returns-4
 unfolding kindSizeOk
 returns-4 c = rw (c .enum-told4 .given .1) refl
 
-pub kind-size-ok-spec : {M : Type 1} → statement M
+pub kind-size-ok-spec : {M : Type 1} → Rattle.blocks.proofs.order.kind_size_ok.Statement.statement M
 kind-size-ok-spec =
     tie.close
     (tie.spec

@@ -1,9 +1,6 @@
-use borrow.Author.Needs.{needs}
-use mathlib.Core.Path.{refl}
-use Rattle.blocks.specs.Order.{motionOk}
+use Rattle.blocks.proofs.Usual.{refl, needs, motionOk}
 use Rattle.blocks.specs.Warp.{warpPlaceOk}
 use Rattle.blocks.proofs.Laws.Order.Kinds.{subpel-passed, bilin-passed, warp-passed}
-use Rattle.blocks.proofs.order.motion_ok.Statement.{statement}
 use Rattle.blocks.proofs.order.motion_ok.Tie as tie
 
 returns : tie.Need-returns
@@ -33,7 +30,7 @@ returns-4 c =
     let x = c .before .before in let s = x .before in
     rw (warp-passed (s .before .before .k3 .given .1) (s .struct-told6 .given), x .within .ensures, c .within2 .ensures)
 
-pub motion-ok-spec : {M : Type 1} → statement M
+pub motion-ok-spec : {M : Type 1} → Rattle.blocks.proofs.order.motion_ok.Statement.statement M
 motion-ok-spec =
     tie.close
     (tie.spec

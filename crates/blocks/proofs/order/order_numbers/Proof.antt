@@ -1,6 +1,4 @@
-use borrow.Author.Needs.{needs}
-use Rattle.rows.proofs.Laws.Numbers.Signed.{back}
-use Rattle.blocks.proofs.order.order_numbers.Statement.{statement}
+use Rattle.blocks.proofs.Usual.{needs, back}
 use Rattle.blocks.proofs.order.order_numbers.Tie as tie
 
 returns : tie.Need-returns
@@ -18,7 +16,7 @@ returns c =
       back (s .fits .y),
     )
 
-pub order-numbers-spec : {M : Type 1} → statement M
+pub order-numbers-spec : {M : Type 1} → Rattle.blocks.proofs.order.order_numbers.Statement.statement M
 order-numbers-spec =
     tie.close
     (tie.spec

@@ -1,5 +1,4 @@
-use borrow.Author.Needs.{needs}
-use Rattle.blocks.proofs.order.order_shape.Statement.{statement}
+use Rattle.blocks.proofs.Usual.{needs}
 use Rattle.blocks.proofs.order.order_shape.Tie as tie
 
 returns : tie.Need-returns
@@ -16,7 +15,7 @@ returns c =
       t .stride .ensures,
     )
 
-pub order-shape-spec : {M : Type 1} → statement M
+pub order-shape-spec : {M : Type 1} → Rattle.blocks.proofs.order.order_shape.Statement.statement M
 order-shape-spec =
     tie.close
     (tie.spec

@@ -1,7 +1,4 @@
-use mathlib.Core.Path.{refl}
-use borrow.Author.Needs.{needs}
-use Rattle.rows.proofs.Laws.Numbers.Signed.{back}
-use Rattle.blocks.proofs.plane_row.check_row.Statement.{statement}
+use Rattle.blocks.proofs.Usual.{refl, needs, back}
 use Rattle.blocks.proofs.plane_row.check_row.Tie as tie
 
 returns : tie.Need-returns
@@ -23,7 +20,7 @@ returns c plane long =
       ← long,
     ) refl
 
-pub check-row-spec : {M : Type 1} → statement M
+pub check-row-spec : {M : Type 1} → Rattle.blocks.proofs.plane_row.check_row.Statement.statement M
 check-row-spec =
     tie.close
     (tie.spec

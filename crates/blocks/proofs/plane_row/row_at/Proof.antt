@@ -1,18 +1,7 @@
-use borrow.Author.Needs.{needs}
-use mathlib.Core.Path.{_≡_, sym, ap, _∙_}
-use mathlib.Core.List.{List}
-use Prim.Native.Nat.{ℕ}
-use native.Mathlib.Omega.{arith}
-use lib.ListN.{length}
-use Rattle.rows.specs.Numbers.{up}
-use Rattle.rows.proofs.Laws.Numbers.Signed.{back}
-use Rattle.blocks.specs.Refuse.{lowest}
-use Rattle.blocks.specs.Window.{rowTests, rowAt}
-use Rattle.blocks.specs.inner.Window.{lentOf}
-use Rattle.blocks.proofs.Laws.Calls.Refuse.{done}
+use Rattle.blocks.proofs.Usual.{List, _≡_, _∙_, sym, ap, ℕ, arith, needs, length, up, lowest, rowAt, lentOf, back, done}
+use Rattle.blocks.specs.Window.{rowTests}
 use Rattle.blocks.proofs.Laws.Window.Ready.{plane-of, no-part-of}
 use Rattle.blocks.proofs.Laws.Window.Rows.{row-there}
-use Rattle.blocks.proofs.plane_row.row_at.Statement.{statement}
 use Rattle.blocks.proofs.plane_row.row_at.Tie as tie
 
 -- what the check answered is the number of the contract, of every plane of as many places
@@ -39,7 +28,7 @@ returns-2 c plane l =
     let e = c .before .before .before in
     rw (row-is (c .before), c .plane-w .ensures) (sym (done _ _ _ (sym (is (e .before) plane l) ∙ e .if1 .left)))
 
-pub row-at-spec : {M : Type 1} → statement M
+pub row-at-spec : {M : Type 1} → Rattle.blocks.proofs.plane_row.row_at.Statement.statement M
 row-at-spec =
     tie.close
     (tie.spec

@@ -1,11 +1,5 @@
-use borrow.Author.Needs.{needs}
-use mathlib.Core.Path.{ap, _∙_}
-use Prim.Native.Nat.{ℕ}
-use lib.Dec.{ltb}
-use Rattle.rows.specs.Numbers.{up}
-use Rattle.rows.proofs.Laws.Numbers.Signed.{back}
+use Rattle.blocks.proofs.Usual.{_∙_, ap, ℕ, needs, ltb, up, back}
 use Rattle.blocks.proofs.Laws.Window.Rows.{below-none, from-none}
-use Rattle.blocks.proofs.plane_row.row_ok.Statement.{statement}
 use Rattle.blocks.proofs.plane_row.row_ok.Tie as tie
 
 returns : tie.Need-returns
@@ -17,7 +11,7 @@ returns-2 c =
     ap (λ (n : ℕ). ltb n (s .args .h)) (c .up64 .ensures ∙ ap up (back (s .fits .row)))
     ∙ from-none (s .args .row) (s .args .h) (rw (back (s .fits .row)) at (c .before .if1 .left))
 
-pub row-ok-spec : {M : Type 1} → statement M
+pub row-ok-spec : {M : Type 1} → Rattle.blocks.proofs.plane_row.row_ok.Statement.statement M
 row-ok-spec =
     tie.close
     (tie.spec

@@ -1,14 +1,6 @@
-use mathlib.Core.Path.{_≡_, refl, sym, _∙_}
-use Prim.Native.Nat.{ℕ, _+_, _-_, _*_, _≤_}
-use native.Mathlib.Nat.{mul-le-mul-right}
-use native.Mathlib.Omega.{arith}
-use lib.Dec.{ltb}
-use borrow.Author.Needs.{needs}
-use borrow.Author.Tests.{le-leb, lt-leb, lt-ltb, le-ltb}
-use Rattle.rows.proofs.Laws.Blocks.Places.{by-lt}
-use Rattle.blocks.specs.Refuse.{reads}
+use Rattle.blocks.proofs.Usual.{_≡_, _∙_, refl, sym, ℕ, _≤_, _*_, _+_, _-_, mul-le-mul-right, arith, needs, le-leb, le-ltb, lt-leb, lt-ltb, ltb, reads}
+use Rattle.blocks.proofs.Usual.{by-lt}
 use Rattle.blocks.proofs.Laws.Calls.Refuse.{reads-past}
-use Rattle.blocks.proofs.refuse.reads_around.Statement.{statement}
 use Rattle.blocks.proofs.refuse.reads_around.Tie as tie
 
 -- the products are small
@@ -37,7 +29,7 @@ returns-3 c =
     let a = c .before .before .args in
     rw (le-leb (a .c * a .s + a .b) (a .o) (omega arith)) (moved ((a .h - 1 + a .d) * a .s) (a .w - 1 + a .e) (a .o) (a .sl) (omega arith))
 
-pub reads-around-spec : {M : Type 1} → statement M
+pub reads-around-spec : {M : Type 1} → Rattle.blocks.proofs.refuse.reads_around.Statement.statement M
 reads-around-spec =
     tie.close
     (tie.spec

@@ -1,12 +1,9 @@
-use borrow.Author.Needs.{needs}
-use mathlib.Core.Path.{_≡_, refl}
-use native.Mathlib.Omega.{arith}
+use Rattle.blocks.proofs.Usual.{_≡_, refl, arith, needs}
 use Rattle.blocks.specs.inner.Scaled.{byParity}
 use Rattle.blocks.proofs.Laws.Scaled.Rows.{parity-even, parity-odd}
-use Rattle.blocks.proofs.scaled.by_parity.Statement.{statement}
 use Rattle.blocks.proofs.scaled.by_parity.Tie as tie
 
-pub by-parity-spec : {M : Type 1} → statement M
+pub by-parity-spec : {M : Type 1} → Rattle.blocks.proofs.scaled.by_parity.Statement.statement M
 by-parity-spec =
     tie.close
     (tie.spec

@@ -1,11 +1,6 @@
-use Prim.Native.Nat.{_+_, _-_, _%_}
-use native.Mathlib.Omega.{arith}
-use lib.IntN.{pos}
+use Rattle.blocks.proofs.Usual.{_+_, _-_, _%_, arith, pos, at, back, fit}
 use mir.Syntax.{w8}
-use Rattle.rows.specs.Numbers.{at}
-use Rattle.rows.proofs.Laws.Numbers.Signed.{back, fit}
 use Rattle.rows.proofs.Laws.Blocks.Row.{Upto, upto-none, upto-more, upto-all}
-use Rattle.blocks.proofs.scaled.by_rows.Statement.{statement}
 use Rattle.blocks.proofs.scaled.by_rows.Tie as tie
 
 abbrev Inv-loop : tie.InvT-loop
@@ -14,7 +9,7 @@ Inv-loop first f g₀ k₀ g k = Upto (pos 0) (λ t. at f ((t + 8 - first) % 8))
 abbrev μ-loop : tie.MeasureT-loop
 μ-loop first f g₀ k₀ g k = 8 - k
 
-pub by-rows-spec : {M : Type 1} → statement M
+pub by-rows-spec : {M : Type 1} → Rattle.blocks.proofs.scaled.by_rows.Statement.statement M
 by-rows-spec =
     tie.close
     (tie.spec Inv-loop μ-loop (λ c. upto-none _ _ _)

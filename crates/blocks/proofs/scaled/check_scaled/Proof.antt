@@ -1,11 +1,5 @@
-use mathlib.Core.Path.{_≡_, sym, _∙_}
-use mathlib.Core.List.{List}
-use native.Mathlib.Omega.{arith}
-use borrow.Author.Needs.{needs}
-use Rattle.blocks.specs.Refuse.{Test, lowest}
-use Rattle.blocks.proofs.Laws.Calls.Refuse.{later, sooner}
+use Rattle.blocks.proofs.Usual.{List, _≡_, _∙_, sym, arith, needs, lowest, Test, later, sooner}
 use Rattle.blocks.proofs.Laws.Scaled.Ready.{numberTests, numbers-met}
-use Rattle.blocks.proofs.scaled.check_scaled.Statement.{statement}
 use Rattle.blocks.proofs.scaled.check_scaled.Tie as tie
 
 -- the tests of the first part, and what they answer
@@ -27,7 +21,7 @@ returns-2 c =
     let r = c .before .before in
     rw (c .needed4 .ensures, r .reads-scaled .ensures, c .before .held .ensures) (later (first (r .before .before)) _ (none (r .before)))
 
-pub check-scaled-spec : {M : Type 1} → statement M
+pub check-scaled-spec : {M : Type 1} → Rattle.blocks.proofs.scaled.check_scaled.Statement.statement M
 check-scaled-spec =
     tie.close
     (tie.spec

@@ -1,12 +1,8 @@
-use mathlib.Core.Path.{_≡_, sym}
+use Rattle.blocks.proofs.Usual.{_≡_, sym, min, arith, needs}
 use mathlib.Core.Logic.{⊎-elim}
-use Prim.Native.Nat.{min}
-use native.Mathlib.Omega.{arith}
-use borrow.Author.Needs.{needs}
 use Rattle.rows.specs.Scaled.{sixteenth}
 use Rattle.blocks.specs.Scaled.{columnRead}
 use Rattle.blocks.proofs.Laws.Scaled.Ready.{column-past}
-use Rattle.blocks.proofs.scaled.column_read.Statement.{statement}
 use Rattle.blocks.proofs.scaled.column_read.Tie as tie
 
 -- 1 where the column has a filter
@@ -24,7 +20,7 @@ returns-3 : tie.Need-returns-3
 unfolding columnRead
 returns-3 c = rw (c .reads-around2 .ensures, c .before .if2 .left)
 
-pub column-read-spec : {M : Type 1} → statement M
+pub column-read-spec : {M : Type 1} → Rattle.blocks.proofs.scaled.column_read.Statement.statement M
 column-read-spec =
     tie.close
     (tie.spec

@@ -1,18 +1,12 @@
-use borrow.Author.Needs.{needs}
-use mathlib.Core.Path.{_≡_, ap, _∙_}
-use native.Mathlib.Omega.{arith}
-use Prim.Native.Nat.{ℕ, _+_, _%_}
-use Rattle.rows.specs.Numbers.{up}
-use Rattle.rows.proofs.Laws.Numbers.Signed.{rd}
+use Rattle.blocks.proofs.Usual.{_≡_, _∙_, ap, ℕ, _+_, _%_, arith, needs, up, rd}
 use Rattle.blocks.proofs.Laws.Subpel.Choice.{family-low, family-high}
-use Rattle.blocks.proofs.scaled.family_of.Statement.{statement}
 use Rattle.blocks.proofs.scaled.family_of.Tie as tie
 
 -- the type, as it is carried
 t-is : (c : tie.After-up32) → c .up32 .result ≡ up (c .before .args .filter-type)
 t-is c = omega (arith, c .up32 .ensures, rd (c .before .fits .filter-type))
 
-pub family-of-spec : {M : Type 1} → statement M
+pub family-of-spec : {M : Type 1} → Rattle.blocks.proofs.scaled.family_of.Statement.statement M
 family-of-spec =
     tie.close
     (tie.spec

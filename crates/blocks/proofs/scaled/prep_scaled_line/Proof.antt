@@ -1,13 +1,6 @@
-use borrow.Author.Needs.{needs}
-use mathlib.Core.Path.{_∙_, sym, subst}
-use native.Mathlib.Omega.{arith}
-use Prim.Native.Nat.{_<_}
+use Rattle.blocks.proofs.Usual.{_∙_, sym, subst, _<_, arith, needs, getD, w16, backn}
 use lib.Dec.{T}
-use lib.ListN.{getD}
-use mir.Syntax.{w16}
-use Rattle.rows.proofs.Laws.Numbers.Signed.{backn}
 use Rattle.blocks.proofs.Laws.Scaled.Lines.{turned-lt, prep-line-whole, prep-line-by}
-use Rattle.blocks.proofs.scaled.prep_scaled_line.Statement.{statement}
 use Rattle.blocks.proofs.scaled.prep_scaled_line.Tie as tie
 
 -- where the fourth of the eight rows stands
@@ -33,7 +26,7 @@ returns-2 c =
     ∙ prep-line-by (a .rows .now) (a .t3) (a .subpel .now) _ (a .family) _ (s .pre .2) (omega (arith, t .if1 .left)) _
     (rw (e .eight .ensures) at (r .by-rows .ensures)) (a .bias)
 
-pub prep-scaled-line-spec : {M : Type 1} → statement M
+pub prep-scaled-line-spec : {M : Type 1} → Rattle.blocks.proofs.scaled.prep_scaled_line.Statement.statement M
 prep-scaled-line-spec =
     tie.close
     (tie.spec

@@ -1,18 +1,11 @@
-use mathlib.Core.Path.{_≡_, refl, sym}
-use mathlib.Core.Bool.{Bool, true, false, not}
-use Prim.Native.Nat.{ℕ, _-_, _*_, _≤_}
+use Rattle.blocks.proofs.Usual.{true, Bool, false, _≡_, refl, sym, ℕ, _≤_, _*_, _-_, arith, needs, w32, up, told-back}
+use mathlib.Core.Bool.{not}
 use native.Mathlib.Nat.{mul-le-mul}
 use native.Mathlib.Numerals.{add-one}
-use native.Mathlib.Omega.{arith}
-use borrow.Author.Needs.{needs}
-use mir.Syntax.{w32}
-use Rattle.rows.specs.Numbers.{up}
 use Rattle.rows.specs.Scaled.{position}
 use Rattle.blocks.specs.Scaled.{each, columnRead, readsScaled}
-use Rattle.blocks.proofs.Laws.Calls.Told.{told-back}
 use Rattle.blocks.proofs.Laws.Scaled.Places.{last-column}
 use Rattle.blocks.proofs.Laws.Scaled.Ready.{each-none, column-past}
-use Rattle.blocks.proofs.scaled.reads_scaled.Statement.{statement}
 use Rattle.blocks.proofs.scaled.reads_scaled.Tie as tie
 
 abbrev Inv-loop : tie.InvT-loop
@@ -96,7 +89,7 @@ returns-3 c =
     let e : l .x ≡ begin (d .before .before .before .before) .args .w = omega arith in
     rw (l .inv .1, e, across b .0, across b .1, down d .0, down d .1) refl
 
-pub reads-scaled-spec : {M : Type 1} → statement M
+pub reads-scaled-spec : {M : Type 1} → Rattle.blocks.proofs.scaled.reads_scaled.Statement.statement M
 unfolding each
 reads-scaled-spec =
     tie.close

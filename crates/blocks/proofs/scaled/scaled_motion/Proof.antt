@@ -1,7 +1,4 @@
-use borrow.Author.Needs.{needs}
-use mir.Syntax.{w32}
-use Rattle.blocks.proofs.Laws.Calls.Told.{told-back}
-use Rattle.blocks.proofs.scaled.scaled_motion.Statement.{statement}
+use Rattle.blocks.proofs.Usual.{needs, w32, told-back}
 use Rattle.blocks.proofs.scaled.scaled_motion.Tie as tie
 
 returns : tie.Need-returns
@@ -14,7 +11,7 @@ returns c =
     (rw (n .needed2 .ensures, t .before .before .step-ok .ensures, n .before .needed .ensures, t .step-ok2 .ensures)
     (rw (told-back w32 g, told-back w32 (g .1), told-back w32 (g .1 .1), told-back w32 (g .1 .1 .1))))
 
-pub scaled-motion-spec : {M : Type 1} → statement M
+pub scaled-motion-spec : {M : Type 1} → Rattle.blocks.proofs.scaled.scaled_motion.Statement.statement M
 scaled-motion-spec =
     tie.close
     (tie.spec

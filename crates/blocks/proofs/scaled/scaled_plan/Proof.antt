@@ -1,10 +1,5 @@
-use borrow.Author.Needs.{needs}
-use mathlib.Core.Path.{_≡_, refl}
-use mir.Syntax.{w32}
-use Rattle.rows.proofs.Laws.Numbers.Signed.{back}
+use Rattle.blocks.proofs.Usual.{_≡_, refl, needs, w32, back, told-back}
 use Rattle.blocks.specs.inner.Scaled.{scaledPlan}
-use Rattle.blocks.proofs.Laws.Calls.Told.{told-back}
-use Rattle.blocks.proofs.scaled.scaled_plan.Statement.{statement}
 use Rattle.blocks.proofs.scaled.scaled_plan.Tie as tie
 
 returns : tie.Need-returns
@@ -31,7 +26,7 @@ returns c =
     )
     refl
 
-pub scaled-plan-spec : {M : Type 1} → statement M
+pub scaled-plan-spec : {M : Type 1} → Rattle.blocks.proofs.scaled.scaled_plan.Statement.statement M
 scaled-plan-spec =
     tie.close
     (tie.spec

@@ -1,14 +1,11 @@
-use borrow.Author.Needs.{needs}
-use mathlib.Core.Path.{refl}
-use Rattle.rows.specs.Places.{rowFrom, rowOf}
-use Rattle.blocks.proofs.scaled.turned.Statement.{statement}
+use Rattle.blocks.proofs.Usual.{refl, needs, rowOf, rowFrom}
 use Rattle.blocks.proofs.scaled.turned.Tie as tie
 
 returns : tie.Need-returns
 unfolding rowOf rowFrom
 returns c = refl
 
-pub turned-spec : {M : Type 1} → statement M
+pub turned-spec : {M : Type 1} → Rattle.blocks.proofs.scaled.turned.Statement.statement M
 turned-spec =
     tie.close
     (tie.spec

@@ -1,9 +1,8 @@
-use Rattle.rows.proofs.Laws.Numbers.Signed.{back}
+use Rattle.blocks.proofs.Usual.{back}
 use Rattle.blocks.proofs.Laws.Search.Ready.{ahead-start, start-cast, start-is}
-use Rattle.blocks.proofs.search.ahead.Statement.{statement}
 use Rattle.blocks.proofs.search.ahead.Tie as tie
 
-pub ahead-spec : {M : Type 1} → statement M
+pub ahead-spec : {M : Type 1} → Rattle.blocks.proofs.search.ahead.Statement.statement M
 ahead-spec =
     tie.close
     (tie.spec

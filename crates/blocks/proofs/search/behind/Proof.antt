@@ -1,9 +1,8 @@
-use Rattle.rows.proofs.Laws.Numbers.Signed.{back}
+use Rattle.blocks.proofs.Usual.{back}
 use Rattle.blocks.proofs.Laws.Search.Ready.{behind-start, start-cast, start-is}
-use Rattle.blocks.proofs.search.behind.Statement.{statement}
 use Rattle.blocks.proofs.search.behind.Tie as tie
 
-pub behind-spec : {M : Type 1} → statement M
+pub behind-spec : {M : Type 1} → Rattle.blocks.proofs.search.behind.Statement.statement M
 behind-spec =
     tie.close
     (tie.spec

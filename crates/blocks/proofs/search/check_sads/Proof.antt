@@ -1,10 +1,5 @@
-use borrow.Author.Needs.{needs}
-use mathlib.Core.Path.{sym, _∙_}
-use native.Mathlib.Omega.{arith}
-use Rattle.blocks.specs.Refuse.{sizeOk}
-use Rattle.blocks.specs.inner.Ready.{Block}
+use Rattle.blocks.proofs.Usual.{_∙_, sym, arith, needs, sizeOk, Block}
 use Rattle.blocks.proofs.Laws.Calls.Ready.{sizes-stop, sizes-pass, sizes-block}
-use Rattle.blocks.proofs.search.check_sads.Statement.{statement}
 use Rattle.blocks.proofs.search.check_sads.Tie as tie
 
 block : (c : tie.Else1) → let a = c .before .before .args in Block (a .w) (a .h)
@@ -15,7 +10,7 @@ returns-2 c =
     let e = c .before .before .before .before .before in let a = e .before .before .args in
     cc (sizes-pass (sizeOk 64 (a .w)) (sizeOk 64 (a .h)) (c .stride2 .result) (sym (e .before .sizes .ensures) ∙ e .if1 .left))
 
-pub check-sads-spec : {M : Type 1} → statement M
+pub check-sads-spec : {M : Type 1} → Rattle.blocks.proofs.search.check_sads.Statement.statement M
 check-sads-spec =
     tie.close
     (tie.spec

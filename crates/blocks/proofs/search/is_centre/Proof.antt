@@ -1,8 +1,7 @@
 use Rattle.blocks.proofs.Laws.Search.Ready.{centre-is}
-use Rattle.blocks.proofs.search.is_centre.Statement.{statement}
 use Rattle.blocks.proofs.search.is_centre.Tie as tie
 
-pub is-centre-spec : {M : Type 1} → statement M
+pub is-centre-spec : {M : Type 1} → Rattle.blocks.proofs.search.is_centre.Statement.statement M
 is-centre-spec =
     tie.close
     (tie.spec

@@ -1,10 +1,8 @@
-use native.Mathlib.Omega.{arith}
+use Rattle.blocks.proofs.Usual.{arith, needs}
 use Rattle.blocks.proofs.Laws.Search.Ready.{enough-fits}
-use borrow.Author.Needs.{needs}
-use Rattle.blocks.proofs.search.is_enough.Statement.{statement}
 use Rattle.blocks.proofs.search.is_enough.Tie as tie
 
-pub is-enough-spec : {M : Type 1} → statement M
+pub is-enough-spec : {M : Type 1} → Rattle.blocks.proofs.search.is_enough.Statement.statement M
 is-enough-spec =
     tie.close
     (tie.spec

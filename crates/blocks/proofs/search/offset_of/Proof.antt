@@ -1,7 +1,5 @@
-use mir.Syntax.{w32}
-use Rattle.rows.proofs.Laws.Numbers.Signed.{back, fit}
+use Rattle.blocks.proofs.Usual.{w32, back, fit}
 use Rattle.blocks.proofs.Laws.Search.Ready.{answer-found, answer-none}
-use Rattle.blocks.proofs.search.offset_of.Statement.{statement}
 use Rattle.blocks.proofs.search.offset_of.Tie as tie
 
 returns : tie.Need-returns
@@ -9,7 +7,7 @@ returns c =
     let g = c .struct-told2 .given .1 .1 in let t = c .before .before in
     rw (back (fit w32 (g .0 .1)), back (fit w32 (g .1 .0 .1))) (answer-found (t .before .args .b) (t .if1 .taken))
 
-pub offset-of-spec : {M : Type 1} → statement M
+pub offset-of-spec : {M : Type 1} → Rattle.blocks.proofs.search.offset_of.Statement.statement M
 offset-of-spec =
     tie.close
     (tie.spec

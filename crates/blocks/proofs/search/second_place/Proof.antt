@@ -1,14 +1,11 @@
-use borrow.Author.Needs.{needs}
-use native.Mathlib.Omega.{arith}
-use Rattle.rows.proofs.Laws.Numbers.Signed.{back}
+use Rattle.blocks.proofs.Usual.{arith, needs, back}
 use Rattle.blocks.proofs.Laws.Search.Ready.{start-place}
-use Rattle.blocks.proofs.search.second_place.Statement.{statement}
 use Rattle.blocks.proofs.search.second_place.Tie as tie
 
 returns : tie.Need-returns
 returns c = let s = c .before .before in rw (c .before .behind .ensures .0, c .behind2 .ensures .0, back (s .fits .dx), back (s .fits .dy))
 
-pub second-place-spec : {M : Type 1} → statement M
+pub second-place-spec : {M : Type 1} → Rattle.blocks.proofs.search.second_place.Statement.statement M
 second-place-spec =
     tie.close
     (tie.spec

@@ -1,13 +1,8 @@
-use borrow.Author.Needs.{needs}
-use mathlib.Core.Path.{_≡_, refl}
-use mathlib.Core.Bool.{Bool, true, false, cond}
-use native.Mathlib.Omega.{arith}
-use lib.IntN.{natAbs, pos}
-use mir.Syntax.{w32}
-use mir.Val.{toZ, boolByte}
+use Rattle.blocks.proofs.Usual.{true, Bool, false, _≡_, refl, arith, needs, pos, natAbs, w32, toZ, reading}
+use mathlib.Core.Bool.{cond}
+use mir.Val.{boolByte}
 use Rattle.rows.specs.Shear.{affineOf}
-use Rattle.rows.proofs.Laws.Numbers.Signed.{back16, abs-mag, reading}
-use Rattle.blocks.proofs.shear.affine_flag.Statement.{statement}
+use Rattle.rows.proofs.Laws.Numbers.Signed.{back16, abs-mag}
 use Rattle.blocks.proofs.shear.affine_flag.Tie as tie
 
 flag : (b : Bool) → toZ w32 (boolByte b) ≡ cond b (pos 1) (pos 0)
@@ -35,7 +30,7 @@ returns : tie.Need-returns
 unfolding affineOf
 returns c = rw (flag _, one (c .before .before .before), two (c .before .before), three (c .before), four c)
 
-pub affine-flag-spec : {M : Type 1} → statement M
+pub affine-flag-spec : {M : Type 1} → Rattle.blocks.proofs.shear.affine_flag.Statement.statement M
 affine-flag-spec =
     tie.close
     (tie.spec

@@ -1,6 +1,4 @@
-use borrow.Author.Needs.{needs}
-use Rattle.rows.proofs.Laws.Numbers.Signed.{back}
-use Rattle.blocks.proofs.shear.check_affine_mv.Statement.{statement}
+use Rattle.blocks.proofs.Usual.{needs, back}
 use Rattle.blocks.proofs.shear.check_affine_mv.Tie as tie
 
 returns : tie.Need-returns
@@ -10,7 +8,7 @@ returns c =
     rw (c .needed3 .ensures, c .before .needed2 .ensures, m .moves .ensures, m .before .needed .ensures, t .entries-ok .ensures, t .before .lies2 .ensures)
     (rw (t .before .before .lies .ensures, back (s .bw4), back (s .bh4), back (s .mv-x), back (s .mv-y), back (s .bx4), back (s .by4)))
 
-pub check-affine-mv-spec : {M : Type 1} → statement M
+pub check-affine-mv-spec : {M : Type 1} → Rattle.blocks.proofs.shear.check_affine_mv.Statement.statement M
 check-affine-mv-spec =
     tie.close
     (tie.spec

@@ -1,8 +1,5 @@
-use borrow.Author.Needs.{needs}
-use mir.Syntax.{w32}
-use Rattle.rows.proofs.Laws.Numbers.Signed.{back, fit}
+use Rattle.blocks.proofs.Usual.{needs, w32, back, fit}
 use Rattle.blocks.specs.Shear.{recipOk}
-use Rattle.blocks.proofs.shear.check_shear.Statement.{statement}
 use Rattle.blocks.proofs.shear.check_shear.Tie as tie
 
 returns : tie.Need-returns
@@ -17,7 +14,7 @@ returns c =
       back (fit w32 (last .before .needed-arg .given)),
     )
 
-pub check-shear-spec : {M : Type 1} → statement M
+pub check-shear-spec : {M : Type 1} → Rattle.blocks.proofs.shear.check_shear.Statement.statement M
 check-shear-spec =
     tie.close
     (tie.spec

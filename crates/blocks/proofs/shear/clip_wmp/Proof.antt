@@ -1,7 +1,4 @@
-use mir.Syntax.{w16}
-use mir.Val.{SFits}
-use Rattle.rows.proofs.Laws.Numbers.Signed.{signed, rd, back}
-use Rattle.blocks.proofs.shear.clip_wmp.Statement.{statement}
+use Rattle.blocks.proofs.Usual.{w16, SFits, back, rd, signed}
 use Rattle.blocks.proofs.shear.clip_wmp.Tie as tie
 
 fits : (c : tie.Else2) → SFits w16 (c .before .before .args .v)
@@ -13,7 +10,7 @@ returns-2 c = let f = c .before .before .fits .v in rw (rw (back f) at (c .befor
 returns-3 : tie.Need-returns-3
 returns-3 c = let f = c .before .before .fits .v in rw (back f, back (fits c), rw (back f) at (c .before .if1 .left), rw (back f) at (c .if2 .left))
 
-pub clip-wmp-spec : {M : Type 1} → statement M
+pub clip-wmp-spec : {M : Type 1} → Rattle.blocks.proofs.shear.clip_wmp.Statement.statement M
 clip-wmp-spec =
     tie.close
     (tie.spec (λ c. rw (back (c .before .before .fits .v)) (fits c)) (λ c. rw (rw (back (c .before .fits .v)) at (c .if1 .taken))) returns-2 returns-3)

@@ -1,8 +1,5 @@
-use borrow.Author.Needs.{needs}
-use mir.Syntax.{w32}
-use Rattle.rows.proofs.Laws.Numbers.Signed.{back, fit}
+use Rattle.blocks.proofs.Usual.{needs, w32, back, fit}
 use Rattle.blocks.specs.Shear.{entriesOk}
-use Rattle.blocks.proofs.shear.entries_ok.Statement.{statement}
 use Rattle.blocks.proofs.shear.entries_ok.Tie as tie
 
 returns : tie.Need-returns
@@ -20,7 +17,7 @@ returns c =
       back (fit w32 (a5 .within-arg4 .given)),
     )
 
-pub entries-ok-spec : {M : Type 1} → statement M
+pub entries-ok-spec : {M : Type 1} → Rattle.blocks.proofs.shear.entries_ok.Statement.statement M
 entries-ok-spec =
     tie.close
     (tie.spec

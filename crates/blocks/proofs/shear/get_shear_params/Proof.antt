@@ -1,14 +1,11 @@
-use borrow.Author.Needs.{needs}
-use mathlib.Core.Path.{sym, _∙_}
-use Rattle.blocks.proofs.Laws.Calls.Refuse.{done, refused}
+use Rattle.blocks.proofs.Usual.{_∙_, sym, needs, done, refused}
 use Rattle.blocks.proofs.Laws.Warp.Shears.{shear-ready}
-use Rattle.blocks.proofs.shear.get_shear_params.Statement.{statement}
 use Rattle.blocks.proofs.shear.get_shear_params.Tie as tie
 
 returns-2 : tie.Need-returns-2
 returns-2 c = (c .before .before .check-shear .ensures, c .with-shears .ensures ∙ sym (done _ _ _ (c .before .if1 .left)))
 
-pub get-shear-params-spec : {M : Type 1} → statement M
+pub get-shear-params-spec : {M : Type 1} → Rattle.blocks.proofs.shear.get_shear_params.Statement.statement M
 get-shear-params-spec =
     tie.close
     (tie.spec

@@ -1,8 +1,4 @@
-use borrow.Author.Needs.{needs}
-use mir.Syntax.{w32}
-use mir.Val.{SFits}
-use Rattle.rows.proofs.Laws.Numbers.Signed.{back, fit}
-use Rattle.blocks.proofs.shear.hv_get_shear_params.Statement.{statement}
+use Rattle.blocks.proofs.Usual.{needs, w32, SFits, back, fit}
 use Rattle.blocks.proofs.shear.hv_get_shear_params.Tie as tie
 
 returns : tie.Need-returns
@@ -12,5 +8,5 @@ returns c =
     let came : SFits w32 (r .before .before .before .before .before .args .affine .now) = fit w32 (r .before .t13 .given) in
     rw (back out) (rw (back came) at (r .get-shear-params .ensures))
 
-pub hv-get-shear-params-spec : {M : Type 1} → statement M
+pub hv-get-shear-params-spec : {M : Type 1} → Rattle.blocks.proofs.shear.hv_get_shear_params.Statement.statement M
 hv-get-shear-params-spec = tie.close (tie.spec (λ c κs. search needs) returns)

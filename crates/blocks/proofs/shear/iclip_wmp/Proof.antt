@@ -1,13 +1,7 @@
-use borrow.Author.Needs.{needs}
-use native.Mathlib.Omega.{arith}
-use lib.IntN.{ℤ, pos, _+ℤ_, _-ℤ_}
-use lib.Signed.{shrZ}
-use mir.Syntax.{w16, w32, w64}
-use mir.Val.{SFits}
+use Rattle.blocks.proofs.Usual.{arith, needs, pos, ℤ, _+ℤ_, _-ℤ_, shrZ, w32, w16, w64, SFits, back, reading, back32}
 use Rattle.rows.specs.Shear.{isNeg, Q}
-use Rattle.rows.proofs.Laws.Numbers.Signed.{mag-add, mag-sub, mag-shr, back, back32, reading}
+use Rattle.rows.proofs.Laws.Numbers.Signed.{mag-add, mag-sub, mag-shr}
 use Rattle.blocks.proofs.Laws.Warp.Shears.{neg-bit, neg-small, down-fits}
-use Rattle.blocks.proofs.shear.iclip_wmp.Statement.{statement}
 use Rattle.blocks.proofs.shear.iclip_wmp.Tie as tie
 
 module _ (c : tie.Start) where
@@ -51,7 +45,7 @@ returns c =
       back (all s),
     )
 
-pub iclip-wmp-spec : {M : Type 1} → statement M
+pub iclip-wmp-spec : {M : Type 1} → Rattle.blocks.proofs.shear.iclip_wmp.Statement.statement M
 iclip-wmp-spec =
     tie.close
     (tie.spec

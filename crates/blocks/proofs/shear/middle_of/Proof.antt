@@ -1,12 +1,6 @@
-use mathlib.Core.Path.{refl}
-use native.Mathlib.Omega.{arith}
-use Prim.Native.Nat.{_≤_}
-use lib.IntN.{ℤ, pos, natAbs, _+ℤ_, _-ℤ_, _*ℤ_}
-use mir.Syntax.{w32}
-use mir.Val.{SFits}
+use Rattle.blocks.proofs.Usual.{refl, _≤_, arith, pos, ℤ, natAbs, _+ℤ_, _-ℤ_, _*ℤ_, w32, SFits, back, fit-abs}
 use Rattle.rows.specs.Shear.{middle}
-use Rattle.rows.proofs.Laws.Numbers.Signed.{back, fit-abs, abs-add, abs-sub, abs-times}
-use Rattle.blocks.proofs.shear.middle_of.Statement.{statement}
+use Rattle.rows.proofs.Laws.Numbers.Signed.{abs-add, abs-sub, abs-times}
 use Rattle.blocks.proofs.shear.middle_of.Tie as tie
 
 module _ (c : tie.Start) where
@@ -38,7 +32,7 @@ returns : tie.Need-returns
 unfolding middle
 returns c = simp (back (c .fits .b4), back (c .fits .size4), back (a c), back (b c), back (s c), back (d c)) (refl, omega (arith, last c))
 
-pub middle-of-spec : {M : Type 1} → statement M
+pub middle-of-spec : {M : Type 1} → Rattle.blocks.proofs.shear.middle_of.Statement.statement M
 middle-of-spec =
     tie.close
     (tie.spec

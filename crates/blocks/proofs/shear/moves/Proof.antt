@@ -1,6 +1,4 @@
-use borrow.Author.Needs.{needs}
-use Rattle.rows.proofs.Laws.Numbers.Signed.{back}
-use Rattle.blocks.proofs.shear.moves.Statement.{statement}
+use Rattle.blocks.proofs.Usual.{needs, back}
 use Rattle.blocks.proofs.shear.moves.Tie as tie
 
 returns : tie.Need-returns
@@ -22,7 +20,7 @@ returns c =
       back (s .by4),
     )
 
-pub moves-spec : {M : Type 1} → statement M
+pub moves-spec : {M : Type 1} → Rattle.blocks.proofs.shear.moves.Statement.statement M
 moves-spec =
     tie.close
     (tie.spec

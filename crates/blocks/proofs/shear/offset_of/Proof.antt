@@ -1,13 +1,7 @@
 -- Every step is below 2^42.
-use borrow.Author.Needs.{needs}
-use native.Mathlib.Omega.{arith}
-use Prim.Native.Nat.{_≤_, _^_}
-use lib.IntN.{ℤ, pos, natAbs, _-ℤ_, _*ℤ_}
-use mir.Syntax.{w32, w64}
-use mir.Val.{SFits}
+use Rattle.blocks.proofs.Usual.{_≤_, _^_, arith, needs, pos, ℤ, natAbs, _-ℤ_, _*ℤ_, w32, w64, SFits, back, fit-abs, reading, back32}
 use Rattle.rows.specs.Shear.{offsetOf}
-use Rattle.rows.proofs.Laws.Numbers.Signed.{back, back32, fit-abs, abs-sub, abs-mul-le, reading}
-use Rattle.blocks.proofs.shear.offset_of.Statement.{statement}
+use Rattle.rows.proofs.Laws.Numbers.Signed.{abs-sub, abs-mul-le}
 use Rattle.blocks.proofs.shear.offset_of.Tie as tie
 
 module _ (c : tie.Start) where
@@ -78,7 +72,7 @@ returns c =
       back (e t),
     )
 
-pub offset-of-spec : {M : Type 1} → statement M
+pub offset-of-spec : {M : Type 1} → Rattle.blocks.proofs.shear.offset_of.Statement.statement M
 offset-of-spec =
     tie.close
     (tie.spec

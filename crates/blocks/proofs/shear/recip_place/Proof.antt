@@ -1,10 +1,6 @@
 -- No bit is lost by a shift, and the place is at most 128.
-use borrow.Author.Needs.{needs}
-use mathlib.Core.Path.{_≡_, sym}
-use native.Mathlib.Omega.{arith}
-use Prim.Native.Nat.{_*_, _-_, _^_, _%_}
+use Rattle.blocks.proofs.Usual.{_≡_, sym, _*_, _-_, _^_, _%_, arith, needs}
 use Rattle.blocks.proofs.Laws.Warp.Shears.{Top, top-is, one-shl, few, place-few, place-many, Many, many}
-use Rattle.blocks.proofs.shear.recip_place.Statement.{statement}
 use Rattle.blocks.proofs.shear.recip_place.Tie as tie
 
 at-top : (c : tie.Start) → Top (c .args .d) (c .args .t)
@@ -31,7 +27,7 @@ returns-2 c =
     let s = c .before in
     rw (one s, eighth s) (rw (s .pre .1) (sym (place-many (s .args .d) (rw (← s .pre .1) (c .if1 .left)))), at-many c .last)
 
-pub recip-place-spec : {M : Type 1} → statement M
+pub recip-place-spec : {M : Type 1} → Rattle.blocks.proofs.shear.recip_place.Statement.statement M
 recip-place-spec =
     tie.close
     (tie.spec

@@ -1,18 +1,8 @@
-use borrow.Author.Needs.{needs}
-use mathlib.Core.Path.{sym}
-use native.Mathlib.Omega.{arith}
-use Prim.Native.Nat.{_+_}
-use lib.IntN.{pos}
-use lib.ListN.{length, getD}
-use mir.Syntax.{w32}
-use mir.Val.{SFits}
+use Rattle.blocks.proofs.Usual.{sym, _+_, arith, needs, pos, length, getD, w32, SFits, back, backn, done, refused}
 use Rattle.rows.specs.Shear.{recipOf, shiftOf}
-use Rattle.rows.proofs.Laws.Numbers.Signed.{backn, back}
 use Rattle.blocks.specs.inner.Ready.{Divides}
 use Rattle.blocks.specs.Shear.{divisorOf}
-use Rattle.blocks.proofs.Laws.Calls.Refuse.{done, refused}
 use Rattle.blocks.proofs.Laws.Warp.Shears.{div-ok, top-is, Top}
-use Rattle.blocks.proofs.shear.resolve_divisor_32.Statement.{statement}
 use Rattle.blocks.proofs.shear.resolve_divisor_32.Tie as tie
 
 ok : (c : tie.Else1) → Divides (c .before .before .before .args .d) (length (c .before .before .before .args .recip .now))
@@ -41,7 +31,7 @@ returns-2 c =
     rw (y, place .ensures .0, backn w32 (bit .result) (omega (arith, t)), back f, bit .ensures, e)
     (sym (done _ _ _ (rw e at (c .before .before .before .if1 .left))))
 
-pub resolve-divisor-32-spec : {M : Type 1} → statement M
+pub resolve-divisor-32-spec : {M : Type 1} → Rattle.blocks.proofs.shear.resolve_divisor_32.Statement.statement M
 resolve-divisor-32-spec =
     tie.close
     (tie.spec

@@ -1,17 +1,10 @@
-use borrow.Author.Needs.{needs}
-use mathlib.Core.Path.{_≡_, ap, _∙_}
-use native.Mathlib.Omega.{arith}
+use Rattle.blocks.proofs.Usual.{_≡_, _∙_, ap, ℕ, _≤_, _*_, _+_, _-_, _<_, _^_, _/_, _%_, arith, needs, pos, natAbs, w32, w64, SFits, toZ, back, fit}
+use Rattle.blocks.proofs.Usual.{backn}
 use native.Mathlib.Nat.{div-le-self}
-use Prim.Native.Nat.{ℕ, _+_, _*_, _-_, _/_, _%_, _^_, _≤_, _<_}
-use lib.IntN.{pos, natAbs}
 use lib.Pow.{pow-mono}
-use mir.Syntax.{w32, w64}
-use mir.Val.{SFits, toZ}
 use Rattle.rows.specs.Numbers.{low32}
 use Rattle.rows.specs.Shear.{g}
-use Rattle.rows.proofs.Laws.Numbers.Signed.{back, backn, fit}
 use Rattle.blocks.proofs.Laws.Warp.Shears.{one-shl64}
-use Rattle.blocks.proofs.shear.round_shift.Statement.{statement}
 use Rattle.blocks.proofs.shear.round_shift.Tie as tie
 
 half : (k : ℕ) → k ≤ 40 → 2 ^ (k - 1) ≤ 2 ^ 39
@@ -60,7 +53,7 @@ returns-2 c =
     let h : SFits w32 (q .keep32 .result) = omega arith in
     rw (rw (back (s .fits .v)) at (c .if1 .left), back h, cut q)
 
-pub round-shift-spec : {M : Type 1} → statement M
+pub round-shift-spec : {M : Type 1} → Rattle.blocks.proofs.shear.round_shift.Statement.statement M
 round-shift-spec =
     tie.close
     (tie.spec

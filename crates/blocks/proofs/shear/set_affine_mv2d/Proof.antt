@@ -1,12 +1,7 @@
-use borrow.Author.Needs.{needs}
-use mathlib.Core.Path.{_≡_, refl, sym, ap, _∙_}
-use Rattle.rows.proofs.Laws.Numbers.Signed.{back}
-use Rattle.blocks.specs.Refuse.{lowest}
+use Rattle.blocks.proofs.Usual.{_≡_, _∙_, refl, sym, ap, needs, lowest, back, done, refused}
 use Rattle.blocks.specs.Shear.{affineMvTests}
 use Rattle.blocks.specs.declared.shear.WarpParams.{WarpParams}
-use Rattle.blocks.proofs.Laws.Calls.Refuse.{done, refused}
 use Rattle.blocks.proofs.Laws.Warp.Shears.{affine-mv-ready}
-use Rattle.blocks.proofs.shear.set_affine_mv2d.Statement.{statement}
 use Rattle.blocks.proofs.shear.set_affine_mv2d.Tie as tie
 
 is : (c : tie.After-check-affine-mv) → let a = c .before .before .args in
@@ -29,7 +24,7 @@ returns-2 c =
     let m = ap (λ (w : WarpParams). w .matrix) e ∙ sym (done _ _ _ (c .before .if1 .left)) in
     ((is t, m), ap (λ (w : WarpParams). w .abcd) e, ap (λ (w : WarpParams). w .affine) e)
 
-pub set-affine-mv2d-spec : {M : Type 1} → statement M
+pub set-affine-mv2d-spec : {M : Type 1} → Rattle.blocks.proofs.shear.set_affine_mv2d.Statement.statement M
 set-affine-mv2d-spec =
     tie.close
     (tie.spec

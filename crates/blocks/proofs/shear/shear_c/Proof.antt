@@ -1,13 +1,7 @@
 -- The products are below 2^54.
-use borrow.Author.Needs.{needs}
-use native.Mathlib.Omega.{arith}
-use Prim.Native.Nat.{_≤_, _^_}
-use lib.IntN.{ℤ, pos, natAbs, _*ℤ_}
-use mir.Syntax.{w16, w32, w64}
-use mir.Val.{SFits}
+use Rattle.blocks.proofs.Usual.{_≤_, _^_, arith, needs, pos, ℤ, natAbs, _*ℤ_, w32, w16, w64, SFits, back, reading, back32}
 use Rattle.rows.specs.Shear.{shearC}
-use Rattle.rows.proofs.Laws.Numbers.Signed.{back, back32, abs-mul-le, mag-abs, reading}
-use Rattle.blocks.proofs.shear.shear_c.Statement.{statement}
+use Rattle.rows.proofs.Laws.Numbers.Signed.{abs-mul-le, mag-abs}
 use Rattle.blocks.proofs.shear.shear_c.Tie as tie
 
 module _ (c : tie.Start) where
@@ -37,7 +31,7 @@ returns c =
     let q : SFits w32 (c .before .round-shift .result) = omega arith in
     rw (back r, c .iclip-wmp .ensures, back q, c .before .round-shift .ensures, back32 (s .fits .m4), back32 (s .fits .y), back (first-fits s), back (v-fits s))
 
-pub shear-c-spec : {M : Type 1} → statement M
+pub shear-c-spec : {M : Type 1} → Rattle.blocks.proofs.shear.shear_c.Statement.statement M
 shear-c-spec =
     tie.close
     (tie.spec

@@ -1,13 +1,7 @@
 -- The products are below 2^60.
-use borrow.Author.Needs.{needs}
-use native.Mathlib.Omega.{arith}
-use Prim.Native.Nat.{_≤_, _^_}
-use lib.IntN.{ℤ, natAbs, _*ℤ_}
-use mir.Syntax.{w16, w32, w64}
-use mir.Val.{SFits}
+use Rattle.blocks.proofs.Usual.{_≤_, _^_, arith, needs, ℤ, natAbs, _*ℤ_, w32, w16, w64, SFits, back, reading, back32}
 use Rattle.rows.specs.Shear.{shearD}
-use Rattle.rows.proofs.Laws.Numbers.Signed.{back, back32, abs-mul-le, mag-abs, reading}
-use Rattle.blocks.proofs.shear.shear_d.Statement.{statement}
+use Rattle.rows.proofs.Laws.Numbers.Signed.{abs-mul-le, mag-abs}
 use Rattle.blocks.proofs.shear.shear_d.Tie as tie
 
 module _ (c : tie.Start) where
@@ -62,7 +56,7 @@ returns c =
       back (v-fits s),
     )
 
-pub shear-d-spec : {M : Type 1} → statement M
+pub shear-d-spec : {M : Type 1} → Rattle.blocks.proofs.shear.shear_d.Statement.statement M
 shear-d-spec =
     tie.close
     (tie.spec

@@ -1,9 +1,8 @@
-use native.Mathlib.Omega.{arith}
+use Rattle.blocks.proofs.Usual.{arith}
 use Rattle.blocks.proofs.Laws.Warp.Shears.{top-is}
-use Rattle.blocks.proofs.shear.top_bit.Statement.{statement}
 use Rattle.blocks.proofs.shear.top_bit.Tie as tie
 
-pub top-bit-spec : {M : Type 1} → statement M
+pub top-bit-spec : {M : Type 1} → Rattle.blocks.proofs.shear.top_bit.Statement.statement M
 top-bit-spec =
     tie.close
     (tie.spec

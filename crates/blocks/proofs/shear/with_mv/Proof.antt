@@ -1,15 +1,7 @@
-use borrow.Author.Needs.{needs}
-use mathlib.Core.Path.{_≡_, _∙_}
-use native.Mathlib.Omega.{arith}
-use Prim.Native.Nat.{ℕ, _≤_}
-use lib.IntN.{ℤ, pos, natAbs, _-ℤ_}
-use mir.Syntax.{w32}
-use mir.Val.{SFits, toZ, ofZ}
-use Rattle.rows.specs.Numbers.{at}
+use Rattle.blocks.proofs.Usual.{_≡_, _∙_, ℕ, _≤_, arith, needs, pos, ℤ, natAbs, _-ℤ_, w32, SFits, toZ, ofZ, at, back, fit, fit-abs}
 use Rattle.rows.specs.Shear.{middle, entry0, entry1}
-use Rattle.rows.proofs.Laws.Numbers.Signed.{back, fit, fit-abs, abs-sub}
+use Rattle.rows.proofs.Laws.Numbers.Signed.{abs-sub}
 use Rattle.blocks.specs.Shear.{withMv}
-use Rattle.blocks.proofs.shear.with_mv.Statement.{statement}
 use Rattle.blocks.proofs.shear.with_mv.Tie as tie
 
 module _ (c : tie.After-m5) where
@@ -91,7 +83,7 @@ returns c =
       back (g5 e),
     )
 
-pub with-mv-spec : {M : Type 1} → statement M
+pub with-mv-spec : {M : Type 1} → Rattle.blocks.proofs.shear.with_mv.Statement.statement M
 with-mv-spec =
     tie.close
     (tie.spec

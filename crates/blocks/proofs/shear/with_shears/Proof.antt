@@ -1,17 +1,9 @@
-use borrow.Author.Needs.{needs}
-use mathlib.Core.Path.{_≡_, ap, _∙_}
-use native.Mathlib.Omega.{arith}
-use Prim.Native.Nat.{ℕ, _^_, _<_, _≤_}
-use lib.IntN.{ℤ, pos, natAbs}
-use mir.Syntax.{w16, w32}
-use mir.Val.{SFits, toZ, ofZ}
-use Rattle.rows.specs.Numbers.{at}
+use Rattle.blocks.proofs.Usual.{_≡_, _∙_, ap, ℕ, _≤_, _<_, _^_, arith, needs, pos, ℤ, natAbs, w32, w16, SFits, toZ, ofZ, at, back, fit, fit-abs}
 use Rattle.rows.specs.Shear.{recipPlace, recipOf, shiftOf, shearA, shearB}
-use Rattle.rows.proofs.Laws.Numbers.Signed.{back, backs, fit, fit-abs}
+use Rattle.rows.proofs.Laws.Numbers.Signed.{backs}
 use Rattle.blocks.specs.Shear.{divisorOf, sheared}
 use Rattle.blocks.specs.declared.shear.Divisor.{Divisor}
 use Rattle.blocks.proofs.Laws.Warp.Shears.{top-is, div-y, div-shift}
-use Rattle.blocks.proofs.shear.with_shears.Statement.{statement}
 use Rattle.blocks.proofs.shear.with_shears.Tie as tie
 
 -- where the entries are read
@@ -102,7 +94,7 @@ returns c =
       k-is r,
     )
 
-pub with-shears-spec : {M : Type 1} → statement M
+pub with-shears-spec : {M : Type 1} → Rattle.blocks.proofs.shear.with_shears.Statement.statement M
 with-shears-spec =
     tie.close
     (tie.spec

@@ -1,6 +1,4 @@
-use borrow.Author.Needs.{needs}
-use Rattle.rows.proofs.Laws.Numbers.Signed.{back}
-use Rattle.blocks.proofs.w_mask.check_w_mask.Statement.{statement}
+use Rattle.blocks.proofs.Usual.{needs, back}
 use Rattle.blocks.proofs.w_mask.check_w_mask.Tie as tie
 
 returns : tie.Need-returns
@@ -21,7 +19,7 @@ returns c =
       back (m .before .before .fits .sign),
     )
 
-pub check-w-mask-spec : {M : Type 1} → statement M
+pub check-w-mask-spec : {M : Type 1} → Rattle.blocks.proofs.w_mask.check_w_mask.Statement.statement M
 check-w-mask-spec =
     tie.close
     (tie.spec

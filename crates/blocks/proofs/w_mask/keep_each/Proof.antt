@@ -1,10 +1,5 @@
-use native.Mathlib.Omega.{arith}
-use Prim.Native.Nat.{_+_, _-_, _*_, _≤_}
-use lib.ListN.{length}
-use borrow.Author.Needs.{needs}
-use Rattle.blocks.proofs.Laws.Loops.Rows.{Filled, filled-none, Turn, turn, row-in, block-loop}
+use Rattle.blocks.proofs.Usual.{_≤_, _*_, _+_, _-_, arith, needs, length, Filled, filled-none, row-in, block-loop, Turn, turn}
 use Rattle.blocks.proofs.Laws.WMask.Weighed.{weigh}
-use Rattle.blocks.proofs.w_mask.keep_each.Statement.{statement}
 use Rattle.blocks.proofs.w_mask.keep_each.Tie as tie
 
 abbrev Inv-loop : tie.InvT-loop
@@ -23,7 +18,7 @@ row c =
     let p = entry c .pre .0 in let y = c .before .loop .y in let lt = c .loop-test .taken in
     (turn 0 (c .before .loop .inv) (p .mask) lt, row-in y (p .tmp1) lt, row-in y (p .tmp2) lt)
 
-pub keep-each-spec : {M : Type 1} → statement M
+pub keep-each-spec : {M : Type 1} → Rattle.blocks.proofs.w_mask.keep_each.Statement.statement M
 keep-each-spec =
     tie.close
     (tie.spec Inv-loop μ-loop

@@ -1,14 +1,7 @@
-use native.Mathlib.Omega.{arith}
-use Prim.Native.Nat.{_+_, _-_, _*_, _/_, _≤_, _<_}
-use mathlib.Core.Bool.{true}
-use lib.ListN.{length, drop}
-use borrow.Author.Needs.{needs}
-use mathlib.Core.List.{_++_}
-use mathlib.Core.Path.{_≡_, refl, sym}
+use Rattle.blocks.proofs.Usual.{true, _++_, _≡_, refl, sym, _≤_, _*_, _+_, _-_, _<_, _/_, arith, needs, length, drop, Filled, filled-none, row-in}
+use Rattle.blocks.proofs.Usual.{filled-more, Turn, turn, filled-all}
 use Rattle.rows.specs.WMask.{maskAt}
-use Rattle.blocks.proofs.Laws.Loops.Rows.{Filled, filled-none, filled-more, filled-all, Turn, turn, row-in}
 use Rattle.blocks.proofs.Laws.WMask.Weighed.{weigh, Front, front, front-span, fours}
-use Rattle.blocks.proofs.w_mask.keep_fours.Statement.{statement}
 use Rattle.blocks.proofs.w_mask.keep_fours.Tie as tie
 
 abbrev Inv-loop : tie.InvT-loop
@@ -83,7 +76,7 @@ loop-again c =
       second s .len,
     )
 
-pub keep-fours-spec : {M : Type 1} → statement M
+pub keep-fours-spec : {M : Type 1} → Rattle.blocks.proofs.w_mask.keep_fours.Statement.statement M
 keep-fours-spec =
     tie.close
     (tie.spec Inv-loop μ-loop

@@ -1,10 +1,6 @@
-use mathlib.Core.Path.{_≡_}
-use mathlib.Core.Bool.{true}
-use native.Mathlib.Omega.{arith}
-use borrow.Author.Needs.{needs}
+use Rattle.blocks.proofs.Usual.{true, _≡_, arith, needs}
 use Rattle.rows.specs.WMask.{maskAt}
 use Rattle.blocks.proofs.Laws.WMask.Ready.{flags-met}
-use Rattle.blocks.proofs.w_mask.keep_mask.Statement.{statement}
 use Rattle.blocks.proofs.w_mask.keep_mask.Tie as tie
 
 -- with ss_ver, ss_hor
@@ -34,7 +30,7 @@ returns-3 : tie.Need-returns-3
 unfolding maskAt
 returns-3 c = let r = c .before .before in let i = r .before .before in rw (i .if2 .left, i .before .if1 .left) (r .keep-each .ensures)
 
-pub keep-mask-spec : {M : Type 1} → statement M
+pub keep-mask-spec : {M : Type 1} → Rattle.blocks.proofs.w_mask.keep_mask.Statement.statement M
 keep-mask-spec =
     tie.close
     (tie.spec

@@ -1,14 +1,7 @@
-use native.Mathlib.Omega.{arith}
-use Prim.Native.Nat.{_+_, _-_, _*_, _/_, _≤_}
-use mathlib.Core.Bool.{true, false}
-use lib.ListN.{length, drop}
-use borrow.Author.Needs.{needs}
-use mathlib.Core.List.{_++_}
-use mathlib.Core.Path.{_≡_, refl, sym}
+use Rattle.blocks.proofs.Usual.{true, false, _++_, _≡_, refl, sym, _≤_, _*_, _+_, _-_, _/_, arith, needs, length, drop, Filled, filled-none, row-in}
+use Rattle.blocks.proofs.Usual.{filled-more, Turn, turn, filled-all}
 use Rattle.rows.specs.WMask.{maskAt}
-use Rattle.blocks.proofs.Laws.Loops.Rows.{Filled, filled-none, filled-more, filled-all, Turn, turn, row-in}
 use Rattle.blocks.proofs.Laws.WMask.Weighed.{weigh, Front, front, front-span, pairs}
-use Rattle.blocks.proofs.w_mask.keep_pairs.Statement.{statement}
 use Rattle.blocks.proofs.w_mask.keep_pairs.Tie as tie
 
 abbrev Inv-loop : tie.InvT-loop
@@ -54,7 +47,7 @@ loop-again c =
       line r .len,
     )
 
-pub keep-pairs-spec : {M : Type 1} → statement M
+pub keep-pairs-spec : {M : Type 1} → Rattle.blocks.proofs.w_mask.keep_pairs.Statement.statement M
 keep-pairs-spec =
     tie.close
     (tie.spec Inv-loop μ-loop

@@ -1,5 +1,4 @@
-use borrow.Author.Needs.{needs}
-use Rattle.blocks.proofs.w_mask.mask_buffers.Statement.{statement}
+use Rattle.blocks.proofs.Usual.{needs}
 use Rattle.blocks.proofs.w_mask.mask_buffers.Tie as tie
 
 returns : tie.Need-returns
@@ -11,7 +10,7 @@ returns c =
       c .before .before .before .held .ensures,
     )
 
-pub mask-buffers-spec : {M : Type 1} → statement M
+pub mask-buffers-spec : {M : Type 1} → Rattle.blocks.proofs.w_mask.mask_buffers.Statement.statement M
 mask-buffers-spec =
     tie.close
     (tie.spec

@@ -1,9 +1,7 @@
-use borrow.Author.Needs.{needs}
-use Rattle.rows.proofs.Laws.Numbers.Signed.{back}
-use Rattle.blocks.proofs.w_mask.mask_numbers.Statement.{statement}
+use Rattle.blocks.proofs.Usual.{needs, back}
 use Rattle.blocks.proofs.w_mask.mask_numbers.Tie as tie
 
-pub mask-numbers-spec : {M : Type 1} → statement M
+pub mask-numbers-spec : {M : Type 1} → Rattle.blocks.proofs.w_mask.mask_numbers.Statement.statement M
 mask-numbers-spec =
     tie.close
     (tie.spec

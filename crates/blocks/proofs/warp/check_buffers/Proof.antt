@@ -1,6 +1,4 @@
-use borrow.Author.Needs.{needs}
-use Rattle.blocks.specs.Refuse.{wholeFilters}
-use Rattle.blocks.proofs.warp.check_buffers.Statement.{statement}
+use Rattle.blocks.proofs.Usual.{needs, wholeFilters}
 use Rattle.blocks.proofs.warp.check_buffers.Tie as tie
 
 returns : tie.Need-returns
@@ -16,7 +14,7 @@ returns c =
       h .before .before .filters-there .ensures,
     )
 
-pub check-buffers-spec : {M : Type 1} → statement M
+pub check-buffers-spec : {M : Type 1} → Rattle.blocks.proofs.warp.check_buffers.Statement.statement M
 check-buffers-spec =
     tie.close
     (tie.spec

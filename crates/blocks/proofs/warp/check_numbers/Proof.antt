@@ -1,7 +1,5 @@
-use borrow.Author.Needs.{needs}
-use Rattle.rows.proofs.Laws.Numbers.Signed.{back}
+use Rattle.blocks.proofs.Usual.{needs, back}
 use Rattle.blocks.specs.Warp.{warpPlaceOk}
-use Rattle.blocks.proofs.warp.check_numbers.Statement.{statement}
 use Rattle.blocks.proofs.warp.check_numbers.Tie as tie
 
 returns : tie.Need-returns
@@ -21,7 +19,7 @@ returns c =
       back (f .my),
     )
 
-pub check-numbers-spec : {M : Type 1} → statement M
+pub check-numbers-spec : {M : Type 1} → Rattle.blocks.proofs.warp.check_numbers.Statement.statement M
 check-numbers-spec =
     tie.close
     (tie.spec

@@ -1,10 +1,5 @@
-use borrow.Author.Needs.{needs}
-use mathlib.Core.Path.{_≡_, sym, _∙_}
-use mir.Syntax.{w32}
-use Rattle.blocks.specs.Refuse.{lowest}
+use Rattle.blocks.proofs.Usual.{_≡_, _∙_, sym, needs, w32, lowest, told-back}
 use Rattle.blocks.proofs.Laws.Warp.Ready.{numberTests, numbers-ready, warp-stop, warp-go}
-use Rattle.blocks.proofs.Laws.Calls.Told.{told-back}
-use Rattle.blocks.proofs.warp.check_warp.Statement.{statement}
 use Rattle.blocks.proofs.warp.check_warp.Tie as tie
 
 is : (c : tie.After-check-numbers) → let a = c .before .before .before .args in
@@ -20,7 +15,7 @@ returns c = let e = is (c .before) in e ∙ sym (warp-stop _ _ _ _ _ _ _ _ _ _ _
 returns-2 : tie.Need-returns-2
 returns-2 c = c .check-buffers .ensures ∙ sym (warp-go _ _ _ _ _ _ _ _ _ _ _ _ _ (sym (is (c .before .before)) ∙ c .before .if1 .left))
 
-pub check-warp-spec : {M : Type 1} → statement M
+pub check-warp-spec : {M : Type 1} → Rattle.blocks.proofs.warp.check_warp.Statement.statement M
 check-warp-spec =
     tie.close
     (tie.spec

@@ -1,12 +1,7 @@
-use borrow.Author.Needs.{needs}
-use mathlib.Core.Path.{_≡_, ap, sym, _∙_}
-use native.Mathlib.Omega.{arith}
-use mir.Syntax.{w32}
-use mir.Val.{SFits}
+use Rattle.blocks.proofs.Usual.{_≡_, _∙_, sym, ap, arith, needs, w32, SFits, back}
 use Rattle.rows.specs.Warp.{filterNo, isThere}
-use Rattle.rows.proofs.Laws.Numbers.Signed.{back, above, abs-mag}
+use Rattle.rows.proofs.Laws.Numbers.Signed.{above, abs-mag}
 use Rattle.blocks.proofs.Laws.Warp.Corners.{in-below, in-above}
-use Rattle.blocks.proofs.warp.corner_there.Statement.{statement}
 use Rattle.blocks.proofs.warp.corner_there.Tie as tie
 
 module _ (c : tie.After-filter-no) where
@@ -29,5 +24,5 @@ returns-2 c =
     rw (back (f (c .before)))
     (in-above _ _ (rw (back (f (c .before))) at (c .if1 .left)) ∙ ap (isThere (c .before .before .args .n)) (is (c .before)))
 
-pub corner-there-spec : {M : Type 1} → statement M
+pub corner-there-spec : {M : Type 1} → Rattle.blocks.proofs.warp.corner_there.Statement.statement M
 corner-there-spec = tie.close (tie.spec (λ c κs. search needs) cast-result returns returns-2)

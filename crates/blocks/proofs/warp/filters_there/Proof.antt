@@ -1,8 +1,5 @@
-use borrow.Author.Needs.{needs}
-use mir.Syntax.{w16, w32}
+use Rattle.blocks.proofs.Usual.{needs, w32, w16, told-back}
 use Rattle.rows.specs.Warp.{allThere}
-use Rattle.blocks.proofs.Laws.Calls.Told.{told-back}
-use Rattle.blocks.proofs.warp.filters_there.Statement.{statement}
 use Rattle.blocks.proofs.warp.filters_there.Tie as tie
 
 returns : tie.Need-returns
@@ -21,5 +18,5 @@ returns c =
       told-back w32 (m .1),
     )
 
-pub filters-there-spec : {M : Type 1} → statement M
+pub filters-there-spec : {M : Type 1} → Rattle.blocks.proofs.warp.filters_there.Statement.statement M
 filters-there-spec = tie.close (tie.spec (λ c κs. search needs) (λ c κs. search needs) returns)

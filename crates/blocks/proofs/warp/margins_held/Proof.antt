@@ -1,13 +1,6 @@
-use borrow.Author.Needs.{needs}
-use mathlib.Core.Path.{sym}
-use native.Mathlib.Omega.{arith}
-use Prim.Native.Nat.{_+_, _*_, _-_}
-use borrow.Author.Tests.{le-ltb}
-use lib.Dec.{leb}
+use Rattle.blocks.proofs.Usual.{sym, _*_, _+_, _-_, arith, needs, le-ltb, leb, reads}
 use Rattle.rows.proofs.Laws.Blocks.Fill.{and-false}
-use Rattle.blocks.specs.Refuse.{reads}
 use Rattle.blocks.proofs.Laws.Warp.Corners.{same-lt}
-use Rattle.blocks.proofs.warp.margins_held.Statement.{statement}
 use Rattle.blocks.proofs.warp.margins_held.Tie as tie
 
 returns : tie.Need-returns
@@ -22,7 +15,7 @@ returns-2 c =
     let a = c .before .args in
     rw (le-ltb (a .o + 11 * a .s + 11) (a .sl) (omega arith)) (sym (and-false (leb (3 * a .s + 3) (a .o))))
 
-pub margins-held-spec : {M : Type 1} → statement M
+pub margins-held-spec : {M : Type 1} → Rattle.blocks.proofs.warp.margins_held.Statement.statement M
 margins-held-spec =
     tie.close
     (tie.spec

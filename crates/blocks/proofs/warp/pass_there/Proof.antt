@@ -1,8 +1,5 @@
-use borrow.Author.Needs.{needs}
-use native.Mathlib.Omega.{arith}
-use Rattle.rows.proofs.Laws.Numbers.Signed.{back}
+use Rattle.blocks.proofs.Usual.{arith, needs, back}
 use Rattle.blocks.proofs.Laws.Warp.Corners.{four-all}
-use Rattle.blocks.proofs.warp.pass_there.Statement.{statement}
 use Rattle.blocks.proofs.warp.pass_there.Tie as tie
 
 returns : tie.Need-returns
@@ -19,5 +16,5 @@ returns c =
     )
     (four-all (s .args .n) (s .args .last) (s .args .m) (s .args .a) (s .args .b) (omega (arith, s .pre)))
 
-pub pass-there-spec : {M : Type 1} → statement M
+pub pass-there-spec : {M : Type 1} → Rattle.blocks.proofs.warp.pass_there.Statement.statement M
 pass-there-spec = tie.close (tie.spec (λ c κs. search needs) (λ c κs. search needs) (λ c κs. search needs) (λ c κs. search needs) returns)

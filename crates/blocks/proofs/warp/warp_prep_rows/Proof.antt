@@ -1,15 +1,7 @@
-use native.Mathlib.Omega.{arith}
-use Prim.Native.Nat.{_+_, _-_, _*_, _≤_}
-use lib.IntN.{pos}
-use lib.ListN.{length}
-use mir.Syntax.{w16}
-use borrow.Author.Needs.{needs}
-use Rattle.rows.specs.Numbers.{at, low16, minus16}
+use Rattle.blocks.proofs.Usual.{_≤_, _*_, _+_, _-_, arith, needs, pos, length, w16, at, minus16, low16, backn, Filled, filled-none, row-in, block-loop}
+use Rattle.blocks.proofs.Usual.{filled-span}
 use Rattle.rows.specs.Warp.{warped}
-use Rattle.rows.proofs.Laws.Numbers.Signed.{backn}
-use Rattle.blocks.proofs.Laws.Loops.Rows.{Filled, filled-none, filled-span, row-in, block-loop}
 use Rattle.blocks.proofs.Laws.Warp.Passes.{filled-row}
-use Rattle.blocks.proofs.warp.warp_prep_rows.Statement.{statement}
 use Rattle.blocks.proofs.warp.warp_prep_rows.Tie as tie
 
 abbrev Inv-loop : tie.InvT-loop
@@ -40,7 +32,7 @@ loop-again c =
     let e = rw (backn w16 (s .args .bias) (omega (arith, s .pre .3))) at (c .before .warp-prep-row .ensures) in
     filled-row (pos 0) _ (t .before .loop .inv) (omega arith) (s .pre .0) (t .loop-test .taken) e
 
-pub warp-prep-rows-spec : {M : Type 1} → statement M
+pub warp-prep-rows-spec : {M : Type 1} → Rattle.blocks.proofs.warp.warp_prep_rows.Statement.statement M
 warp-prep-rows-spec =
     tie.close
     (tie.spec Inv-loop μ-loop

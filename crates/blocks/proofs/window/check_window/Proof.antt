@@ -1,11 +1,6 @@
-use borrow.Author.Needs.{needs}
-use mathlib.Core.Path.{sym, _∙_}
-use mathlib.Core.List.{[]}
-use Rattle.rows.proofs.Laws.Numbers.Signed.{back}
-use Rattle.blocks.specs.Window.{Asked}
-use Rattle.blocks.specs.inner.Window.{lentOf, asked}
+use Rattle.blocks.proofs.Usual.{[], _∙_, sym, needs, Asked, lentOf, back}
+use Rattle.blocks.specs.inner.Window.{asked}
 use Rattle.blocks.proofs.Laws.Window.Ready.{sizes-small, window-stop, window-go}
-use Rattle.blocks.proofs.window.check_window.Statement.{statement}
 use Rattle.blocks.proofs.window.check_window.Tie as tie
 
 -- the window that is asked for
@@ -29,7 +24,7 @@ window-held-requires c κs =
     let s = c .before .before in
     sizes-small (lentOf (s .args .lent) []) (want s) (sym (c .before .window-sizes .ensures) ∙ c .if1 .left)
 
-pub check-window-spec : {M : Type 1} → statement M
+pub check-window-spec : {M : Type 1} → Rattle.blocks.proofs.window.check_window.Statement.statement M
 check-window-spec =
     tie.close
     (tie.spec

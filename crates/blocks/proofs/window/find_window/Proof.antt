@@ -1,14 +1,6 @@
-use borrow.Author.Needs.{needs}
-use mathlib.Core.Path.{_≡_, sym, _∙_}
-use mathlib.Core.List.{List}
-use Prim.Native.Nat.{ℕ}
-use lib.ListN.{length}
-use Rattle.rows.proofs.Laws.Numbers.Signed.{back}
-use Rattle.blocks.specs.Refuse.{lowest}
-use Rattle.blocks.specs.Window.{windowTests, areaOf, windowOf}
-use Rattle.blocks.specs.inner.Window.{lentOf, asked}
+use Rattle.blocks.proofs.Usual.{List, _≡_, _∙_, sym, ℕ, needs, length, lowest, windowTests, areaOf, windowOf, lentOf, back}
+use Rattle.blocks.specs.inner.Window.{asked}
 use Rattle.blocks.proofs.Laws.Window.Ready.{plane-of, no-part-of, Accepted, accepted-small, accepted-ready, accepted-part}
-use Rattle.blocks.proofs.window.find_window.Statement.{statement}
 use Rattle.blocks.proofs.window.find_window.Tie as tie
 
 -- what the check answered is the number of the contract, of every plane of as many places
@@ -44,7 +36,7 @@ locate-requires c κs =
 returns-2 : tie.Need-returns-2
 returns-2 c plane l = let p = c .before in accepted-part (accepted (p .before) plane l) (area-is p plane) (c .locate .ensures)
 
-pub find-window-spec : {M : Type 1} → statement M
+pub find-window-spec : {M : Type 1} → Rattle.blocks.proofs.window.find_window.Statement.statement M
 find-window-spec =
     tie.close
     (tie.spec

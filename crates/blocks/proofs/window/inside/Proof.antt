@@ -1,11 +1,6 @@
-use mathlib.Core.Path.{_≡_, refl}
-use native.Mathlib.Omega.{arith}
-use lib.IntN.{pos, _+ℤ_}
-use mir.Syntax.{w64}
-use mir.Val.{SFits, toZ, ofZ}
-use Rattle.rows.proofs.Laws.Numbers.Signed.{back, backn, fit, fit-abs, abs-add}
+use Rattle.blocks.proofs.Usual.{_≡_, refl, arith, pos, _+ℤ_, w64, SFits, toZ, ofZ, back, fit, backn, fit-abs}
+use Rattle.rows.proofs.Laws.Numbers.Signed.{abs-add}
 use Rattle.blocks.specs.Window.{inside}
-use Rattle.blocks.proofs.window.inside.Statement.{statement}
 use Rattle.blocks.proofs.window.inside.Tie as tie
 
 -- the sum, as the machine has it
@@ -19,7 +14,7 @@ returns : tie.Need-returns
 unfolding inside
 returns c = rw (is c, back (fits c), back (c .fits .x), backn w64 (c .args .side) (omega arith)) refl
 
-pub inside-spec : {M : Type 1} → statement M
+pub inside-spec : {M : Type 1} → Rattle.blocks.proofs.window.inside.Statement.statement M
 inside-spec =
     tie.close
     (tie.spec

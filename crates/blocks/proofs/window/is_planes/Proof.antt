@@ -1,7 +1,5 @@
-use mathlib.Core.Path.{refl}
-use Rattle.blocks.specs.Window.{isPlanes}
+use Rattle.blocks.proofs.Usual.{refl, isPlanes}
 use Rattle.blocks.proofs.Laws.Calls.Told.{left-passed, top-passed}
-use Rattle.blocks.proofs.window.is_planes.Statement.{statement}
 use Rattle.blocks.proofs.window.is_planes.Tie as tie
 
 inside-requires : tie.Need-inside-requires
@@ -25,5 +23,5 @@ returns c =
       left-passed a (u .struct-told .given),
     ) refl
 
-pub is-planes-spec : {M : Type 1} → statement M
+pub is-planes-spec : {M : Type 1} → Rattle.blocks.proofs.window.is_planes.Statement.statement M
 is-planes-spec = tie.close (tie.spec inside-requires inside-requires-2 returns)

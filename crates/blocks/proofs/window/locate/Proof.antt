@@ -1,14 +1,7 @@
-use mathlib.Core.Path.{_≡_, refl, sym, ap, _∙_}
-use Prim.Native.Nat.{_+_, _*_, _^_, _≤_}
-use native.Mathlib.Nat.{mul-le-mul-right}
-use native.Mathlib.Omega.{arith}
-use borrow.Author.Needs.{needs}
-use Rattle.rows.specs.Numbers.{up}
+use Rattle.blocks.proofs.Usual.{_≡_, _∙_, refl, sym, ap, _≤_, _*_, _+_, _^_, mul-le-mul-right, arith, needs, up, windowAt}
 use Rattle.rows.proofs.Laws.Numbers.Signed.{abs-parts}
-use Rattle.blocks.specs.Window.{windowAt}
 use Rattle.blocks.proofs.Laws.Calls.Told.{left-passed, top-passed}
 use Rattle.blocks.proofs.Laws.Window.Ready.{own-at}
-use Rattle.blocks.proofs.window.locate.Statement.{statement}
 use Rattle.blocks.proofs.window.locate.Tie as tie
 
 -- the function's entry
@@ -40,7 +33,7 @@ returns-2 : tie.Need-returns-2
 unfolding windowAt
 returns-2 c = rw (sym (c .before .before .is-planes .ensures) ∙ c .before .if1 .left, c .part-len2 .ensures) refl
 
-pub locate-spec : {M : Type 1} → statement M
+pub locate-spec : {M : Type 1} → Rattle.blocks.proofs.window.locate.Statement.statement M
 locate-spec =
     tie.close
     (tie.spec

@@ -1,7 +1,4 @@
-use mathlib.Core.Path.{refl}
-use borrow.Author.Needs.{needs}
-use Rattle.rows.proofs.Laws.Numbers.Signed.{back}
-use Rattle.blocks.proofs.window.window_numbers.Statement.{statement}
+use Rattle.blocks.proofs.Usual.{refl, needs, back}
 use Rattle.blocks.proofs.window.window_numbers.Tie as tie
 
 returns : tie.Need-returns
@@ -9,7 +6,7 @@ returns c =
     let n = c .before in let p = n .before in let m = p .before in let f = m .before .before .before .fits in
     rw (c .needed3 .ensures, m .before .frame-names-ok .ensures, n .needed2 .ensures, p .places .ensures, m .needed .ensures, back (f .x), back (f .y)) refl
 
-pub window-numbers-spec : {M : Type 1} → statement M
+pub window-numbers-spec : {M : Type 1} → Rattle.blocks.proofs.window.window_numbers.Statement.statement M
 window-numbers-spec =
     tie.close
     (tie.spec

@@ -1,12 +1,9 @@
 -- A row of k to 2k pixels, written as its first k and its last k. Assumes nothing.
-use mathlib.Core.Path.{_≡_, ap, _∙_, subst}
-use mathlib.Core.List.{List, _++_}
-use Prim.Native.Nat.{ℕ, _+_, _-_, _*_, _≤_, _<_}
-use native.Mathlib.Omega.{arith}
-use lib.ListN.{length, getD, take, drop, length-append, length-drop, List·getD-append}
-use lib.Seq.{length-take-le}
-use Rattle.rows.specs.Places.{span, splice, rowOf}
-use Rattle.rows.proofs.Laws.Blocks.Places.{by-lt, span-length, splice-length, splice-before, splice-in, row-length, row-at, row-done}
+use Rattle.rows.proofs.Usual.{List, _≡_, _∙_, ap, subst, _-_, _+_, _*_, _≤_, _<_, ℕ, arith, length, getD, length-take-le, span, splice, rowOf, by-lt}
+use Rattle.rows.proofs.Usual.{span-length}
+use mathlib.Core.List.{_++_}
+use lib.ListN.{take, drop, length-append, length-drop, List·getD-append}
+use Rattle.rows.proofs.Laws.Blocks.Places.{splice-length, splice-before, splice-in, row-length, row-at, row-done}
 
 -- d becomes the pixels from place o of src on
 pub record Ends (src : List ℕ) (o : ℕ) (d : List ℕ) (k : ℕ) : Type 0 where

@@ -1,16 +1,12 @@
 -- Laws of `fill`, a block written into a buffer of rows, and of `fillIn`, the same over any set of places. Assumes nothing.
-use mathlib.Core.Path.{_≡_, refl, sym, ap, _∙_, subst}
-use mathlib.Core.Logic.{_⊎_, ⊎-elim}
-use mathlib.Core.Bool.{Bool, true, false, _&&_, _||_, true≢false}
-use mathlib.Core.List.{List, [], _∷_}
-use Prim.Native.Nat.{ℕ, zero, suc, _+_, _-_, _*_, _/_, _%_, _≤_, _<_}
-use native.Mathlib.Nat.{add-zero, zero-add, not-suc-le-zero, le-of-suc-le-suc}
-use native.Mathlib.Omega.{arith}
-use lib.ListN.{length, getD}
-use lib.Dec.{ltb}
-use borrow.Author.Tests.{ltb-true, lt-ltb, le-ltb}
-use Rattle.rows.specs.Places.{pick, paint, inBlock, fillIn, fill, splice}
-use Rattle.rows.proofs.Laws.Blocks.Places.{by-lt, row-le, col-of, row-of, ext-grid, splice-length, splice-before, splice-in, splice-after}
+use Rattle.rows.proofs.Usual.{true, Bool, false, List, ⊎-elim, _⊎_, _≡_, _∙_, refl, ap, sym, subst, _-_, _+_, _*_, _≤_, _<_, ℕ, _/_, suc, zero, _%_}
+use Rattle.rows.proofs.Usual.{add-zero, arith, ltb-true, ltb, length, getD, splice, by-lt}
+use mathlib.Core.Bool.{_&&_, _||_, true≢false}
+use mathlib.Core.List.{[], _∷_}
+use native.Mathlib.Nat.{zero-add, not-suc-le-zero, le-of-suc-le-suc}
+use borrow.Author.Tests.{lt-ltb, le-ltb}
+use Rattle.rows.specs.Places.{pick, paint, inBlock, fillIn, fill}
+use Rattle.rows.proofs.Laws.Blocks.Places.{row-le, col-of, row-of, ext-grid, splice-length, splice-before, splice-in, splice-after}
 
 module _ {A : Type 0} where
   pub length-paint : (k : ℕ) (g : ℕ → A → A) (d : List A) → length (paint k g d) ≡ length d

@@ -1,14 +1,8 @@
 -- Where a loop that changes a row in place stands: the first i elements of d are as f says, the others as they were in d₀.
 -- Assumes nothing.
-use mathlib.Core.Path.{_≡_, refl, _∙_}
-use mathlib.Core.List.{List}
-use Prim.Native.Nat.{ℕ, _+_, _≤_, _<_}
+use Rattle.rows.proofs.Usual.{List, _≡_, _∙_, refl, _+_, _≤_, _<_, ℕ, arith, length, getD, set, rowOf, Upto, upto-all, upto-none, upto-more}
 use native.Mathlib.Nat.{le-refl}
-use native.Mathlib.Omega.{arith}
-use lib.ListN.{length, getD, set}
 use lib.Seq.{getD-set-other}
-use Rattle.rows.specs.Places.{rowOf}
-use Rattle.rows.proofs.Laws.Blocks.Row.{Upto, upto-none, upto-more, upto-all}
 
 module _ {A : Type 0} where
   pub record Over (z : A) (f : ℕ → A) (d₀ : List A) (i : ℕ) (d : List A) : Type 0 where

@@ -1,15 +1,11 @@
 -- A part of an array, written from its front by stores into the whole. Assumes nothing.
-use mathlib.Core.Path.{_≡_, refl, sym, ap, subst, _∙_}
-use mathlib.Core.List.{List}
-use mathlib.Core.Logic.{_⊎_, inl, inr}
-use Prim.Native.Nat.{ℕ, _+_, _-_, _≤_, _<_}
-use native.Mathlib.Nat.{ne-of-lt, add-zero}
-use native.Mathlib.Omega.{arith}
-use lib.ListN.{length, getD, set, length-set}
+use Rattle.rows.proofs.Usual.{List, _⊎_, _≡_, _∙_, refl, ap, sym, subst, _-_, _+_, _≤_, _<_, ℕ, add-zero, arith, length, getD, set, splice, rowOf, by-lt}
+use Rattle.rows.proofs.Usual.{Upto}
+use mathlib.Core.Logic.{inl, inr}
+use native.Mathlib.Nat.{ne-of-lt}
+use lib.ListN.{length-set}
 use lib.Seq.{ext-getD, getD-set-same, getD-set-other}
-use Rattle.rows.specs.Places.{rowOf, splice}
-use Rattle.rows.proofs.Laws.Blocks.Row.{Upto}
-use Rattle.rows.proofs.Laws.Blocks.Places.{by-lt, length-rowOf, getD-rowOf, splice-length, splice-before, splice-in, splice-after}
+use Rattle.rows.proofs.Laws.Blocks.Places.{length-rowOf, getD-rowOf, splice-length, splice-before, splice-in, splice-after}
 
 module _ {A : Type 0} where
   -- i of the w elements from place q on are as f says, and no other of d₀ has changed

@@ -1,18 +1,17 @@
 -- The cut law, for any picture: rectangles inside a block that together cover it leave the block, in whatever order they are written. Assumes nothing.
-use mathlib.Core.Path.{_≡_, refl, sym, ap, _∙_, subst}
-use mathlib.Core.Logic.{_⊎_, inl, ⊎-elim}
-use mathlib.Core.Bool.{Bool, true, false, _&&_, _||_, true≢false}
-use mathlib.Core.List.{List, [], _∷_, _++_}
-use Prim.Native.Nat.{ℕ, _+_, _-_, _*_, _/_, _%_, _≤_, _<_}
+use Rattle.rows.proofs.Usual.{true, Bool, false, List, ⊎-elim, _⊎_, _≡_, _∙_, refl, ap, sym, subst, _-_, _+_, _*_, _≤_, _<_, ℕ, _/_, _%_, arith, length}
+use Rattle.rows.proofs.Usual.{getD, length-take-le, by-lt}
+use mathlib.Core.Logic.{inl}
+use mathlib.Core.Bool.{_&&_, _||_, true≢false}
+use mathlib.Core.List.{[], _∷_, _++_}
 use native.Mathlib.Nat.{add-mul, zero-add, mod-lt, div-add-mod'}
-use native.Mathlib.Omega.{arith}
-use lib.ListN.{length, getD, take, drop, length-append, length-drop, List·getD-append}
-use lib.Seq.{ext-getD, getD-append-add, getD-take, getD-drop, length-take-le}
+use lib.ListN.{take, drop, length-append, length-drop, List·getD-append}
+use lib.Seq.{ext-getD, getD-append-add, getD-take, getD-drop}
 use lib.Dec.{leb}
 use borrow.Author.Tests.{le-leb, leb-true}
 use Rattle.rows.specs.Places.{pick, inBlock, fill, fillIn, lentFrom}
 use Rattle.rows.specs.Cut.{Rect, has, begins, Inside, covered, Each, Cut, putEach}
-use Rattle.rows.proofs.Laws.Blocks.Places.{by-lt, col-of, row-of}
+use Rattle.rows.proofs.Laws.Blocks.Places.{col-of, row-of}
 use Rattle.rows.proofs.Laws.Blocks.Fill.{getD-paint, inBlock-in, inBlock-true, inBlock-col, inBlock-row, and-true, length-fill, length-fillIn, fillIn-at, fillIn-is, fillIn-ext, fillIn-join, fill-same}
 
 -- ---- a box, by its places

@@ -1,12 +1,8 @@
 -- The cut law of any kernel. Its pixel is a rule on the pixels around a place; moved along, its picture is that of the order that is moved along:
 -- so a block cut into rectangles, each predicted by itself, is the block, whenever each rectangle has the block's rule. Assumes nothing.
-use mathlib.Core.Path.{_≡_, refl, sym, ap, _∙_}
-use mathlib.Core.List.{List}
-use Prim.Native.Nat.{ℕ, zero, suc, _+_, _≤_, _<_}
+use Rattle.rows.proofs.Usual.{List, _≡_, _∙_, refl, ap, sym, _+_, _≤_, _<_, ℕ, suc, zero, ltb, pos, ℤ, _+ℤ_, negsuc, length}
 use native.Mathlib.Nat.{add-assoc}
-use lib.Dec.{ltb}
-use lib.ListN.{length}
-use lib.IntN.{ℤ, pos, negsuc, negℤ, _+ℤ_, +ℤ-assoc, +ℤ-comm, pos-+ℤ-pos}
+use lib.IntN.{negℤ, +ℤ-assoc, +ℤ-comm, pos-+ℤ-pos}
 use Rattle.rows.specs.Places.{fill}
 use Rattle.rows.specs.Edge.{aroundAt}
 use Rattle.rows.specs.Subpel.{family, axis}

@@ -1,11 +1,7 @@
 -- What a kernel's pixel rule reads: the pixels around its place for columns and rows below 8 (8-tap, warp), below 2 (bilinear), the pixel itself (copy).
 -- So two pictures that agree there give the same pixel. Assumes nothing.
-use mathlib.Core.Path.{_≡_, ap, ap₂}
-use mathlib.Core.List.{List}
-use Prim.Native.Nat.{ℕ, zero, suc, _+_, _-_, _<_, _^_}
-use native.Mathlib.Omega.{arith}
-use lib.IntN.{ℤ, pos, _+ℤ_}
-use Rattle.rows.specs.Numbers.{clip, low16, minus16, _>>_}
+use Rattle.rows.proofs.Usual.{List, _≡_, ap, ap₂, _-_, _+_, _<_, _^_, ℕ, suc, zero, arith, pos, ℤ, _+ℤ_, clip, minus16, low16}
+use Rattle.rows.specs.Numbers.{_>>_}
 use Rattle.rows.specs.Copy.{prep}
 use Rattle.rows.specs.Subpel.{Axis, whole, by, mid, put8, prep8}
 use Rattle.rows.specs.Bilinear.{bilin, R, along, down, bilinMid, putBilin, prepBilin}

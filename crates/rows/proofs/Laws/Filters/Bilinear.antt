@@ -1,19 +1,13 @@
 -- What the bilinear rows share: two numbers that are widened to 32 bits, summed as they were; and pixels that are summed by their bytes. Assumes nothing.
-use mathlib.Core.Path.{_≡_, sym, ap, ap₂, subst, _∙_}
-use mathlib.Core.List.{List}
-use Prim.Native.Nat.{ℕ, _+_, _-_, _*_, _/_, _%_, _^_, _≤_, _<_, min}
+use Rattle.rows.proofs.Usual.{List, _≡_, _∙_, ap, sym, subst, ap₂, _-_, _+_, _*_, _≤_, _<_, _^_, ℕ, _/_, min, _%_, arith, pos, ℤ, _+ℤ_, _*ℤ_, _-ℤ_}
+use Rattle.rows.proofs.Usual.{natAbs, negsuc, getD, shrZ, mag, w32, w16, SFits, toZ, ofZ, clip, px, up, dn, modZ, back, backn, back16, eq-of, sub-parts}
+use Rattle.rows.proofs.Usual.{abs-mag, add-parts}
 use native.Mathlib.Nat.{add-assoc, mul-assoc, mul-add, add-mul, mul-le-mul-left, add-mul-div-right, div-add-mod'}
-use native.Mathlib.Omega.{arith}
-use lib.IntN.{ℤ, pos, negsuc, natAbs, _+ℤ_, _-ℤ_, _*ℤ_}
-use lib.ListN.{getD}
 use lib.Pow.{pow-pos, pow-mono, shr-shr}
-use lib.Signed.{mag, shrZ}
-use mir.Syntax.{w16, w32}
-use mir.Val.{SFits, toZ, ofZ}
-use Rattle.rows.specs.Numbers.{up, dn, px, modZ, clip, half}
+use Rattle.rows.specs.Numbers.{half}
 use Rattle.rows.specs.Bilinear.{bilin, R}
 use Rattle.rows.specs.inner.Bilinear.{bilinAt}
-use Rattle.rows.proofs.Laws.Numbers.Signed.{eq-of, add-parts, sub-parts, times-up, times-dn, back, backn, back16, abs-mag}
+use Rattle.rows.proofs.Laws.Numbers.Signed.{times-up, times-dn}
 
 -- y is the number z, a pixel's or an intermediate's
 pub record Widened (y z : ℤ) : Type 0 where

@@ -1,16 +1,9 @@
 -- A filter sum of numbers less 2^15, and 2^15 times the taps' own sum: together the filter sum of the numbers. Assumes nothing.
-use mathlib.Core.Path.{_≡_, refl, ap, ap₂, _∙_}
-use mathlib.Core.List.{List}
-use Prim.Native.Nat.{ℕ, zero, suc, _+_, _*_, _^_, _≤_, _<_}
-use native.Mathlib.Omega.{arith}
-use lib.IntN.{ℤ, pos, _+ℤ_, _-ℤ_, _*ℤ_}
-use lib.Signed.{mag}
-use mir.Syntax.{w16, w32}
-use mir.Val.{SFits, toZ, ofZ}
-use Rattle.rows.specs.Numbers.{at, sumZ, up, dn}
+use Rattle.rows.proofs.Usual.{List, _≡_, _∙_, refl, ap, ap₂, _+_, _*_, _≤_, _<_, _^_, ℕ, suc, zero, arith, pos, ℤ, _+ℤ_, _*ℤ_, _-ℤ_, mag, w32, w16}
+use Rattle.rows.proofs.Usual.{SFits, toZ, ofZ, at, up, dn, sumZ, back, fit, mag-add, eq-of, sub-parts, abs-mag, mag-mul, add-parts, Summed, summed-mag}
 use Rattle.rows.specs.Subpel.{S}
-use Rattle.rows.proofs.Laws.Numbers.Signed.{back, fit, sub-ind, mag-add, mag-mul, abs-mag, add-parts, sub-parts, mul-parts, mul-up, mul-dn, eq-of}
-use Rattle.rows.proofs.Laws.Numbers.Sum.{Summed, summed-is, summed-mag}
+use Rattle.rows.proofs.Laws.Numbers.Signed.{sub-ind, mul-parts, mul-up, mul-dn}
+use Rattle.rows.proofs.Laws.Numbers.Sum.{summed-is}
 
 -- a pixel less 2^15 has sixteen bits
 pub centred-fits : (x : ℕ) → x < 2 ^ 16 → SFits w16 (pos x -ℤ pos 32768)

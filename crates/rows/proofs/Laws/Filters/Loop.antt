@@ -1,17 +1,7 @@
 -- What the filters' loops share: the end of a sum of eight taps, and one more intermediate of a row. Assumes nothing.
-use mathlib.Core.Path.{_≡_, _∙_}
-use mathlib.Core.List.{List}
-use Prim.Native.Nat.{ℕ, _+_, _^_, _≤_, _<_}
-use native.Mathlib.Omega.{arith}
-use lib.IntN.{ℤ, pos}
-use lib.ListN.{set}
-use lib.Signed.{mag}
-use mir.Syntax.{w16, w32}
-use mir.Val.{SFits, toZ, ofZ}
-use Rattle.rows.specs.Numbers.{sumZ}
-use Rattle.rows.proofs.Laws.Numbers.Signed.{back}
-use Rattle.rows.proofs.Laws.Numbers.Sum.{Summed, summed-is, summed-mag}
-use Rattle.rows.proofs.Laws.Blocks.Row.{Upto, upto-more}
+use Rattle.rows.proofs.Usual.{List, _≡_, _∙_, _+_, _≤_, _<_, _^_, ℕ, arith, pos, ℤ, set, mag, w32, w16, SFits, toZ, ofZ, sumZ, Upto, upto-more, back}
+use Rattle.rows.proofs.Usual.{Summed, summed-mag}
+use Rattle.rows.proofs.Laws.Numbers.Sum.{summed-is}
 
 pub summed-eight : {g : ℕ → ℤ} {j s : ℕ} → j ≤ 8 → 8 ≤ j → Summed g (2 ^ 24) j s → (toZ w32 s ≡ sumZ 8 g) × (mag (toZ w32 s) < 2 ^ 30)
 summed-eight {g} {j} {s} h k q =

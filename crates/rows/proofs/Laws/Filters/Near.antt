@@ -1,25 +1,17 @@
 -- Sums by near taps: their sizes sum to 128 at most, so each part of a sum of bytes is within 128 * 255 of 0, which sixteen bits hold.
 -- Assumes nothing.
-use mathlib.Core.Path.{_≡_, refl, sym, ap, ap₂, _∙_}
-use mathlib.Core.List.{List}
-use Prim.Native.Nat.{ℕ, zero, suc, _+_, _-_, _*_, _/_, _%_, _^_, _≤_, _<_}
+use Rattle.rows.proofs.Usual.{List, _≡_, _∙_, refl, ap, sym, ap₂, _-_, _+_, _*_, _≤_, _<_, _^_, ℕ, _/_, suc, zero, _%_, arith, pos, ℤ, _+ℤ_, _*ℤ_, _-ℤ_}
+use Rattle.rows.proofs.Usual.{natAbs, negsuc, getD, shrZ, sfits-widen, w32, w16, w8, SFits, toZ, ofZ, toZ-ofZ, at, up, minus16, dn, modZ, low16, sumZ}
+use Rattle.rows.proofs.Usual.{rowOf, back, fit, fit-abs, eq-of, sub-parts, abs-add, add-parts}
 use native.Mathlib.Nat.{le-refl, zero-add, suc-add, div-add-mod', mod-lt, mul-div-cancel}
 use native.Mathlib.Numerals.{add-one}
-use native.Mathlib.Omega.{arith}
-use lib.IntN.{ℤ, pos, negsuc, natAbs, _+ℤ_, _-ℤ_, _*ℤ_, +ℤ-assoc}
-use lib.ListN.{getD}
+use lib.IntN.{+ℤ-assoc}
 use lib.Pow.{pow-pos, pow-add}
-use lib.Signed.{shrZ}
-use mir.Syntax.{w8, w16, w32}
-use mir.Val.{SFits, toZ, ofZ}
-use mir.ValLaws.{toZ-ofZ}
-use mir.Facts.{sfits-widen}
-use Rattle.rows.specs.Numbers.{at, modZ, sum, sumZ, up, dn, low16, minus16}
-use Rattle.rows.specs.Places.{rowOf}
+use Rattle.rows.specs.Numbers.{sum}
 use Rattle.rows.specs.Subpel.{S, tapped}
 use Rattle.rows.specs.inner.Subpel.{Near}
 use Rattle.rows.proofs.Laws.Blocks.Places.{row-same, row-of, getD-rowOf}
-use Rattle.rows.proofs.Laws.Numbers.Signed.{back, abs-add, fit-abs, eq-of, add-parts, mul-up, mul-dn, mul-parts, sub-parts, mag-lt, fit}
+use Rattle.rows.proofs.Laws.Numbers.Signed.{mul-up, mul-dn, mul-parts, mag-lt}
 
 -- a tap, widened to sixteen bits
 pub wide8-16 : {z : ℤ} → SFits w8 z → SFits w16 z

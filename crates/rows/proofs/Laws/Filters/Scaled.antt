@@ -1,13 +1,8 @@
 -- Rows from a reference of another size: how far their positions go, and the intermediate at a position, by its fraction. Assumes nothing.
-use mathlib.Core.Path.{_≡_, sym, ap, ap₂, _∙_}
-use mathlib.Core.List.{List}
-use Prim.Native.Nat.{ℕ, zero, suc, _+_, _-_, _*_, _^_, _≤_, _<_}
-use native.Mathlib.Nat.{add-zero, mul-le-mul}
-use native.Mathlib.Omega.{arith}
-use lib.IntN.{ℤ, pos}
-use lib.ListN.{length, getD}
-use Rattle.rows.specs.Numbers.{px, half, low16, minus16}
-use Rattle.rows.specs.Places.{span, rowOf}
+use Rattle.rows.proofs.Usual.{List, _≡_, _∙_, ap, sym, ap₂, _-_, _+_, _*_, _≤_, _<_, _^_, ℕ, suc, zero, add-zero, arith, pos, ℤ, length, getD, px}
+use Rattle.rows.proofs.Usual.{minus16, low16, span, rowOf}
+use native.Mathlib.Nat.{mul-le-mul}
+use Rattle.rows.specs.Numbers.{half}
 use Rattle.rows.specs.Copy.{prep}
 use Rattle.rows.specs.Subpel.{filter, tapped}
 use Rattle.rows.specs.Bilinear.{bilin, R}

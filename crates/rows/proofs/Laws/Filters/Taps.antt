@@ -1,10 +1,6 @@
 -- A filter sum depends on its eight numbers alone. Assumes nothing.
-use mathlib.Core.Path.{_≡_, refl, ap, ap₂}
-use mathlib.Core.List.{List}
-use Prim.Native.Nat.{ℕ, zero, suc, _<_}
-use native.Mathlib.Omega.{arith}
-use lib.IntN.{ℤ, pos, _+ℤ_, _*ℤ_}
-use Rattle.rows.specs.Numbers.{at, sumZ, _>>_}
+use Rattle.rows.proofs.Usual.{List, _≡_, refl, ap, ap₂, _<_, ℕ, suc, zero, arith, pos, ℤ, _+ℤ_, _*ℤ_, at, sumZ}
+use Rattle.rows.specs.Numbers.{_>>_}
 use Rattle.rows.specs.Subpel.{S, tapped}
 
 pub sum-same : (n : ℕ) (g h : ℕ → ℤ) → ((t : ℕ) → t < n → g t ≡ h t) → sumZ n g ≡ sumZ n h

@@ -1,22 +1,13 @@
 -- Laws of the warp's filters: a filter's place in the table, half of a power, and taps that stand side by side. Assumes nothing.
-use mathlib.Core.Path.{_≡_, sym, ap, subst, _∙_}
-use mathlib.Core.Bool.{true}
-use mathlib.Core.List.{List}
-use Prim.Native.Nat.{ℕ, _+_, _-_, _*_, _^_, _≤_, _<_}
+use Rattle.rows.proofs.Usual.{true, List, _≡_, _∙_, ap, sym, subst, _-_, _+_, _*_, _≤_, _<_, _^_, ℕ, arith, ltb-true, T, pos, ℤ, _+ℤ_, natAbs, negsuc}
+use Rattle.rows.proofs.Usual.{length, shrZ, at, low16, span, span-length, Upto}
 use native.Mathlib.Nat.{mul-le-mul-right, mul-one, pow-suc, not-suc-le-zero}
 use native.Mathlib.Numerals.{add-one}
-use native.Mathlib.Omega.{arith}
-use borrow.Author.Tests.{ltb-true}
-use lib.Dec.{T}
-use lib.IntN.{ℤ, pos, negsuc, natAbs, _+ℤ_}
-use lib.ListN.{length}
-use lib.Signed.{nonNeg, shrZ}
-use Rattle.rows.specs.Numbers.{at, half, low16}
-use Rattle.rows.specs.Places.{span}
+use lib.Signed.{nonNeg}
+use Rattle.rows.specs.Numbers.{half}
 use Rattle.rows.specs.Subpel.{filter, tapped, S}
 use Rattle.rows.specs.Warp.{isThere}
-use Rattle.rows.proofs.Laws.Blocks.Places.{span-length, span-at, row-done, length-rowOf}
-use Rattle.rows.proofs.Laws.Blocks.Row.{Upto}
+use Rattle.rows.proofs.Laws.Blocks.Places.{span-at, row-done, length-rowOf}
 use Rattle.rows.proofs.Laws.Filters.Taps.{tapped-same}
 
 -- a filter that is in the table has a place there

@@ -1,10 +1,8 @@
 -- A loop that sums numbers without a sign: after i of n turns its local holds  sum i g,  at most i * M.
 -- Assumes nothing.
-use mathlib.Core.Path.{_≡_, refl, ap₂}
-use Prim.Native.Nat.{ℕ, _+_, _*_, _≤_, _<_}
+use Rattle.rows.proofs.Usual.{_≡_, refl, ap₂, _+_, _*_, _≤_, _<_, ℕ, arith}
 use native.Mathlib.Nat.{le-antisymm}
 use native.Mathlib.Numerals.{add-one}
-use native.Mathlib.Omega.{arith}
 use Rattle.rows.specs.Numbers.{sum}
 
 pub record Added (g : ℕ → ℕ) (M n i s : ℕ) : Type 0 where

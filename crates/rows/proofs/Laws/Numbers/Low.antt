@@ -1,17 +1,13 @@
 -- The low sixteen bits of a signed number, what `((v << 16) >> 16) as i16` is; and the low 32. Assumes nothing.
-use mathlib.Core.Path.{_≡_, refl, ap, _∙_}
-use mathlib.Core.Bool.{Bool, true, false, not}
-use Prim.Native.Nat.{ℕ, suc, _-_, _*_, _/_, _%_, _^_, _≤_, _<_}
+use Rattle.rows.proofs.Usual.{true, Bool, false, _≡_, _∙_, refl, ap, _-_, _*_, _≤_, _<_, _^_, ℕ, _/_, suc, _%_, arith, T, ltb, pos, ℤ, _-ℤ_, negsuc}
+use Rattle.rows.proofs.Usual.{shrZ, w32, w16, w64, SFits, toZ, ofZ, toZ-ofZ, modZ, low16, eq-of, sub-parts}
+use mathlib.Core.Bool.{not}
 use native.Mathlib.Nat.{mod-lt}
-use native.Mathlib.Omega.{arith}
-use lib.Dec.{T, ltb, ltb→lt, nltb→le}
-use lib.IntN.{ℤ, pos, negsuc, _-ℤ_}
-use lib.Signed.{shrZ}
-use mir.Syntax.{Width, w16, w32, w64}
-use mir.Val.{SFits, toZ, ofZ, bits, hbits, sel}
-use mir.ValLaws.{toZ-fits, toZ-pos, toZ-ofZ}
-use Rattle.rows.specs.Numbers.{modZ, low16, low32}
-use Rattle.rows.proofs.Laws.Numbers.Signed.{eq-of, sub-parts}
+use lib.Dec.{ltb→lt, nltb→le}
+use mir.Syntax.{Width}
+use mir.Val.{bits, hbits, sel}
+use mir.ValLaws.{toZ-fits, toZ-pos}
+use Rattle.rows.specs.Numbers.{low32}
 
 -- by the half in which the bits lie
 pub toZ-ind : (w : Width) (n : ℕ) (P : ℤ → Type 0) → (n < 2 ^ hbits w → P (pos n)) → (2 ^ hbits w ≤ n → P (negsuc (2 ^ bits w - suc n))) → P (toZ w n)

@@ -1,13 +1,12 @@
 -- The combining laws of demand 3, on pixels: for any largest pixel M, any B and any P, so at each depth. Assumes nothing.
-use mathlib.Core.Path.{_≡_, sym, ap, ap₂, _∙_}
-use Prim.Native.Nat.{ℕ, _+_, _-_, _*_, _/_, _^_}
+use Rattle.rows.proofs.Usual.{_≡_, _∙_, ap, sym, ap₂, _-_, _+_, _*_, _^_, ℕ, _/_, arith, pos, ℤ, _+ℤ_, _*ℤ_, _-ℤ_, negsuc, clip, up, dn, eq-of, one-part}
+use Rattle.rows.proofs.Usual.{sub-parts, add-parts}
 use native.Mathlib.Nat.{mul-assoc, mul-div-mul-left, div-div-eq-div-mul}
-use native.Mathlib.Omega.{arith}
-use lib.IntN.{ℤ, pos, negsuc, _+ℤ_, _-ℤ_, _*ℤ_, +ℤ-comm}
+use lib.IntN.{+ℤ-comm}
 use lib.Pow.{pow-add}
-use Rattle.rows.specs.Numbers.{up, dn, clip, _>>_}
+use Rattle.rows.specs.Numbers.{_>>_}
 use Rattle.rows.specs.Combine.{avg, weighted, masked}
-use Rattle.rows.proofs.Laws.Numbers.Signed.{add-parts, sub-parts, eq-of, one-part, mul-parts, times-up, times-dn}
+use Rattle.rows.proofs.Laws.Numbers.Signed.{mul-parts, times-up, times-dn}
 
 -- "swapping two inputs": avg is the same
 pub swap-avg : (M B P : ℕ) (a b : ℤ) → avg M B P a b ≡ avg M B P b a

@@ -1,16 +1,11 @@
 -- A row of the endless plane is written in three parts: up to place a the plane's first pixel, up to place e its pixels, then its last.
 -- Assumes nothing.
-use mathlib.Core.Path.{_≡_, sym, ap, _∙_, subst}
-use mathlib.Core.List.{List, _++_}
-use Prim.Native.Nat.{ℕ, _+_, _-_, _≤_, _<_, min}
-use native.Mathlib.Omega.{arith}
-use lib.IntN.{ℤ, pos, _+ℤ_, _-ℤ_}
-use lib.ListN.{length, getD, take, drop, length-append, length-drop, List·getD-append}
-use lib.Seq.{length-take-le}
-use Rattle.rows.specs.Numbers.{up, dn, clip}
-use Rattle.rows.specs.Places.{span, splice, rowOf}
-use Rattle.rows.proofs.Laws.Numbers.Signed.{add-parts, sub-parts, one-part, clip-up}
-use Rattle.rows.proofs.Laws.Blocks.Places.{by-lt, span-length, splice-length, splice-before, splice-in, row-length, row-at, row-done}
+use Rattle.rows.proofs.Usual.{List, _≡_, _∙_, ap, sym, subst, _-_, _+_, _≤_, _<_, ℕ, min, arith, pos, ℤ, _+ℤ_, _-ℤ_, length, getD, length-take-le, clip}
+use Rattle.rows.proofs.Usual.{up, dn, span, splice, rowOf, by-lt, span-length, one-part, sub-parts, add-parts}
+use mathlib.Core.List.{_++_}
+use lib.ListN.{take, drop, length-append, length-drop, List·getD-append}
+use Rattle.rows.proofs.Laws.Numbers.Signed.{clip-up}
+use Rattle.rows.proofs.Laws.Blocks.Places.{splice-length, splice-before, splice-in, row-length, row-at, row-done}
 
 -- ---- columns: left of the plane, in it, right of it
 left-col : (iw : ℕ) (x : ℤ) (i : ℕ) → i < dn x → clip (iw - 1) (x +ℤ pos i) ≡ 0

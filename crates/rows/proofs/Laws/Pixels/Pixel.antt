@@ -1,16 +1,10 @@
 -- What a blended pixel is at most, and how the code's sums are the definitions'. Assumes nothing.
-use mathlib.Core.Path.{_≡_, ap₂}
-use Prim.Native.Nat.{ℕ, _+_, _-_, _*_, _^_, _≤_, _<_}
+use Rattle.rows.proofs.Usual.{_≡_, ap₂, _-_, _+_, _*_, _≤_, _<_, _^_, ℕ, arith, pos, ℤ, _+ℤ_, _*ℤ_, mag, w16, toZ, ofZ, clip, back, fit, eq-of}
 use native.Mathlib.Nat.{mul-le-mul, mul-le-mul-right, mul-add}
-use native.Mathlib.Omega.{arith}
-use lib.IntN.{ℤ, pos, _+ℤ_, _*ℤ_}
 use lib.Pow.{pow-mono}
-use lib.Signed.{mag}
-use mir.Syntax.{w16}
-use mir.Val.{toZ, ofZ}
-use Rattle.rows.specs.Numbers.{clip, _>>_}
+use Rattle.rows.specs.Numbers.{_>>_}
 use Rattle.rows.specs.Combine.{avg, blend}
-use Rattle.rows.proofs.Laws.Numbers.Signed.{back, fit, eq-of, times-up, times-dn}
+use Rattle.rows.proofs.Laws.Numbers.Signed.{times-up, times-dn}
 
 -- ---- the roundings h x 2^B and 2h x P, for the halves of the weights' sums to 32
 pub half-le : {h B : ℕ} → h ≤ 32 → B ≤ 4 → h * 2 ^ B ≤ 32 * 2 ^ 4

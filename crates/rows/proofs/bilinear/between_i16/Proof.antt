@@ -1,12 +1,6 @@
-use borrow.Author.Needs.{needs}
-use native.Mathlib.Omega.{arith}
-use Prim.Native.Nat.{_+_}
-use mir.Syntax.{w16}
-use mir.Val.{SFits}
-use Rattle.rows.specs.Numbers.{at}
-use Rattle.rows.proofs.Laws.Numbers.Signed.{back, fit, wide16}
+use Rattle.rows.proofs.Usual.{_+_, arith, needs, w16, SFits, at, back, fit}
+use Rattle.rows.proofs.Laws.Numbers.Signed.{wide16}
 use Rattle.rows.proofs.Laws.Filters.Bilinear.{mid-widened, between-is}
-use Rattle.rows.proofs.bilinear.between_i16.Statement.{statement}
 use Rattle.rows.proofs.bilinear.between_i16.Tie as tie
 
 first : (c : tie.After-bilin-weighed-arg) → SFits w16 (at (c .before .args .mid .now) (c .before .args .p))
@@ -20,7 +14,7 @@ returns c =
     let b = c .before in
     between-is (b .before .before .args .f) (mid-widened _ (first (b .before))) (mid-widened _ (second b)) (omega arith) (c .bilin-weighed .ensures)
 
-pub between-i16-spec : {M : Type 1} → statement M
+pub between-i16-spec : {M : Type 1} → Rattle.rows.proofs.bilinear.between_i16.Statement.statement M
 between-i16-spec =
     tie.close
     (tie.spec

@@ -1,15 +1,11 @@
-use borrow.Author.Needs.{needs}
-use native.Mathlib.Omega.{arith}
-use Prim.Native.Nat.{_+_, _-_, _*_, _≤_}
-use lib.IntN.{pos}
+use Rattle.rows.proofs.Usual.{_-_, _+_, _*_, _≤_, arith, needs, pos}
 use Rattle.rows.proofs.Laws.Filters.Bilinear.{weighed, bytes-le}
-use Rattle.rows.proofs.bilinear.bilin_bytes.Statement.{statement}
 use Rattle.rows.proofs.bilinear.bilin_bytes.Tie as tie
 
 small : (c : tie.Start) → (16 - c .args .f) * c .args .a + c .args .f * c .args .b ≤ 4080
 small c = bytes-le (c .pre .0) (c .pre .1) (omega arith)
 
-pub bilin-bytes-spec : {M : Type 1} → statement M
+pub bilin-bytes-spec : {M : Type 1} → Rattle.rows.proofs.bilinear.bilin_bytes.Statement.statement M
 bilin-bytes-spec =
     tie.close
     (tie.spec

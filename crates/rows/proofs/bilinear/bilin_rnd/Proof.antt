@@ -1,15 +1,7 @@
-use borrow.Author.Needs.{needs}
-use native.Mathlib.Omega.{arith}
-use mathlib.Core.Path.{refl}
-use Prim.Native.Nat.{_^_}
-use lib.IntN.{ℤ, pos, _+ℤ_}
+use Rattle.rows.proofs.Usual.{refl, _^_, arith, needs, pos, ℤ, _+ℤ_, w32, SFits, back, mag-add, rd}
 use lib.Signed.{mag-shr}
-use mir.Syntax.{w32}
-use mir.Val.{SFits}
 use Rattle.rows.specs.Numbers.{half}
 use Rattle.rows.specs.Bilinear.{R}
-use Rattle.rows.proofs.Laws.Numbers.Signed.{back, mag-add, rd}
-use Rattle.rows.proofs.bilinear.bilin_rnd.Statement.{statement}
 use Rattle.rows.proofs.bilinear.bilin_rnd.Tie as tie
 
 returns : tie.Need-returns
@@ -21,7 +13,7 @@ returns c =
     rw (back fr, c .rounded .ensures, back (s .fits .s), k .half-power .ensures .0)
     (refl, omega (arith, mag-shr v (2 ^ s .args .n), mag-add (s .args .s) (pos (half (s .args .n)))))
 
-pub bilin-rnd-spec : {M : Type 1} → statement M
+pub bilin-rnd-spec : {M : Type 1} → Rattle.rows.proofs.bilinear.bilin_rnd.Statement.statement M
 bilin-rnd-spec =
     tie.close
     (tie.spec

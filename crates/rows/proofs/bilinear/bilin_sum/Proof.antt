@@ -1,14 +1,6 @@
-use borrow.Author.Needs.{needs}
-use native.Mathlib.Omega.{arith}
-use Prim.Native.Nat.{_*_, _≤_}
-use lib.IntN.{ℤ, pos, natAbs, _+ℤ_, _-ℤ_, _*ℤ_}
-use lib.Signed.{mag}
-use mathlib.Core.Path.{refl}
-use mir.Syntax.{w32}
-use mir.Val.{SFits}
+use Rattle.rows.proofs.Usual.{refl, _*_, _≤_, arith, needs, pos, ℤ, _+ℤ_, _*ℤ_, _-ℤ_, natAbs, mag, w32, SFits, back, backn, mag-add, mag-mul}
 use Rattle.rows.specs.Bilinear.{bilin}
-use Rattle.rows.proofs.Laws.Numbers.Signed.{back, backn, mag-add, mag-abs, mag-mul, abs-sub}
-use Rattle.rows.proofs.bilinear.bilin_sum.Statement.{statement}
+use Rattle.rows.proofs.Laws.Numbers.Signed.{mag-abs, abs-sub}
 use Rattle.rows.proofs.bilinear.bilin_sum.Tie as tie
 
 module _ (c : tie.Start) where
@@ -57,7 +49,7 @@ returns c =
     simp (back (c .fits .a), back (c .fits .b), e, back (d-fits c), back (l-fits c), back (r-fits c), back (all c))
     (refl, omega (arith, l-le c, r-le c, mag-add (l c) (r c)))
 
-pub bilin-sum-spec : {M : Type 1} → statement M
+pub bilin-sum-spec : {M : Type 1} → Rattle.rows.proofs.bilinear.bilin_sum.Statement.statement M
 bilin-sum-spec =
     tie.close
     (tie.spec

@@ -1,13 +1,5 @@
-use borrow.Author.Needs.{needs}
-use native.Mathlib.Omega.{arith}
-use Prim.Native.Nat.{_-_, _*_, _≤_}
-use lib.IntN.{ℤ, pos, _+ℤ_, _*ℤ_}
-use lib.Signed.{mag}
-use mir.Syntax.{w32}
-use mir.Val.{SFits}
-use Rattle.rows.proofs.Laws.Numbers.Signed.{back, backn, mag-add, mag-mul}
+use Rattle.rows.proofs.Usual.{_-_, _*_, _≤_, arith, needs, pos, ℤ, _+ℤ_, _*ℤ_, mag, w32, SFits, back, backn, mag-add, mag-mul}
 use Rattle.rows.proofs.Laws.Filters.Bilinear.{weighed}
-use Rattle.rows.proofs.bilinear.bilin_weighed.Statement.{statement}
 use Rattle.rows.proofs.bilinear.bilin_weighed.Tie as tie
 
 module _ (c : tie.Start) where
@@ -49,7 +41,7 @@ returns c =
     simp (back (c .fits .a), back (c .fits .b), e, e2, back (l-fits c), back (r-fits c), back (all c))
     (weighed (c .args .f) (c .args .a) (c .args .b) (omega arith), omega (arith, l-le c, r-le c, mag-add (l c) (r c)))
 
-pub bilin-weighed-spec : {M : Type 1} → statement M
+pub bilin-weighed-spec : {M : Type 1} → Rattle.rows.proofs.bilinear.bilin_weighed.Statement.statement M
 bilin-weighed-spec =
     tie.close
     (tie.spec

@@ -1,17 +1,7 @@
-use borrow.Author.Needs.{needs}
-use native.Mathlib.Omega.{arith}
-use Prim.Native.Nat.{_+_, _-_}
-use lib.IntN.{pos}
-use lib.ListN.{length}
-use mir.Syntax.{w16, w32}
-use mir.Val.{SFits, toZ}
-use Rattle.rows.specs.Numbers.{low16, minus16, at}
+use Rattle.rows.proofs.Usual.{_-_, _+_, arith, needs, pos, length, w32, w16, SFits, toZ, at, minus16, low16, Upto, upto-all, upto-none, back}
 use Rattle.rows.specs.Bilinear.{R}
 use Rattle.rows.specs.inner.Bilinear.{bilinAt}
-use Rattle.rows.proofs.Laws.Blocks.Row.{Upto, upto-none, upto-all}
 use Rattle.rows.proofs.Laws.Filters.Loop.{upto-kept}
-use Rattle.rows.proofs.Laws.Numbers.Signed.{back}
-use Rattle.rows.proofs.bilinear.mid_bilin_prep_row.Statement.{statement}
 use Rattle.rows.proofs.bilinear.mid_bilin_prep_row.Tie as tie
 
 -- the first i are done
@@ -27,7 +17,7 @@ loop-again c =
     let fb : SFits w32 (b .between-i16 .result) = omega arith in
     upto-kept (b .before .before .loop .inv) (omega arith) (omega arith) (rw (back fb, b .between-i16 .ensures .0) at (c .bilin-kept .ensures))
 
-pub mid-bilin-prep-row-spec : {M : Type 1} → statement M
+pub mid-bilin-prep-row-spec : {M : Type 1} → Rattle.rows.proofs.bilinear.mid_bilin_prep_row.Statement.statement M
 mid-bilin-prep-row-spec =
     tie.close
     (tie.spec Inv-loop μ-loop (λ c. upto-none _ _ _)  -- while i < w

@@ -1,11 +1,5 @@
-use native.Mathlib.Omega.{arith}
-use Prim.Native.Nat.{_*_, _^_, _≤_}
-use lib.IntN.{ℤ, _+ℤ_, _*ℤ_}
-use lib.Signed.{mag, shrZ}
-use mir.Syntax.{w32}
-use mir.Val.{SFits}
-use Rattle.rows.proofs.Laws.Numbers.Signed.{back, mag-add, mag-mul, mag-shr, mag-abs}
-use Rattle.rows.proofs.blend.scaled.Statement.{statement}
+use Rattle.rows.proofs.Usual.{_*_, _≤_, _^_, arith, ℤ, _+ℤ_, _*ℤ_, shrZ, mag, w32, SFits, back, mag-add, mag-mul}
+use Rattle.rows.proofs.Laws.Numbers.Signed.{mag-shr, mag-abs}
 use Rattle.rows.proofs.blend.scaled.Tie as tie
 
 abbrev P : tie.Start → ℤ
@@ -23,7 +17,7 @@ sum c = omega (arith, small c, mag-add (P c) (c .args .beta), mag-abs (c .args .
 shifted : (c : tie.Start) → SFits w32 (shrZ (P c +ℤ c .args .beta) 256)
 shifted c = omega (arith, sum c, mag-shr (P c +ℤ c .args .beta) 256)
 
-pub scaled-spec : {M : Type 1} → statement M
+pub scaled-spec : {M : Type 1} → Rattle.rows.proofs.blend.scaled.Statement.statement M
 scaled-spec =
     tie.close
     (tie.spec

@@ -1,13 +1,5 @@
-use borrow.Author.Needs.{needs}
-use mathlib.Core.Path.{_≡_}
-use Prim.Native.Nat.{min}
-use native.Mathlib.Omega.{arith}
-use lib.IntN.{ℤ, _-ℤ_}
-use mir.Syntax.{w64}
-use mir.Val.{SFits, toZ, ofZ}
-use Rattle.rows.specs.Numbers.{up, clip}
-use Rattle.rows.proofs.Laws.Numbers.Signed.{signed, back, fit-abs, abs-sub, rdn, clip-up, one-part, abs-parts}
-use Rattle.rows.proofs.edge.left_of.Statement.{statement}
+use Rattle.rows.proofs.Usual.{_≡_, min, arith, needs, ℤ, _-ℤ_, w64, SFits, toZ, ofZ, clip, up, back, fit-abs, one-part}
+use Rattle.rows.proofs.Laws.Numbers.Signed.{signed, abs-sub, rdn, clip-up, abs-parts}
 use Rattle.rows.proofs.edge.left_of.Tie as tie
 
 module _ (s : tie.Start) where
@@ -27,7 +19,7 @@ module _ (s : tie.Start) where
   at-most : clip (s .args .n) E ≡ min (up e) (s .args .n)
   at-most = rw is (clip-up (s .args .n) E)
 
-pub left-of-spec : {M : Type 1} → statement M
+pub left-of-spec : {M : Type 1} → Rattle.rows.proofs.edge.left_of.Statement.statement M
 left-of-spec =
     tie.close
     (tie.spec

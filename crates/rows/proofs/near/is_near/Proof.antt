@@ -1,12 +1,5 @@
-use Prim.Native.Nat.{_-_}
-use native.Mathlib.Omega.{arith}
-use borrow.Author.Needs.{needs}
-use lib.IntN.{natAbs}
-use mir.Syntax.{w8}
-use Rattle.rows.specs.Numbers.{at}
+use Rattle.rows.proofs.Usual.{_-_, arith, needs, natAbs, w8, at, back, fit}
 use Rattle.rows.proofs.Laws.Numbers.Added.{Added, added-none, added-more, added-all}
-use Rattle.rows.proofs.Laws.Numbers.Signed.{back, fit}
-use Rattle.rows.proofs.near.is_near.Statement.{statement}
 use Rattle.rows.proofs.near.is_near.Tie as tie
 
 abbrev Inv-loop : tie.InvT-loop
@@ -21,7 +14,7 @@ loop-again c =
     let e = back (fit w8 {z = at (h .before .args .f .now) (h .loop .j)} (c .before .tap-size-arg .given)) in
     added-more (h .loop .inv) (omega arith) (rw e at (c .tap-size .ensures .0)) (omega arith)
 
-pub is-near-spec : {M : Type 1} → statement M
+pub is-near-spec : {M : Type 1} → Rattle.rows.proofs.near.is_near.Statement.statement M
 is-near-spec =
     tie.close
     (tie.spec Inv-loop μ-loop (λ c. added-none _ _ _)  -- while j < 8

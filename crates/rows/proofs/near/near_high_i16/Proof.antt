@@ -1,10 +1,5 @@
-use native.Mathlib.Omega.{arith}
-use lib.Signed.{shrZ}
-use mir.Syntax.{w16}
-use mir.Val.{SFits}
-use Rattle.rows.proofs.Laws.Numbers.Signed.{back, fit-abs}
+use Rattle.rows.proofs.Usual.{arith, shrZ, w16, SFits, back, fit-abs}
 use Rattle.rows.proofs.Laws.Filters.Near.{high-byte}
-use Rattle.rows.proofs.near.near_high_i16.Statement.{statement}
 use Rattle.rows.proofs.near.near_high_i16.Tie as tie
 
 high : (s : tie.Start) → SFits w16 (shrZ (s .args .x) 256)
@@ -16,7 +11,7 @@ returns c =
     let fr : SFits w16 (c .near-tap .result) = omega arith in
     rw (back fr) (rw (back (s .fits .acc), back (s .fits .f), back (s .fits .x), back (high s)) at (c .near-tap .ensures))
 
-pub near-high-i16-spec : {M : Type 1} → statement M
+pub near-high-i16-spec : {M : Type 1} → Rattle.rows.proofs.near.near_high_i16.Statement.statement M
 near-high-i16-spec =
     tie.close
     (tie.spec

@@ -1,12 +1,7 @@
-use Prim.Native.Nat.{_≤_, _*_, _/_, _^_}
+use Rattle.rows.proofs.Usual.{_*_, _≤_, _^_, _/_, arith, needs, pos, _+ℤ_, _*ℤ_, natAbs, w32, SFits, back, backn, reading, fit-abs, back16, abs-mag}
+use Rattle.rows.proofs.Usual.{abs-add}
 use native.Mathlib.Nat.{div-le-self}
-use native.Mathlib.Omega.{arith}
-use borrow.Author.Needs.{needs}
-use lib.IntN.{pos, natAbs, _+ℤ_, _*ℤ_}
-use mir.Syntax.{w32}
-use mir.Val.{SFits}
-use Rattle.rows.proofs.Laws.Numbers.Signed.{back, back16, backn, abs-add, abs-mul-le, abs-mag, fit-abs, reading}
-use Rattle.rows.proofs.near.near_join.Statement.{statement}
+use Rattle.rows.proofs.Laws.Numbers.Signed.{abs-mul-le}
 use Rattle.rows.proofs.near.near_join.Tie as tie
 
 less : (s : tie.Start) → 256 / 2 ^ s .args .n ≤ 256
@@ -23,7 +18,7 @@ sum s =
     fit-abs w32 (s .args .high *ℤ pos (256 / 2 ^ s .args .n) +ℤ s .args .part)
     (omega (arith, small s, s .fits .part, abs-mag (s .args .part), abs-add (s .args .high *ℤ pos (256 / 2 ^ s .args .n)) (s .args .part)))
 
-pub near-join-spec : {M : Type 1} → statement M
+pub near-join-spec : {M : Type 1} → Rattle.rows.proofs.near.near_join.Statement.statement M
 near-join-spec =
     tie.close
     (tie.spec

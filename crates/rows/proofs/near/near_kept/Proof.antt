@@ -1,10 +1,5 @@
-use native.Mathlib.Omega.{arith}
-use mir.Syntax.{w16, w32}
-use mir.Val.{SFits}
-use borrow.Author.Needs.{needs}
-use Rattle.rows.proofs.Laws.Numbers.Signed.{back}
+use Rattle.rows.proofs.Usual.{arith, needs, w32, w16, SFits, back}
 use Rattle.rows.proofs.Laws.Filters.Near.{joined-shr}
-use Rattle.rows.proofs.near.near_kept.Statement.{statement}
 use Rattle.rows.proofs.near.near_kept.Tie as tie
 
 returns : tie.Need-returns
@@ -29,7 +24,7 @@ returns c =
       ← joined-shr (s .args .high) (s .args .low) (s .args .r) (s .args .n) (s .pre .3),
     )
 
-pub near-kept-spec : {M : Type 1} → statement M
+pub near-kept-spec : {M : Type 1} → Rattle.rows.proofs.near.near_kept.Statement.statement M
 near-kept-spec =
     tie.close
     (tie.spec

@@ -1,12 +1,5 @@
-use native.Mathlib.Omega.{arith}
-use lib.IntN.{pos, _*ℤ_}
-use lib.Signed.{shrZ}
-use mir.Syntax.{w16}
-use mir.Val.{SFits}
-use Rattle.rows.specs.Numbers.{modZ}
-use Rattle.rows.proofs.Laws.Numbers.Signed.{back, fit-abs, fit}
+use Rattle.rows.proofs.Usual.{arith, pos, _*ℤ_, shrZ, w16, SFits, modZ, back, fit, fit-abs}
 use Rattle.rows.proofs.Laws.Filters.Near.{high-byte, high-up, low-byte, low-is}
-use Rattle.rows.proofs.near.near_low_i16.Statement.{statement}
 use Rattle.rows.proofs.near.near_low_i16.Tie as tie
 
 high : (s : tie.Start) → SFits w16 (shrZ (s .args .x) 256)
@@ -25,7 +18,7 @@ returns c =
     rw (back fr)
     (rw (back (s .fits .acc), back (s .fits .f), back (s .fits .x), back (high s), back (up s), low-is (s .args .x), back (low s)) at (c .near-tap .ensures))
 
-pub near-low-i16-spec : {M : Type 1} → statement M
+pub near-low-i16-spec : {M : Type 1} → Rattle.rows.proofs.near.near_low_i16.Statement.statement M
 near-low-i16-spec =
     tie.close
     (tie.spec

@@ -1,13 +1,5 @@
-use mathlib.Core.Path.{ap}
-use native.Mathlib.Omega.{arith}
-use Prim.Native.Nat.{_+_, _*_, _-_, _≤_}
-use lib.IntN.{ℤ, pos}
-use mir.Syntax.{w8, w16}
-use Rattle.rows.specs.Numbers.{at, modZ}
-use Rattle.rows.proofs.Laws.Numbers.Signed.{back, fit}
-use Rattle.rows.proofs.Laws.Numbers.Sum.{steps-le}
+use Rattle.rows.proofs.Usual.{ap, _-_, _+_, _*_, _≤_, arith, pos, ℤ, w16, w8, at, modZ, back, fit, steps-le}
 use Rattle.rows.proofs.Laws.Filters.Near.{NearSum, near-none, near-room, near-more, near-all, lows}
-use Rattle.rows.proofs.near.near_lows_i16.Statement.{statement}
 use Rattle.rows.proofs.near.near_lows_i16.Tie as tie
 
 -- s holds the bits of the sum of the first j taps
@@ -27,7 +19,7 @@ loop-again c =
     let e = ap (λ (z : ℤ). pos (modZ z 256)) (back (fit w16 {z = at (a .src .now) (a .o + h .loop .j * a .step)} (c .before .near-low-i16-arg2 .given))) in
     near-more (h .loop .inv) (omega arith) (h .before .pre .1) (fit w8 (c .before .before .near-low-i16-arg .given)) e (c .near-low-i16 .ensures)
 
-pub near-lows-i16-spec : {M : Type 1} → statement M
+pub near-lows-i16-spec : {M : Type 1} → Rattle.rows.proofs.near.near_lows_i16.Statement.statement M
 near-lows-i16-spec =
     tie.close
     (tie.spec Inv-loop μ-loop (λ c. near-none _ _)  -- while j < 8

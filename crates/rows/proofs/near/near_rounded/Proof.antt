@@ -1,12 +1,5 @@
-use native.Mathlib.Omega.{arith}
-use Prim.Native.Nat.{_^_}
-use lib.IntN.{pos, _+ℤ_}
-use lib.Signed.{shrZ, mag-shr}
-use mir.Syntax.{w16}
-use mir.Val.{SFits}
-use Rattle.rows.proofs.Laws.Numbers.Signed.{back, backn, abs-add, fit-abs}
-use borrow.Author.Needs.{needs}
-use Rattle.rows.proofs.near.near_rounded.Statement.{statement}
+use Rattle.rows.proofs.Usual.{_^_, arith, needs, pos, _+ℤ_, shrZ, w16, SFits, back, backn, fit-abs, abs-add}
+use lib.Signed.{mag-shr}
 use Rattle.rows.proofs.near.near_rounded.Tie as tie
 
 sum : (c : tie.Start) → SFits w16 (c .args .s +ℤ pos (c .args .r))
@@ -15,7 +8,7 @@ sum c = fit-abs w16 (c .args .s +ℤ pos (c .args .r)) (omega (arith, abs-add (c
 shifted : (c : tie.Start) → SFits w16 (shrZ (c .args .s +ℤ pos (c .args .r)) (2 ^ c .args .n))
 shifted c = omega (arith, sum c, mag-shr (c .args .s +ℤ pos (c .args .r)) (2 ^ c .args .n))
 
-pub near-rounded-spec : {M : Type 1} → statement M
+pub near-rounded-spec : {M : Type 1} → Rattle.rows.proofs.near.near_rounded.Statement.statement M
 near-rounded-spec =
     tie.close
     (tie.spec

@@ -1,12 +1,7 @@
-use native.Mathlib.Omega.{arith}
+use Rattle.rows.proofs.Usual.{_*_, _≤_, arith, _+ℤ_, _*ℤ_, natAbs, w16, SFits, back, reading, fit-abs, abs-add}
 use native.Mathlib.Nat.{le-refl}
-use Prim.Native.Nat.{_*_, _≤_}
-use lib.IntN.{natAbs, _+ℤ_, _*ℤ_}
-use mir.Syntax.{w16}
-use mir.Val.{SFits}
-use Rattle.rows.proofs.Laws.Numbers.Signed.{back, abs-add, abs-mul-le, fit-abs, reading}
+use Rattle.rows.proofs.Laws.Numbers.Signed.{abs-mul-le}
 use Rattle.rows.proofs.Laws.Filters.Near.{back8-16, wide8-16}
-use Rattle.rows.proofs.near.near_tap.Statement.{statement}
 use Rattle.rows.proofs.near.near_tap.Tie as tie
 
 small : (c : tie.Start) → natAbs (c .args .f *ℤ c .args .x) ≤ natAbs (c .args .f) * 255
@@ -21,7 +16,7 @@ sum c = fit-abs w16 (c .args .acc +ℤ c .args .f *ℤ c .args .x) (omega (arith
 returns : tie.Need-returns
 returns c = (simp (back8-16 (c .fits .f), back (c .fits .x), back (c .fits .acc), back (product c), back (sum c)), small c)
 
-pub near-tap-spec : {M : Type 1} → statement M
+pub near-tap-spec : {M : Type 1} → Rattle.rows.proofs.near.near_tap.Statement.statement M
 near-tap-spec =
     tie.close
     (tie.spec

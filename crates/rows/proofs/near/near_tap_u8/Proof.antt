@@ -1,9 +1,4 @@
-use native.Mathlib.Omega.{arith}
-use mir.Syntax.{w16}
-use mir.Val.{SFits}
-use Rattle.rows.proofs.Laws.Numbers.Signed.{back, backn}
-use borrow.Author.Needs.{needs}
-use Rattle.rows.proofs.near.near_tap_u8.Statement.{statement}
+use Rattle.rows.proofs.Usual.{arith, needs, w16, SFits, back, backn}
 use Rattle.rows.proofs.near.near_tap_u8.Tie as tie
 
 returns : tie.Need-returns
@@ -12,7 +7,7 @@ returns c =
     let fr : SFits w16 (c .near-tap .result) = omega arith in
     rw (back fr) (rw (back (s .fits .acc), back (s .fits .f), backn w16 (s .args .x) (omega arith)) at (c .near-tap .ensures))
 
-pub near-tap-u8-spec : {M : Type 1} → statement M
+pub near-tap-u8-spec : {M : Type 1} → Rattle.rows.proofs.near.near_tap_u8.Statement.statement M
 near-tap-u8-spec =
     tie.close
     (tie.spec

@@ -1,11 +1,5 @@
-use mathlib.Core.Path.{refl}
-use Prim.Native.Nat.{_≤_}
-use native.Mathlib.Omega.{arith}
-use lib.IntN.{pos, natAbs, _+ℤ_, _*ℤ_}
-use mir.Syntax.{w32}
-use mir.Val.{SFits}
-use Rattle.rows.proofs.Laws.Numbers.Signed.{back, back16, abs-add, abs-mul-le, fit-abs, mag-abs, reading}
-use Rattle.rows.proofs.near.near_whole.Statement.{statement}
+use Rattle.rows.proofs.Usual.{refl, _≤_, arith, pos, _+ℤ_, _*ℤ_, natAbs, w32, SFits, back, reading, fit-abs, back16, abs-add}
+use Rattle.rows.proofs.Laws.Numbers.Signed.{abs-mul-le, mag-abs}
 use Rattle.rows.proofs.near.near_whole.Tie as tie
 
 product : (s : tie.Start) → SFits w32 (s .args .high *ℤ pos 256)
@@ -24,7 +18,7 @@ returns c =
     rw (back16 (c .fits .high), back16 (c .fits .low), back (product c), back (sum c))
     (refl, omega (arith, small c, mag-abs (c .args .high *ℤ pos 256 +ℤ c .args .low)))
 
-pub near-whole-spec : {M : Type 1} → statement M
+pub near-whole-spec : {M : Type 1} → Rattle.rows.proofs.near.near_whole.Statement.statement M
 near-whole-spec =
     tie.close
     (tie.spec

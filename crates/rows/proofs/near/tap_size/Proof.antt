@@ -1,11 +1,5 @@
-use mathlib.Core.Path.{_≡_}
-use native.Mathlib.Omega.{arith}
-use lib.IntN.{pos, negsuc, _-ℤ_}
-use lib.Signed.{mag}
-use mir.Syntax.{w8}
-use mir.Val.{SFits, toZ, ofZ}
-use Rattle.rows.proofs.Laws.Numbers.Signed.{signed, rd, backs, fit, flip-read, below-read, abs-parts}
-use Rattle.rows.proofs.near.tap_size.Statement.{statement}
+use Rattle.rows.proofs.Usual.{_≡_, arith, pos, _-ℤ_, negsuc, mag, w8, SFits, toZ, ofZ, fit, rd}
+use Rattle.rows.proofs.Laws.Numbers.Signed.{signed, backs, flip-read, below-read, abs-parts}
 use Rattle.rows.proofs.near.tap_size.Tie as tie
 
 -- -1 - v, from the bits of v
@@ -15,7 +9,7 @@ minus c = flip-read (c .before .fits .v) (c .if1 .taken)
 fits : (c : tie.Then1) → SFits w8 (pos (mag (c .before .args .v)))
 fits c = fit w8 (c .before .fits .v .sfits)
 
-pub tap-size-spec : {M : Type 1} → statement M
+pub tap-size-spec : {M : Type 1} → Rattle.rows.proofs.near.tap_size.Statement.statement M
 tap-size-spec =
     tie.close
     (tie.spec

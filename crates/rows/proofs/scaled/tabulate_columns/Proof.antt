@@ -1,12 +1,7 @@
-use native.Mathlib.Omega.{arith}
-use mathlib.Core.Path.{refl}
-use Prim.Native.Nat.{_-_, _^_, _≤_, _<_}
-use lib.ListN.{length}
+use Rattle.rows.proofs.Usual.{refl, _-_, _≤_, _<_, _^_, arith, length, Upto, upto-none, upto-more}
 use Rattle.rows.specs.Scaled.{position, pixelOf, sixteenth}
 use Rattle.rows.specs.inner.Scaled.{Tabled}
-use Rattle.rows.proofs.Laws.Blocks.Row.{Upto, upto-none, upto-more}
 use Rattle.rows.proofs.Laws.Filters.Scaled.{position-small}
-use Rattle.rows.proofs.scaled.tabulate_columns.Statement.{statement}
 use Rattle.rows.proofs.scaled.tabulate_columns.Tie as tie
 
 abbrev Inv-loop : tie.InvT-loop
@@ -32,7 +27,7 @@ returns c =
     let i = c .before .loop .inv in
     record { pixel = λ x h. i .1 .0 .same x (omega arith); fraction = λ x h. i .1 .1 .same x (omega arith) }
 
-pub tabulate-columns-spec : {M : Type 1} → statement M
+pub tabulate-columns-spec : {M : Type 1} → Rattle.rows.proofs.scaled.tabulate_columns.Statement.statement M
 tabulate-columns-spec =
     tie.close
     (tie.spec Inv-loop μ-loop

@@ -1,12 +1,5 @@
-use native.Mathlib.Omega.{arith}
-use Prim.Native.Nat.{_+_, _*_, _-_}
-use lib.IntN.{pos}
-use mir.Syntax.{w8}
-use Rattle.rows.specs.Numbers.{at}
+use Rattle.rows.proofs.Usual.{_-_, _+_, _*_, arith, pos, w8, at, Upto, upto-all, upto-none, upto-more, back, fit}
 use Rattle.rows.specs.Subpel.{filter}
-use Rattle.rows.proofs.Laws.Blocks.Row.{Upto, upto-none, upto-more, upto-all}
-use Rattle.rows.proofs.Laws.Numbers.Signed.{back, fit}
-use Rattle.rows.proofs.subpel.eight.Statement.{statement}
 use Rattle.rows.proofs.subpel.eight.Tie as tie
 
 -- the first t taps are copied
@@ -20,7 +13,7 @@ returns : tie.Need-returns Inv-loop μ-loop
 unfolding filter
 returns c = upto-all (c .before .loop .inv) (omega arith)
 
-pub eight-spec : {M : Type 1} → statement M
+pub eight-spec : {M : Type 1} → Rattle.rows.proofs.subpel.eight.Statement.statement M
 eight-spec =
     tie.close
     (tie.spec Inv-loop μ-loop (λ c. upto-none (pos 0) _ _)  -- while t < 8

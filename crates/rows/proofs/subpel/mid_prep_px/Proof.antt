@@ -1,7 +1,5 @@
-use native.Mathlib.Omega.{arith}
-use borrow.Author.Needs.{needs}
+use Rattle.rows.proofs.Usual.{arith, needs}
 use Rattle.rows.proofs.Laws.Filters.Near.{parts-fit, near-kept-is, kept-is}
-use Rattle.rows.proofs.subpel.mid_prep_px.Statement.{statement}
 use Rattle.rows.proofs.subpel.mid_prep_px.Tie as tie
 
 near-kept-requires : tie.Need-near-kept-requires
@@ -20,7 +18,7 @@ returns-2 c =
     let t = c .before in
     kept-is _ _ _ _ (omega arith) (t .before .before .before .fits .bias) (omega arith) (t .taps-i16 .ensures .0) (c .kept .ensures)
 
-pub mid-prep-px-spec : {M : Type 1} → statement M
+pub mid-prep-px-spec : {M : Type 1} → Rattle.rows.proofs.subpel.mid_prep_px.Statement.statement M
 mid-prep-px-spec =
     tie.close
     (tie.spec

@@ -1,12 +1,7 @@
-use lib.Dec.{T}
-use mathlib.Core.Path.{sym, subst}
-use native.Mathlib.Omega.{arith}
-use borrow.Author.Needs.{needs}
-use Rattle.rows.proofs.Laws.Numbers.Signed.{back}
-use Rattle.rows.proofs.subpel.mid_prep_row.Statement.{statement}
+use Rattle.rows.proofs.Usual.{sym, subst, arith, needs, T, back}
 use Rattle.rows.proofs.subpel.mid_prep_row.Tie as tie
 
-pub mid-prep-row-spec : {M : Type 1} → statement M
+pub mid-prep-row-spec : {M : Type 1} → Rattle.rows.proofs.subpel.mid_prep_row.Statement.statement M
 mid-prep-row-spec =
     tie.close
     (tie.spec

@@ -1,12 +1,5 @@
-use native.Mathlib.Omega.{arith}
-use Prim.Native.Nat.{_^_}
-use lib.IntN.{pos, _+ℤ_}
-use lib.Signed.{shrZ, mag-shr}
-use mir.Syntax.{w32}
-use mir.Val.{SFits}
-use Rattle.rows.proofs.Laws.Numbers.Signed.{back, backn, mag-add}
-use borrow.Author.Needs.{needs}
-use Rattle.rows.proofs.subpel.rounded.Statement.{statement}
+use Rattle.rows.proofs.Usual.{_^_, arith, needs, pos, _+ℤ_, shrZ, w32, SFits, back, backn, mag-add}
+use lib.Signed.{mag-shr}
 use Rattle.rows.proofs.subpel.rounded.Tie as tie
 
 sum : (c : tie.Start) → SFits w32 (c .args .s +ℤ pos (c .args .r))
@@ -15,7 +8,7 @@ sum c = omega (arith, mag-add (c .args .s) (pos (c .args .r)))
 shifted : (c : tie.Start) → SFits w32 (shrZ (c .args .s +ℤ pos (c .args .r)) (2 ^ c .args .n))
 shifted c = omega (arith, sum c, mag-shr (c .args .s +ℤ pos (c .args .r)) (2 ^ c .args .n))
 
-pub rounded-spec : {M : Type 1} → statement M
+pub rounded-spec : {M : Type 1} → Rattle.rows.proofs.subpel.rounded.Statement.statement M
 rounded-spec =
     tie.close
     (tie.spec

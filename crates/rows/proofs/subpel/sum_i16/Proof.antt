@@ -1,12 +1,7 @@
-use native.Mathlib.Omega.{arith}
-use mir.Syntax.{w32}
-use mir.Val.{SFits}
-use borrow.Author.Needs.{needs}
-use Rattle.rows.proofs.Laws.Numbers.Signed.{back}
-use Rattle.rows.proofs.subpel.sum_i16.Statement.{statement}
+use Rattle.rows.proofs.Usual.{arith, needs, w32, SFits, back}
 use Rattle.rows.proofs.subpel.sum_i16.Tie as tie
 
-pub sum-i16-spec : {M : Type 1} → statement M
+pub sum-i16-spec : {M : Type 1} → Rattle.rows.proofs.subpel.sum_i16.Statement.statement M
 sum-i16-spec =
     tie.close
     (tie.spec

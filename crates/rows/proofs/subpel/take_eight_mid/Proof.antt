@@ -1,12 +1,4 @@
-use Prim.Native.Nat.{_-_}
-use native.Mathlib.Omega.{arith}
-use lib.IntN.{pos}
-use lib.ListN.{length}
-use mir.Syntax.{w16}
-use Rattle.rows.specs.Numbers.{at}
-use Rattle.rows.proofs.Laws.Blocks.Row.{Upto, upto-none, upto-more, upto-all}
-use Rattle.rows.proofs.Laws.Numbers.Signed.{back, fit}
-use Rattle.rows.proofs.subpel.take_eight_mid.Statement.{statement}
+use Rattle.rows.proofs.Usual.{_-_, arith, pos, length, w16, at, Upto, upto-all, upto-none, upto-more, back, fit}
 use Rattle.rows.proofs.subpel.take_eight_mid.Tie as tie
 
 abbrev Inv-loop : tie.InvT-loop
@@ -15,7 +7,7 @@ Inv-loop tmp₀ line i₀ tmp i = Upto (pos 0) (λ x. at line x) (length tmp₀)
 abbrev μ-loop : tie.MeasureT-loop
 μ-loop tmp₀ line i₀ tmp i = 8 - i
 
-pub take-eight-mid-spec : {M : Type 1} → statement M
+pub take-eight-mid-spec : {M : Type 1} → Rattle.rows.proofs.subpel.take_eight_mid.Statement.statement M
 take-eight-mid-spec =
     tie.close
     (tie.spec Inv-loop μ-loop (λ c. upto-none _ _ _)  -- while i < 8

@@ -1,11 +1,5 @@
-use native.Mathlib.Omega.{arith}
-use Prim.Native.Nat.{_^_, _<_}
-use lib.IntN.{_+ℤ_, _*ℤ_}
-use lib.Signed.{mag}
-use mir.Syntax.{w32}
-use mir.Val.{SFits}
-use Rattle.rows.proofs.Laws.Numbers.Signed.{back, back8, mag-add, mag-mul, abs-mag, reading}
-use Rattle.rows.proofs.subpel.tap.Statement.{statement}
+use Rattle.rows.proofs.Usual.{_<_, _^_, arith, _+ℤ_, _*ℤ_, mag, w32, SFits, back, reading, mag-add, abs-mag, mag-mul}
+use Rattle.rows.proofs.Laws.Numbers.Signed.{back8}
 use Rattle.rows.proofs.subpel.tap.Tie as tie
 
 small : (c : tie.Start) → mag (c .args .f *ℤ c .args .x) < 2 ^ 24
@@ -20,7 +14,7 @@ sum c = omega (arith, small c, mag-add (c .args .acc) (c .args .f *ℤ c .args .
 returns : tie.Need-returns
 returns c = (simp (back8 (c .fits .f), back (c .fits .x), back (c .fits .acc), back (product c), back (sum c)), small c)
 
-pub tap-spec : {M : Type 1} → statement M
+pub tap-spec : {M : Type 1} → Rattle.rows.proofs.subpel.tap.Statement.statement M
 tap-spec =
     tie.close
     (tie.spec

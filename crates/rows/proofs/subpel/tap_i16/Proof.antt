@@ -1,8 +1,4 @@
-use native.Mathlib.Omega.{arith}
-use mir.Syntax.{w32}
-use mir.Val.{SFits}
-use Rattle.rows.proofs.Laws.Numbers.Signed.{back, back16, abs-mag, reading}
-use Rattle.rows.proofs.subpel.tap_i16.Statement.{statement}
+use Rattle.rows.proofs.Usual.{arith, w32, SFits, back, reading, back16, abs-mag}
 use Rattle.rows.proofs.subpel.tap_i16.Tie as tie
 
 returns : tie.Need-returns
@@ -11,7 +7,7 @@ returns c =
     let fr : SFits w32 (c .tap .result) = omega arith in
     rw (back fr) (rw (back (s .fits .acc), back (s .fits .f), back16 (s .fits .x)) at (c .tap .ensures))
 
-pub tap-i16-spec : {M : Type 1} → statement M
+pub tap-i16-spec : {M : Type 1} → Rattle.rows.proofs.subpel.tap_i16.Statement.statement M
 tap-i16-spec =
     tie.close
     (tie.spec

@@ -1,13 +1,6 @@
-use native.Mathlib.Omega.{arith}
-use Prim.Native.Nat.{_+_, _*_, _-_, _^_, _≤_}
-use lib.IntN.{_*ℤ_}
-use mir.Syntax.{w8, w16}
-use Rattle.rows.specs.Numbers.{at}
+use Rattle.rows.proofs.Usual.{_-_, _+_, _*_, _≤_, _^_, arith, _*ℤ_, w16, w8, at, back, fit, steps-le, Summed, summed-mag, summed-none, summed-more}
 use Rattle.rows.specs.Subpel.{S}
-use Rattle.rows.proofs.Laws.Numbers.Signed.{back, fit}
-use Rattle.rows.proofs.Laws.Numbers.Sum.{Summed, summed-none, summed-mag, summed-more, steps-le}
 use Rattle.rows.proofs.Laws.Filters.Loop.{summed-eight}
-use Rattle.rows.proofs.subpel.taps_i16.Statement.{statement}
 use Rattle.rows.proofs.subpel.taps_i16.Tie as tie
 
 -- s holds the bits of the sum of the first j taps
@@ -33,7 +26,7 @@ returns : tie.Need-returns Inv-loop μ-loop
 unfolding S
 returns c = let h = c .before .loop in summed-eight (h .inv .0) (omega arith) (h .inv .1)
 
-pub taps-i16-spec : {M : Type 1} → statement M
+pub taps-i16-spec : {M : Type 1} → Rattle.rows.proofs.subpel.taps_i16.Statement.statement M
 taps-i16-spec =
     tie.close
     (tie.spec Inv-loop μ-loop (λ c. (omega arith, summed-none _ _))  -- while j < 8

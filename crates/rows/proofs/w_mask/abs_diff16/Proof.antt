@@ -1,11 +1,5 @@
-use native.Mathlib.Omega.{arith}
-use mathlib.Core.Path.{_≡_}
-use Prim.Native.Nat.{_<_}
-use lib.IntN.{ℤ, pos, natAbs, _-ℤ_}
-use mir.Syntax.{w32}
-use mir.Val.{SFits}
-use Rattle.rows.proofs.Laws.Numbers.Signed.{reading, back, back16, mag-up, mag-dn, abs-parts, fit-abs, sub-parts, one-part, turned, above}
-use Rattle.rows.proofs.w_mask.abs_diff16.Statement.{statement}
+use Rattle.rows.proofs.Usual.{_≡_, _<_, arith, pos, ℤ, _-ℤ_, natAbs, w32, SFits, back, reading, fit-abs, back16, one-part, sub-parts}
+use Rattle.rows.proofs.Laws.Numbers.Signed.{mag-up, mag-dn, abs-parts, turned, above}
 use Rattle.rows.proofs.w_mask.abs_diff16.Tie as tie
 
 module _ (s : tie.Start) where
@@ -37,7 +31,7 @@ over c = let s = c .before in above (D s) (simp (back16 (s .fits .a), back16 (s 
 returns : tie.Need-returns
 returns c = let s = c .before in simp (back16 (s .fits .a), back16 (s .fits .b), back (fits s), under c, back (size s)) (omega (arith, within s))
 
-pub abs-diff16-spec : {M : Type 1} → statement M
+pub abs-diff16-spec : {M : Type 1} → Rattle.rows.proofs.w_mask.abs_diff16.Statement.statement M
 abs-diff16-spec =
     tie.close
     (tie.spec

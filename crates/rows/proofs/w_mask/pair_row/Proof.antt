@@ -1,10 +1,5 @@
-use borrow.Author.Needs.{needs}
-use native.Mathlib.Omega.{arith}
-use Prim.Native.Nat.{_+_, _-_, _*_}
-use lib.ListN.{length, getD}
+use Rattle.rows.proofs.Usual.{_-_, _+_, _*_, arith, needs, length, getD, Upto, upto-all, upto-none, upto-more}
 use Rattle.rows.specs.WMask.{pairOf}
-use Rattle.rows.proofs.Laws.Blocks.Row.{Upto, upto-none, upto-more, upto-all}
-use Rattle.rows.proofs.w_mask.pair_row.Statement.{statement}
 use Rattle.rows.proofs.w_mask.pair_row.Tie as tie
 
 abbrev Inv-loop : tie.InvT-loop
@@ -13,7 +8,7 @@ Inv-loop mask₀ m sign n i₀ mask i = Upto 0 (λ k. pairOf sign (getD m (2 * k
 abbrev μ-loop : tie.MeasureT-loop
 μ-loop mask₀ m sign n i₀ mask i = length mask₀ - i
 
-pub pair-row-spec : {M : Type 1} → statement M
+pub pair-row-spec : {M : Type 1} → Rattle.rows.proofs.w_mask.pair_row.Statement.statement M
 pair-row-spec =
     tie.close
     (tie.spec

@@ -1,12 +1,7 @@
-use borrow.Author.Needs.{needs}
-use native.Mathlib.Omega.{arith}
+use Rattle.rows.proofs.Usual.{_≡_, _∙_, ap, sym, _-_, _+_, _*_, _≤_, _<_, _^_, ℕ, _/_, min, arith, needs, back}
 use native.Mathlib.Nat.{add-mul-div-right}
-use mathlib.Core.Path.{_≡_, sym, ap, _∙_}
-use Prim.Native.Nat.{ℕ, _+_, _-_, _*_, _/_, _^_, _<_, _≤_, min}
 use lib.Pow.{pow-mono, pow-pos, shr-shr, shr-lt}
 use Rattle.rows.specs.WMask.{weightOf}
-use Rattle.rows.proofs.Laws.Numbers.Signed.{back}
-use Rattle.rows.proofs.w_mask.weight_px.Statement.{statement}
 use Rattle.rows.proofs.w_mask.weight_px.Tie as tie
 
 abbrev T : tie.Start → ℕ
@@ -36,7 +31,7 @@ below c =
     let m : 2 ^ 16 ≤ 2 ^ (15 + k) = pow-mono {i = 16} {j = 15 + k} (omega arith) in
     shr-lt 15 k (omega (arith, m))
 
-pub weight-px-spec : {M : Type 1} → statement M
+pub weight-px-spec : {M : Type 1} → Rattle.rows.proofs.w_mask.weight_px.Statement.statement M
 weight-px-spec =
     tie.close
     (tie.spec

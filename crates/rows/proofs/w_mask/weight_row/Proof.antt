@@ -1,13 +1,7 @@
-use borrow.Author.Needs.{needs}
-use native.Mathlib.Omega.{arith}
-use mathlib.Core.Path.{_∙_}
-use Prim.Native.Nat.{_-_}
-use lib.ListN.{length}
+use Rattle.rows.proofs.Usual.{_∙_, _-_, arith, needs, length, Upto, upto-all, upto-none, upto-more}
 use Rattle.rows.specs.Combine.{both}
 use Rattle.rows.specs.WMask.{weightOf}
 use Rattle.rows.proofs.Laws.Pixels.Pixel.{read-both}
-use Rattle.rows.proofs.Laws.Blocks.Row.{Upto, upto-none, upto-more, upto-all}
-use Rattle.rows.proofs.w_mask.weight_row.Statement.{statement}
 use Rattle.rows.proofs.w_mask.weight_row.Tie as tie
 
 abbrev Inv-loop : tie.InvT-loop
@@ -21,7 +15,7 @@ loop-again c =
     upto-more (c .before .before .before .before .loop .inv) (omega arith)
     (c .weight-px .ensures .0 ∙ read-both (weightOf _ _) (c .before .before .weight-px-arg .given) (c .before .weight-px-arg2 .given))
 
-pub weight-row-spec : {M : Type 1} → statement M
+pub weight-row-spec : {M : Type 1} → Rattle.rows.proofs.w_mask.weight_row.Statement.statement M
 weight-row-spec =
     tie.close
     (tie.spec

@@ -1,17 +1,7 @@
-use borrow.Author.Needs.{needs}
-use mathlib.Core.Path.{_≡_, _∙_}
-use Prim.Native.Nat.{_/_, _<_}
-use native.Mathlib.Omega.{arith}
-use lib.Dec.{T}
-use lib.IntN.{ℤ, natAbs}
-use lib.ListN.{length}
+use Rattle.rows.proofs.Usual.{_≡_, _∙_, _<_, _/_, arith, needs, T, ℤ, natAbs, length, w32, w16, SFits, toZ, ofZ, back, fit}
 use lib.Signed.{nonNeg}
-use mir.Syntax.{w16, w32}
-use mir.Val.{SFits, toZ, ofZ}
 use Rattle.rows.specs.Warp.{filterNo}
-use Rattle.rows.proofs.Laws.Numbers.Signed.{back, fit}
 use Rattle.rows.proofs.Laws.Filters.Warp.{in-place, lent-filter}
-use Rattle.rows.proofs.warp.filter_for.Statement.{statement}
 use Rattle.rows.proofs.warp.filter_for.Tie as tie
 
 -- the function's entry, from where the number is there
@@ -33,7 +23,7 @@ module _ (c : tie.After-filter-no) where
   inside : T (nonNeg Z) × (natAbs Z < length (entry c .args .table .now) / 8)
   inside = in-place _ Z (entry c .pre .3)
 
-pub filter-for-spec : {M : Type 1} → statement M
+pub filter-for-spec : {M : Type 1} → Rattle.rows.proofs.warp.filter_for.Statement.statement M
 filter-for-spec =
     tie.close
     (tie.spec

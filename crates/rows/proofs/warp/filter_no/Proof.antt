@@ -1,15 +1,8 @@
 -- Every step is below 2^22.
-use borrow.Author.Needs.{needs}
-use mathlib.Core.Path.{_≡_}
-use native.Mathlib.Omega.{arith}
-use Prim.Native.Nat.{_*_, _≤_, _^_}
-use lib.IntN.{ℤ, pos, natAbs, _+ℤ_, _*ℤ_}
-use lib.Signed.{shrZ}
-use mir.Syntax.{w32}
-use mir.Val.{SFits, toZ, ofZ}
+use Rattle.rows.proofs.Usual.{_≡_, _*_, _≤_, _^_, arith, needs, pos, ℤ, _+ℤ_, _*ℤ_, natAbs, shrZ, w32, SFits, toZ, ofZ, back, backn, reading, fit-abs}
+use Rattle.rows.proofs.Usual.{mag-add, back16, abs-mag, abs-add}
 use Rattle.rows.specs.Warp.{filterNo}
-use Rattle.rows.proofs.Laws.Numbers.Signed.{back, backn, back16, fit-abs, abs-add, abs-mul-le, abs-mag, mag-abs, mag-add, mag-shr, reading}
-use Rattle.rows.proofs.warp.filter_no.Statement.{statement}
+use Rattle.rows.proofs.Laws.Numbers.Signed.{abs-mul-le, mag-abs, mag-shr}
 use Rattle.rows.proofs.warp.filter_no.Tie as tie
 
 module _ (c : tie.Start) where
@@ -83,7 +76,7 @@ returns c =
     simp
     (rc c, rr c, back16 (c .fits .a), back16 (c .fits .b), fm c, back (a c), back (b c), back (f1 c), back (f2 c), back (f3 c), back (f4 c), back (f5 c))
 
-pub filter-no-spec : {M : Type 1} → statement M
+pub filter-no-spec : {M : Type 1} → Rattle.rows.proofs.warp.filter_no.Statement.statement M
 filter-no-spec =
     tie.close
     (tie.spec

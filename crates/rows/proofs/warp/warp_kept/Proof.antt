@@ -1,9 +1,4 @@
-use borrow.Author.Needs.{needs}
-use native.Mathlib.Omega.{arith}
-use mir.Syntax.{w16, w32}
-use mir.Val.{SFits}
-use Rattle.rows.proofs.Laws.Numbers.Signed.{back}
-use Rattle.rows.proofs.warp.warp_kept.Statement.{statement}
+use Rattle.rows.proofs.Usual.{arith, needs, w32, w16, SFits, back}
 use Rattle.rows.proofs.warp.warp_kept.Tie as tie
 
 returns : tie.Need-returns
@@ -13,7 +8,7 @@ returns c =
     let fr : SFits w32 (r .rounded .result) = omega arith in
     rw (back fv, c .keep16 .ensures, back fr, r .rounded .ensures, h .half-power .ensures .0, back (h .before .fits .s))
 
-pub warp-kept-spec : {M : Type 1} → statement M
+pub warp-kept-spec : {M : Type 1} → Rattle.rows.proofs.warp.warp_kept.Statement.statement M
 warp-kept-spec =
     tie.close
     (tie.spec

@@ -1,16 +1,7 @@
-use Prim.Native.Nat.{_+_, _*_, _-_}
-use native.Mathlib.Omega.{arith}
-use lib.IntN.{pos}
-use borrow.Author.Needs.{needs}
-use mir.Syntax.{w16, w32}
-use mir.Val.{SFits, toZ}
-use Rattle.rows.specs.Numbers.{at, low16, minus16}
+use Rattle.rows.proofs.Usual.{_-_, _+_, _*_, arith, needs, pos, w32, w16, SFits, toZ, at, minus16, low16, Upto, upto-all, back}
 use Rattle.rows.specs.Warp.{warped}
-use Rattle.rows.proofs.Laws.Numbers.Signed.{back}
-use Rattle.rows.proofs.Laws.Blocks.Row.{Upto, upto-all}
 use Rattle.rows.proofs.Laws.Filters.Loop.{upto-kept}
 use Rattle.rows.proofs.Laws.Filters.Warp.{upto-start, length-filter, warp-kept-is}
-use Rattle.rows.proofs.warp.warp_prep_row.Statement.{statement}
 use Rattle.rows.proofs.warp.warp_prep_row.Tie as tie
 
 abbrev Inv-loop : tie.InvT-loop
@@ -43,7 +34,7 @@ loop-again c =
 returns : tie.Need-returns Inv-loop μ-loop
 returns c = rw (← back (begin (c .before) .fits .bias)) (upto-all (c .before .loop .inv) (omega arith))
 
-pub warp-prep-row-spec : {M : Type 1} → statement M
+pub warp-prep-row-spec : {M : Type 1} → Rattle.rows.proofs.warp.warp_prep_row.Statement.statement M
 warp-prep-row-spec =
     tie.close
     (tie.spec Inv-loop μ-loop (λ c. upto-start (omega arith))  -- while c < 8

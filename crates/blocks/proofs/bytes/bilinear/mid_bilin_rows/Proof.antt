@@ -1,14 +1,8 @@
 -- Made from crates/blocks/proofs/words/bilinear/mid_bilin_rows/Proof.antt by tools/sets: change that.
-use native.Mathlib.Omega.{arith}
-use Prim.Native.Nat.{_+_, _-_, _*_}
-use Rattle.rows.specs.Numbers.{at, clip}
+use Rattle.blocks.proofs.Usual.{_*_, _+_, _-_, arith, needs, length, at, clip, Filled, filled-none, block-loop}
 use Rattle.rows.specs.Bilinear.{R}
 use Rattle.rows.specs.inner.Bilinear.{bilinAt}
-use lib.ListN.{length}
-use borrow.Author.Needs.{needs}
-use Rattle.blocks.proofs.Laws.Loops.Rows.{Filled, filled-none, block-loop}
 use Rattle.blocks.proofs.Laws.Bilinear.Ready.{Turn, turn}
-use Rattle.blocks.proofs.bytes.bilinear.mid_bilin_rows.Statement.{statement}
 use Rattle.blocks.proofs.bytes.bilinear.mid_bilin_rows.Tie as tie
 
 abbrev Inv-loop : tie.InvT-loop
@@ -26,7 +20,7 @@ row : (c : tie.In-loop Inv-loop μ-loop) → let a = entry c .args in
     Turn (c .before .loop .dst) (a .ds) (length (a .mid .now)) 64 64 (a .w) (c .before .loop .y)
 row c = turn 0 (entry c .pre .0) (c .before .loop .inv) (c .loop-test .taken)
 
-pub mid-bilin-rows-spec : {M : Type 1} → statement M
+pub mid-bilin-rows-spec : {M : Type 1} → Rattle.blocks.proofs.bytes.bilinear.mid_bilin_rows.Statement.statement M
 mid-bilin-rows-spec =
     tie.close
     (tie.spec Inv-loop μ-loop

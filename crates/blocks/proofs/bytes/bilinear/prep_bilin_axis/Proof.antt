@@ -1,18 +1,9 @@
 -- Made from crates/blocks/proofs/words/bilinear/prep_bilin_axis/Proof.antt by tools/sets: change that.
-use native.Mathlib.Omega.{arith}
-use Prim.Native.Nat.{_+_, _-_, _*_}
-use lib.IntN.{pos}
-use Rattle.rows.specs.Numbers.{px, low16, minus16}
+use Rattle.blocks.proofs.Usual.{_*_, _+_, _-_, arith, needs, pos, length, w16, toZ, minus16, px, low16, back, Filled, filled-none, block-loop}
+use Rattle.blocks.proofs.Usual.{filled-all}
 use Rattle.rows.specs.Bilinear.{R}
 use Rattle.rows.specs.inner.Bilinear.{bilinAt}
-use lib.ListN.{length}
-use mir.Syntax.{w16}
-use mir.Val.{toZ}
-use borrow.Author.Needs.{needs}
-use Rattle.rows.proofs.Laws.Numbers.Signed.{back}
-use Rattle.blocks.proofs.Laws.Loops.Rows.{Filled, filled-none, filled-all, block-loop}
 use Rattle.blocks.proofs.Laws.Bilinear.Ready.{Turn, turn}
-use Rattle.blocks.proofs.bytes.bilinear.prep_bilin_axis.Statement.{statement}
 use Rattle.blocks.proofs.bytes.bilinear.prep_bilin_axis.Tie as tie
 
 abbrev Inv-loop : tie.InvT-loop
@@ -30,7 +21,7 @@ row : (c : tie.In-loop Inv-loop μ-loop) → let a = entry c .args in
     Turn (c .before .loop .tmp) (a .ts) (length (a .src .now)) (a .ss) (a .by .step) (a .w) (c .before .loop .y)
 row c = turn (pos 0) (entry c .pre .0) (c .before .loop .inv) (c .loop-test .taken)
 
-pub prep-bilin-axis-spec : {M : Type 1} → statement M
+pub prep-bilin-axis-spec : {M : Type 1} → Rattle.blocks.proofs.bytes.bilinear.prep_bilin_axis.Statement.statement M
 prep-bilin-axis-spec =
     tie.close
     (tie.spec Inv-loop μ-loop

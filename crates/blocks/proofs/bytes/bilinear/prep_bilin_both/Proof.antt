@@ -1,14 +1,7 @@
 -- Made from crates/blocks/proofs/words/bilinear/prep_bilin_both/Proof.antt by tools/sets: change that.
-use mathlib.Core.Path.{_≡_, ap, _∙_}
-use lib.IntN.{pos}
-use native.Mathlib.Omega.{arith}
-use borrow.Author.Needs.{needs}
-use mir.Syntax.{w16}
-use mir.Val.{toZ}
-use Rattle.rows.proofs.Laws.Numbers.Signed.{backn}
+use Rattle.blocks.proofs.Usual.{_≡_, _∙_, ap, arith, needs, pos, w16, toZ, backn}
 use Rattle.blocks.proofs.Laws.Bilinear.Ready.{first, second}
 use Rattle.blocks.proofs.Laws.Bilinear.Rule.{prep-twice}
-use Rattle.blocks.proofs.bytes.bilinear.prep_bilin_both.Statement.{statement}
 use Rattle.blocks.proofs.bytes.bilinear.prep_bilin_both.Tie as tie
 
 -- the function's entry, from where the intermediates are there
@@ -39,7 +32,7 @@ returns c =
     rw (m .prep-bilin-axis .ensures, d .0, d .1) at (r .mid-bilin-prep-rows .ensures)
     ∙ prep-twice (a .d .bits) (a .d .bias) (a .src .now) (a .tmp .now) (s .pre .0) (s .pre .1) (s .pre .2) _ (omega arith)
 
-pub prep-bilin-both-spec : {M : Type 1} → statement M
+pub prep-bilin-both-spec : {M : Type 1} → Rattle.blocks.proofs.bytes.bilinear.prep_bilin_both.Statement.statement M
 prep-bilin-both-spec =
     tie.close
     (tie.spec

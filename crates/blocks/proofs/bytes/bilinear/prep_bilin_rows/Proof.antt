@@ -1,14 +1,7 @@
 -- Made from crates/blocks/proofs/words/bilinear/prep_bilin_rows/Proof.antt by tools/sets: change that.
-use mathlib.Core.Path.{_≡_, ap, _∙_}
-use lib.IntN.{pos}
-use native.Mathlib.Omega.{arith}
-use borrow.Author.Needs.{needs}
-use mir.Syntax.{w16}
-use mir.Val.{toZ}
-use Rattle.rows.proofs.Laws.Numbers.Signed.{backn}
+use Rattle.blocks.proofs.Usual.{_≡_, _∙_, ap, arith, needs, pos, w16, toZ, backn}
 use Rattle.blocks.proofs.Laws.Bilinear.Ready.{copied, across, downward}
 use Rattle.blocks.proofs.Laws.Bilinear.Rule.{prep-copied, prep-across, prep-downward}
-use Rattle.blocks.proofs.bytes.bilinear.prep_bilin_rows.Statement.{statement}
 use Rattle.blocks.proofs.bytes.bilinear.prep_bilin_rows.Tie as tie
 
 -- the function's entry, from where B and P are there
@@ -61,7 +54,7 @@ returns-4 c =
     r .prep-rows .ensures
     ∙ prep-copied (a .d .bits) (a .d .bias) (a .src .now) (a .tmp .now) (s .pre .0) (t .before .if1 .left) (t .if3 .left)
 
-pub prep-bilin-rows-spec : {M : Type 1} → statement M
+pub prep-bilin-rows-spec : {M : Type 1} → Rattle.blocks.proofs.bytes.bilinear.prep_bilin_rows.Statement.statement M
 prep-bilin-rows-spec =
     tie.close
     (tie.spec

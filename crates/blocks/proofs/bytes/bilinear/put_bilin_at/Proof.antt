@@ -1,15 +1,9 @@
 -- Made from crates/blocks/proofs/words/bilinear/hv_put_bilin_16bpc/Proof.antt by tools/sets: change that.
-use mathlib.Core.Path.{_≡_, sym, _∙_}
-use lib.ListN.{length}
-use borrow.Author.Needs.{needs}
-use Rattle.rows.proofs.Laws.Numbers.Signed.{back}
-use Rattle.blocks.specs.Refuse.{lowest}
+use Rattle.blocks.proofs.Usual.{_≡_, _∙_, sym, needs, length, lowest, back, done, refused}
 use Rattle.blocks.specs.bytes.Depth.{depthOk}
 use Rattle.blocks.specs.Bilinear.{bilinTests}
-use Rattle.blocks.proofs.Laws.Calls.Refuse.{done, refused}
 use Rattle.blocks.proofs.Laws.bytes.Depth.{depth-bits, depth-max}
 use Rattle.blocks.proofs.Laws.Bilinear.Ready.{bilin-ready}
-use Rattle.blocks.proofs.bytes.bilinear.put_bilin_at.Statement.{statement}
 use Rattle.blocks.proofs.bytes.bilinear.put_bilin_at.Tie as tie
 
 -- the function's entry, from where the number is there
@@ -34,7 +28,7 @@ rows-requires c κs =
     let q = bilin-ready _ _ _ _ _ _ _ _ _ (sym (k .check-bilin .ensures) ∙ t .if1 .taken) in let p = sym (k .before .depth-ok .ensures) ∙ q .0 in
     rw (a .before .up32 .ensures, a .up322 .ensures, n .depth-numbers .ensures) (q .1, depth-bits _ p, depth-max _ p)
 
-pub put-bilin-at-spec : {M : Type 1} → statement M
+pub put-bilin-at-spec : {M : Type 1} → Rattle.blocks.proofs.bytes.bilinear.put_bilin_at.Statement.statement M
 put-bilin-at-spec =
     tie.close
     (tie.spec (λ c κs. search needs) (λ c κs. search needs)  -- depth-ok, check-bilin

@@ -1,16 +1,8 @@
 -- Made from crates/blocks/proofs/words/bilinear/put_bilin_axis/Proof.antt by tools/sets: change that.
-use native.Mathlib.Omega.{arith}
-use Prim.Native.Nat.{_+_, _-_, _*_, _^_}
-use lib.IntN.{pos, _+ℤ_}
-use lib.Signed.{shrZ}
-use Rattle.rows.specs.Numbers.{px, clip}
+use Rattle.blocks.proofs.Usual.{_*_, _+_, _-_, _^_, arith, needs, pos, _+ℤ_, length, shrZ, clip, px, Filled, filled-none, block-loop}
 use Rattle.rows.specs.Bilinear.{R}
 use Rattle.rows.specs.inner.Bilinear.{bilinAt}
-use lib.ListN.{length}
-use borrow.Author.Needs.{needs}
-use Rattle.blocks.proofs.Laws.Loops.Rows.{Filled, filled-none, block-loop}
 use Rattle.blocks.proofs.Laws.Bilinear.Ready.{Turn, turn}
-use Rattle.blocks.proofs.bytes.bilinear.put_bilin_axis.Statement.{statement}
 use Rattle.blocks.proofs.bytes.bilinear.put_bilin_axis.Tie as tie
 
 abbrev Inv-loop : tie.InvT-loop
@@ -28,7 +20,7 @@ row : (c : tie.In-loop Inv-loop μ-loop) → let a = entry c .args in
     Turn (c .before .loop .dst) (a .ds) (length (a .src .now)) (a .ss) (a .by .step) (a .w) (c .before .loop .y)
 row c = turn 0 (entry c .pre .0) (c .before .loop .inv) (c .loop-test .taken)
 
-pub put-bilin-axis-spec : {M : Type 1} → statement M
+pub put-bilin-axis-spec : {M : Type 1} → Rattle.blocks.proofs.bytes.bilinear.put_bilin_axis.Statement.statement M
 put-bilin-axis-spec =
     tie.close
     (tie.spec Inv-loop μ-loop

@@ -1,10 +1,7 @@
 -- Made from crates/blocks/proofs/words/bilinear/put_bilin_both/Proof.antt by tools/sets: change that.
-use mathlib.Core.Path.{_≡_, _∙_}
-use native.Mathlib.Omega.{arith}
-use borrow.Author.Needs.{needs}
+use Rattle.blocks.proofs.Usual.{_≡_, _∙_, arith, needs}
 use Rattle.blocks.proofs.Laws.Bilinear.Ready.{first, second}
 use Rattle.blocks.proofs.Laws.Bilinear.Rule.{put-twice}
-use Rattle.blocks.proofs.bytes.bilinear.put_bilin_both.Statement.{statement}
 use Rattle.blocks.proofs.bytes.bilinear.put_bilin_both.Tie as tie
 
 -- the function's entry, from where the intermediates are there
@@ -31,7 +28,7 @@ returns c =
     rw (m .prep-bilin-axis .ensures, bits (m .before)) at (r .mid-bilin-rows .ensures)
     ∙ put-twice (a .d .max) (a .d .bits) (a .src .now) (a .dst .now) (s .pre .0) (s .pre .1) (s .pre .2) _ (omega arith)
 
-pub put-bilin-both-spec : {M : Type 1} → statement M
+pub put-bilin-both-spec : {M : Type 1} → Rattle.blocks.proofs.bytes.bilinear.put_bilin_both.Statement.statement M
 put-bilin-both-spec =
     tie.close
     (tie.spec

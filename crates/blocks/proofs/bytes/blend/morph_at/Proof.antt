@@ -1,15 +1,9 @@
 -- Made from crates/blocks/proofs/words/blend/hv_morph_16bpc/Proof.antt by tools/sets: change that.
-use mathlib.Core.Path.{_≡_, sym, _∙_}
-use lib.ListN.{length}
-use borrow.Author.Needs.{needs}
-use Rattle.rows.proofs.Laws.Numbers.Signed.{back}
-use Rattle.blocks.specs.Refuse.{lowest}
+use Rattle.blocks.proofs.Usual.{_≡_, _∙_, sym, needs, length, lowest, back, done, refused}
 use Rattle.blocks.specs.bytes.Depth.{depthOk}
 use Rattle.blocks.specs.Blend.{morphTests}
-use Rattle.blocks.proofs.Laws.Calls.Refuse.{done, refused}
 use Rattle.blocks.proofs.Laws.bytes.Depth.{depth-max}
 use Rattle.blocks.proofs.Laws.Blend.Ready.{morph-ready}
-use Rattle.blocks.proofs.bytes.blend.morph_at.Statement.{statement}
 use Rattle.blocks.proofs.bytes.blend.morph_at.Tie as tie
 
 -- the function's entry, from the check
@@ -41,7 +35,7 @@ returns c =
           ∙ sym (done _ _ _ (i .if1 .taken)),
     )
 
-pub morph-at-spec : {M : Type 1} → statement M
+pub morph-at-spec : {M : Type 1} → Rattle.blocks.proofs.bytes.blend.morph_at.Statement.statement M
 morph-at-spec =
     tie.close
     (tie.spec

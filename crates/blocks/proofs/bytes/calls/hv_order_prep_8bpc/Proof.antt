@@ -1,9 +1,6 @@
-use borrow.Author.Needs.{needs}
-use mathlib.Core.Path.{refl}
-use Rattle.rows.proofs.Laws.Numbers.Signed.{back}
+use Rattle.blocks.proofs.Usual.{refl, needs, back}
 use Rattle.blocks.specs.bytes.Depth.{depthOk}
 use Rattle.blocks.proofs.Laws.Order.Run.{kind-passed, order-passed, prep-passed}
-use Rattle.blocks.proofs.bytes.calls.hv_order_prep_8bpc.Statement.{statement}
 use Rattle.blocks.proofs.bytes.calls.hv_order_prep_8bpc.Tie as tie
 
 returns : tie.Need-returns
@@ -13,5 +10,5 @@ returns c =
     let k = kind-passed _ (back (f .mx)) (back (f .my)) (back (f .filter-type)) (back (f .a)) (back (f .b)) (back (f .c)) (back (f .d)) in
     prep-passed _ _ _ _ _ refl (order-passed _ _ (back (f .x)) (back (f .y)) k) _ _ (a .order-prep-at .ensures)
 
-pub hv-order-prep-8bpc-spec : {M : Type 1} → statement M
+pub hv-order-prep-8bpc-spec : {M : Type 1} → Rattle.blocks.proofs.bytes.calls.hv_order_prep_8bpc.Statement.statement M
 hv-order-prep-8bpc-spec = tie.close (tie.spec (λ c κs. search needs) (λ c. search needs) (λ c. search needs) returns)

@@ -1,7 +1,5 @@
-use borrow.Author.Needs.{needs}
-use Rattle.rows.proofs.Laws.Numbers.Signed.{back}
+use Rattle.blocks.proofs.Usual.{needs, back}
 use Rattle.blocks.specs.bytes.Depth.{depthOk}
-use Rattle.blocks.proofs.bytes.calls.hv_put_bilin_8bpc.Statement.{statement}
 use Rattle.blocks.proofs.bytes.calls.hv_put_bilin_8bpc.Tie as tie
 
 returns : tie.Need-returns
@@ -10,5 +8,5 @@ returns c =
     let a = c .before .before in let s = a .before .before .before .before in
     rw (back (s .fits .mx), back (s .fits .my)) at (a .put-bilin-at .ensures)
 
-pub hv-put-bilin-8bpc-spec : {M : Type 1} → statement M
+pub hv-put-bilin-8bpc-spec : {M : Type 1} → Rattle.blocks.proofs.bytes.calls.hv_put_bilin_8bpc.Statement.statement M
 hv-put-bilin-8bpc-spec = tie.close (tie.spec (λ c κs. search needs) (λ c. search needs) returns)

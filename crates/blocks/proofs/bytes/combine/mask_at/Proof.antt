@@ -1,18 +1,9 @@
 -- Made from crates/blocks/proofs/words/combine/hv_mask_16bpc/Proof.antt by tools/sets: change that.
-use mathlib.Core.Path.{_≡_, sym, ap, _∙_}
-use lib.IntN.{ℤ}
-use lib.ListN.{length}
-use borrow.Author.Needs.{needs}
-use Rattle.rows.specs.Numbers.{up}
-use Rattle.rows.proofs.Laws.Numbers.Signed.{back}
-use Rattle.blocks.specs.Refuse.{lowest}
+use Rattle.blocks.proofs.Usual.{_≡_, _∙_, sym, ap, needs, ℤ, length, up, lowest, numbersOf, back, done, refused}
 use Rattle.blocks.specs.bytes.Depth.{depthOk}
-use Rattle.blocks.specs.inner.Ready.{numbersOf}
 use Rattle.blocks.specs.Combine.{maskTests}
-use Rattle.blocks.proofs.Laws.Calls.Refuse.{done, refused}
 use Rattle.blocks.proofs.Laws.bytes.Depth.{depth-bits, depth-bias, depth-max}
 use Rattle.blocks.proofs.Laws.Combine.Ready.{mask-ready}
-use Rattle.blocks.proofs.bytes.combine.mask_at.Statement.{statement}
 use Rattle.blocks.proofs.bytes.combine.mask_at.Tie as tie
 
 abbrev entry : tie.After-check-combine → tie.Start
@@ -40,7 +31,7 @@ returns c =
     let n = c .before .before .before .before in
     (number (n .before .before), rw (depth n) at (c .before .before .mask-rows .ensures) ∙ sym (done _ _ _ (n .before .if1 .taken)))
 
-pub mask-at-spec : {M : Type 1} → statement M
+pub mask-at-spec : {M : Type 1} → Rattle.blocks.proofs.bytes.combine.mask_at.Statement.statement M
 mask-at-spec =
     tie.close
     (tie.spec

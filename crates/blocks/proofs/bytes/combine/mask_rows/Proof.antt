@@ -1,13 +1,6 @@
 -- Made from crates/blocks/proofs/words/combine/mask_rows/Proof.antt by tools/sets: change that.
-use native.Mathlib.Omega.{arith}
-use Prim.Native.Nat.{_+_, _-_, _*_, _≤_}
-use lib.ListN.{length}
-use borrow.Author.Needs.{needs}
-use Rattle.rows.specs.Places.{pixel}
+use Rattle.blocks.proofs.Usual.{_≤_, _*_, _+_, _-_, arith, needs, length, pixel, row-fits, Filled, filled-none, row-in, block-loop, Turn, turn}
 use Rattle.rows.specs.Combine.{masked, both}
-use Rattle.rows.proofs.Laws.Blocks.Places.{row-fits}
-use Rattle.blocks.proofs.Laws.Loops.Rows.{Filled, filled-none, Turn, turn, row-in, block-loop}
-use Rattle.blocks.proofs.bytes.combine.mask_rows.Statement.{statement}
 use Rattle.blocks.proofs.bytes.combine.mask_rows.Tie as tie
 
 abbrev Inv-loop : tie.InvT-loop
@@ -28,7 +21,7 @@ row c =
     let p = entry c .pre in let y = c .before .loop .y in let lt = c .loop-test .taken in
     (turn 0 (c .before .loop .inv) (p .1) lt, row-in y (p .2) lt, row-in y (p .3) lt, row-fits _ _ _ _ y (p .4) lt)
 
-pub mask-rows-spec : {M : Type 1} → statement M
+pub mask-rows-spec : {M : Type 1} → Rattle.blocks.proofs.bytes.combine.mask_rows.Statement.statement M
 mask-rows-spec =
     tie.close
     (tie.spec Inv-loop μ-loop

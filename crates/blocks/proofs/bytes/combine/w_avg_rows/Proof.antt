@@ -1,15 +1,7 @@
 -- Made from crates/blocks/proofs/words/combine/w_avg_rows/Proof.antt by tools/sets: change that.
-use borrow.Author.Needs.{needs}
-use native.Mathlib.Omega.{arith}
-use mathlib.Core.Path.{_≡_, _∙_}
-use Prim.Native.Nat.{_<_}
-use lib.IntN.{ℤ, pos, _-ℤ_}
-use mir.Syntax.{w32}
-use mir.Val.{SFits}
-use Rattle.rows.specs.Numbers.{up, dn}
-use Rattle.rows.proofs.Laws.Numbers.Signed.{back, mag-sub}
+use Rattle.blocks.proofs.Usual.{_≡_, _∙_, _<_, arith, needs, pos, ℤ, _-ℤ_, w32, SFits, up, dn, back}
+use Rattle.rows.proofs.Laws.Numbers.Signed.{mag-sub}
 use Rattle.blocks.proofs.Laws.Combine.Calls.{weight-above, weight-below, above-fill, below-fill}
-use Rattle.blocks.proofs.bytes.combine.w_avg_rows.Statement.{statement}
 use Rattle.blocks.proofs.bytes.combine.w_avg_rows.Tie as tie
 
 abbrev partner : tie.Start → ℤ
@@ -40,7 +32,7 @@ returns-2 c =
     let v = simp (back (s .fits .weight)) at (m .mask-of2 .ensures) in
     r .mask-rows2 .ensures ∙ above-fill _ _ _ _ _ _ _ _ (s .args .tmp1 .now) (s .args .tmp2 .now) (s .args .weight) (omega (arith, s .pre)) (s .pre .0 .w64) v (above (m .before) .0)
 
-pub w-avg-rows-spec : {M : Type 1} → statement M
+pub w-avg-rows-spec : {M : Type 1} → Rattle.blocks.proofs.bytes.combine.w_avg_rows.Statement.statement M
 w-avg-rows-spec =
     tie.close
     (tie.spec

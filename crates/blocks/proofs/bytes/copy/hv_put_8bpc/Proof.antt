@@ -1,9 +1,6 @@
 -- Made from crates/blocks/proofs/words/copy/hv_put_16bpc/Proof.antt by tools/sets: change that.
-use mathlib.Core.Path.{sym, _∙_}
-use borrow.Author.Needs.{needs}
-use Rattle.blocks.proofs.Laws.Calls.Refuse.{done, refused}
+use Rattle.blocks.proofs.Usual.{_∙_, sym, needs, done, refused}
 use Rattle.blocks.proofs.Laws.Copy.Ready.{put-ready}
-use Rattle.blocks.proofs.bytes.copy.hv_put_8bpc.Statement.{statement}
 use Rattle.blocks.proofs.bytes.copy.hv_put_8bpc.Tie as tie
 
 returns : tie.Need-returns
@@ -11,7 +8,7 @@ returns c =
     let t = c .before .before .before .before in
     (t .before .check-put .ensures, c .before .before .put-rows .ensures ∙ sym (done _ _ _ (t .if1 .taken)))
 
-pub hv-put-8bpc-spec : {M : Type 1} → statement M
+pub hv-put-8bpc-spec : {M : Type 1} → Rattle.blocks.proofs.bytes.copy.hv_put_8bpc.Statement.statement M
 hv-put-8bpc-spec =
     tie.close
     (tie.spec

@@ -1,18 +1,9 @@
 -- Made from crates/blocks/proofs/words/copy/hv_prep_16bpc/Proof.antt by tools/sets: change that.
-use mathlib.Core.Path.{_≡_, sym, ap, _∙_}
-use lib.IntN.{ℤ}
-use lib.ListN.{length}
-use borrow.Author.Needs.{needs}
-use Rattle.rows.specs.Numbers.{up}
-use Rattle.rows.proofs.Laws.Numbers.Signed.{back}
-use Rattle.blocks.specs.Refuse.{lowest}
+use Rattle.blocks.proofs.Usual.{_≡_, _∙_, sym, ap, needs, ℤ, length, up, lowest, numbersOf, back, done, refused}
 use Rattle.blocks.specs.bytes.Depth.{depthOk}
-use Rattle.blocks.specs.inner.Ready.{numbersOf}
 use Rattle.blocks.specs.Copy.{prepTests}
-use Rattle.blocks.proofs.Laws.Calls.Refuse.{done, refused}
 use Rattle.blocks.proofs.Laws.bytes.Depth.{depth-bits, depth-bias}
 use Rattle.blocks.proofs.Laws.Copy.Ready.{prep-ready}
-use Rattle.blocks.proofs.bytes.copy.prep_at.Statement.{statement}
 use Rattle.blocks.proofs.bytes.copy.prep_at.Tie as tie
 
 abbrev entry : tie.After-check-prep → tie.Start
@@ -39,7 +30,7 @@ returns c =
     let n = c .before .before .before in
     (number (n .before .before), rw (depth n) at (c .before .prep-rows .ensures) ∙ sym (done _ _ _ (n .before .if1 .taken)))
 
-pub prep-at-spec : {M : Type 1} → statement M
+pub prep-at-spec : {M : Type 1} → Rattle.blocks.proofs.bytes.copy.prep_at.Statement.statement M
 prep-at-spec =
     tie.close
     (tie.spec

@@ -1,18 +1,10 @@
 -- Made from crates/blocks/proofs/words/order/hv_order_put_16bpc/Proof.antt by tools/sets: change that.
-use borrow.Author.Needs.{needs}
-use mathlib.Core.Path.{_≡_, refl, sym, ap, _∙_}
-use mathlib.Core.Bool.{true}
-use Prim.Native.Nat.{ℕ}
-use mir.Syntax.{w32}
-use Rattle.rows.specs.Numbers.{up}
-use Rattle.rows.proofs.Laws.Numbers.Signed.{back}
+use Rattle.blocks.proofs.Usual.{true, _≡_, _∙_, refl, sym, ap, ℕ, needs, w32, up, Tables, kindOf, back}
 use Rattle.blocks.specs.bytes.Depth.{depthOk}
-use Rattle.blocks.specs.Order.{kindOf, Tables}
 use Rattle.blocks.proofs.Laws.bytes.Depth.{depth-bits, depth-bias, depth-max}
 use Rattle.blocks.proofs.Laws.Calls.Told.{passed}
 use Rattle.blocks.proofs.Laws.Order.Run.{ordered-number, ordered, ordered-deep, order-part, order-rows, put-done, put-refused, order-passed}
 use Rattle.blocks.proofs.Laws.Order.Run.{setting-passed, put-passed}
-use Rattle.blocks.proofs.bytes.order.order_put_at.Statement.{statement}
 use Rattle.blocks.proofs.bytes.order.order_put_at.Tie as tie
 
 -- the function's entry, and the window's call, from where its number is 0
@@ -69,7 +61,7 @@ returns-2 c =
     (order-passed _ _ (back (f .x)) (back (f .y)) (kind-is w)) _ _
     (put-refused _ _ _ _ _ _ (ordered-number (depth w) (tables w) refl (w .order-window .ensures)) (w .order-window .ensures .full) (c .if1 .left))
 
-pub order-put-at-spec : {M : Type 1} → statement M
+pub order-put-at-spec : {M : Type 1} → Rattle.blocks.proofs.bytes.order.order_put_at.Statement.statement M
 order-put-at-spec =
     tie.close
     (tie.spec

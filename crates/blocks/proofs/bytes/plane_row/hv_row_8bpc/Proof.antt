@@ -1,12 +1,9 @@
 -- Made from crates/blocks/proofs/words/plane_row/hv_row_16bpc/Proof.antt by tools/sets: change that.
-use borrow.Author.Needs.{needs}
-use mathlib.Core.Path.{refl}
-use Rattle.rows.proofs.Laws.Numbers.Signed.{back}
+use Rattle.blocks.proofs.Usual.{refl, needs, back}
 use Rattle.blocks.proofs.Laws.Window.Ready.{part-answer}
-use Rattle.blocks.proofs.bytes.plane_row.hv_row_8bpc.Statement.{statement}
 use Rattle.blocks.proofs.bytes.plane_row.hv_row_8bpc.Tie as tie
 
-pub hv-row-8bpc-spec : {M : Type 1} → statement M
+pub hv-row-8bpc-spec : {M : Type 1} → Rattle.blocks.proofs.bytes.plane_row.hv_row_8bpc.Statement.statement M
 hv-row-8bpc-spec =
     tie.close
     (tie.spec

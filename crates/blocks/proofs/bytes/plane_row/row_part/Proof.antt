@@ -1,13 +1,7 @@
 -- Made from crates/blocks/proofs/words/plane_row/row_part/Proof.antt by tools/sets: change that.
-use borrow.Author.Needs.{needs}
-use mathlib.Core.Path.{_≡_, refl, ap, _∙_}
-use mathlib.Core.List.{[]}
-use Rattle.rows.proofs.Laws.Numbers.Signed.{back}
-use Rattle.blocks.specs.Window.{rowAt, partOf}
-use Rattle.blocks.specs.inner.Window.{lentOf}
+use Rattle.blocks.proofs.Usual.{[], _≡_, _∙_, refl, ap, needs, partOf, rowAt, lentOf, back}
 use Rattle.blocks.proofs.Laws.Window.Rows.{row-in-plane}
 use Rattle.blocks.specs.declared.window.Part.{Part}
-use Rattle.blocks.proofs.bytes.plane_row.row_part.Statement.{statement}
 use Rattle.blocks.proofs.bytes.plane_row.row_part.Tie as tie
 
 answer : (c : tie.After-row-at) → let a = c .before .before .args in
@@ -19,7 +13,7 @@ returns c =
     let g = c .before .before in
     c .pick .ensures ∙ ap (λ (p : Part). partOf p (g .before .before .args .plane .now) []) (answer g)
 
-pub row-part-spec : {M : Type 1} → statement M
+pub row-part-spec : {M : Type 1} → Rattle.blocks.proofs.bytes.plane_row.row_part.Statement.statement M
 row-part-spec =
     tie.close
     (tie.spec

@@ -1,15 +1,8 @@
 -- Made from crates/blocks/proofs/words/scaled/next_pairs/Proof.antt by tools/sets: change that.
-use Prim.Native.Nat.{_+_, _-_, _*_, _%_, _≤_, _<_}
-use mathlib.Core.Path.{_≡_, _∙_}
-use lib.IntN.{pos}
-use lib.ListN.{length}
-use native.Mathlib.Omega.{arith}
-use borrow.Author.Needs.{needs}
-use Rattle.rows.specs.Places.{span}
+use Rattle.blocks.proofs.Usual.{_≡_, _∙_, _≤_, _*_, _+_, _-_, _<_, _%_, arith, needs, pos, length, span}
 use Rattle.rows.proofs.Laws.Blocks.Places.{span-length}
 use Rattle.blocks.specs.inner.Scaled.{LastTwo, pairLineOf}
 use Rattle.blocks.proofs.Laws.Scaled.Pairs.{two-more, pair-start, pairs-fetched, tabled-line}
-use Rattle.blocks.proofs.bytes.scaled.next_pairs.Statement.{statement}
 use Rattle.blocks.proofs.bytes.scaled.next_pairs.Tie as tie
 
 abbrev Inv-loop : tie.InvT-loop
@@ -54,7 +47,7 @@ returns c =
     let e : c .before .loop .k ≡ c .before .before .before .args .m = omega arith in
     rw e at (c .before .loop .inv .1 .1)
 
-pub next-pairs-spec : {M : Type 1} → statement M
+pub next-pairs-spec : {M : Type 1} → Rattle.blocks.proofs.bytes.scaled.next_pairs.Statement.statement M
 next-pairs-spec =
     tie.close
     (tie.spec Inv-loop μ-loop

@@ -1,20 +1,12 @@
 -- Made from crates/blocks/proofs/words/scaled/hv_prep_8tap_scaled_16bpc/Proof.antt by tools/sets: change that.
-use mathlib.Core.Path.{_≡_, sym, _∙_}
-use mathlib.Core.Bool.{true}
-use native.Mathlib.Omega.{arith}
-use lib.ListN.{length}
-use borrow.Author.Needs.{needs}
-use Rattle.rows.proofs.Laws.Numbers.Signed.{back}
-use Rattle.blocks.specs.Refuse.{lowest}
+use Rattle.blocks.proofs.Usual.{true, _≡_, _∙_, sym, arith, needs, length, lowest, back, done, refused}
 use Rattle.blocks.specs.bytes.Depth.{depthOk}
 use Rattle.blocks.specs.Subpel.{subpelOk}
 use Rattle.blocks.specs.Scaled.{scaledTypeOk, scaledTests}
 use Rattle.blocks.specs.inner.Scaled.{scaledPlan}
 use Rattle.blocks.proofs.Laws.bytes.Depth.{depth-bits, depth-bias}
-use Rattle.blocks.proofs.Laws.Calls.Refuse.{done, refused}
 use Rattle.blocks.proofs.Laws.Scaled.Ready.{ScaledMet, scaled-ready, taps-met}
 use Rattle.blocks.proofs.Laws.Scaled.Rule.{prep-planned}
-use Rattle.blocks.proofs.bytes.scaled.prep_8tap_scaled_at.Statement.{statement}
 use Rattle.blocks.proofs.bytes.scaled.prep_8tap_scaled_at.Tie as tie
 
 abbrev begin : tie.After-check-scaled → tie.Start
@@ -68,7 +60,7 @@ prep-8tap-scaled-rows-requires c κs =
     rw (p .scaled-plan .ensures, d .depth-numbers .ensures, back (f .depth), back (f .filter-type), back (f .mx), back (f .my), back (f .dx), back (f .dy))
     (m .block, m .rows, taps-met _ _ m _ .1, depth-bits _ (m .deep), depth-bias _ (m .deep))
 
-pub prep-8tap-scaled-at-spec : {M : Type 1} → statement M
+pub prep-8tap-scaled-at-spec : {M : Type 1} → Rattle.blocks.proofs.bytes.scaled.prep_8tap_scaled_at.Statement.statement M
 prep-8tap-scaled-at-spec =
     tie.close
     (tie.spec (λ c κs. search needs) (λ c κs. search needs) (λ c κs. search needs)  -- depth-ok, scaled-type-ok, check-scaled

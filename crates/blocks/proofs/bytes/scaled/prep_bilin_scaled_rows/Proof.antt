@@ -1,18 +1,7 @@
 -- Made from crates/blocks/proofs/words/scaled/prep_bilin_scaled_rows/Proof.antt by tools/sets: change that.
-use Prim.Native.Nat.{_-_}
-use mathlib.Core.Path.{_≡_, refl, ap, _∙_}
-use lib.IntN.{pos}
-use lib.ListN.{length}
-use native.Mathlib.Omega.{arith}
-use borrow.Author.Needs.{needs}
-use mir.Syntax.{w16}
-use mir.Val.{toZ}
-use Rattle.rows.specs.Numbers.{low16, minus16}
+use Rattle.blocks.proofs.Usual.{_≡_, _∙_, refl, ap, _-_, arith, needs, pos, length, w16, toZ, minus16, low16, backn, filled-all}
 use Rattle.rows.specs.Bilinear.{R}
-use Rattle.rows.proofs.Laws.Numbers.Signed.{backn}
-use Rattle.blocks.proofs.Laws.Loops.Rows.{filled-all}
 use Rattle.blocks.proofs.Laws.Scaled.Pairs.{PairLoop, pair-none, PairTurn, pair-turn, pair-more, parity-small}
-use Rattle.blocks.proofs.bytes.scaled.prep_bilin_scaled_rows.Statement.{statement}
 use Rattle.blocks.proofs.bytes.scaled.prep_bilin_scaled_rows.Tie as tie
 
 abbrev Inv-loop : tie.InvT-loop
@@ -64,7 +53,7 @@ loop-again c =
     pair-more (pos 0) (t .before .loop .inv) (p .0) (p .1) (t .loop-test .taken) (omega arith) (r .before .next-pairs .ensures)
     (rw (b .by-parity .ensures, less t) at (m .mid-bilin-prep-row .ensures))
 
-pub prep-bilin-scaled-rows-spec : {M : Type 1} → statement M
+pub prep-bilin-scaled-rows-spec : {M : Type 1} → Rattle.blocks.proofs.bytes.scaled.prep_bilin_scaled_rows.Statement.statement M
 prep-bilin-scaled-rows-spec =
     tie.close
     (tie.spec Inv-loop μ-loop

@@ -1,21 +1,11 @@
 -- Made from crates/blocks/proofs/words/scaled/hv_put_bilin_scaled_16bpc/Proof.antt by tools/sets: change that.
-use mathlib.Core.Path.{_≡_, sym, _∙_}
-use mathlib.Core.Bool.{true, false}
-use native.Mathlib.Omega.{arith}
-use lib.IntN.{pos}
-use lib.ListN.{length}
-use borrow.Author.Needs.{needs}
-use Rattle.rows.specs.Numbers.{up}
-use Rattle.rows.proofs.Laws.Numbers.Signed.{back}
-use Rattle.blocks.specs.Refuse.{lowest}
+use Rattle.blocks.proofs.Usual.{true, false, _≡_, _∙_, sym, arith, needs, pos, length, up, lowest, back, done, refused}
 use Rattle.blocks.specs.bytes.Depth.{depthOk}
 use Rattle.blocks.specs.Scaled.{scaledTests}
 use Rattle.blocks.specs.inner.Scaled.{scaledPlan}
 use Rattle.blocks.proofs.Laws.bytes.Depth.{depth-bits, depth-max}
-use Rattle.blocks.proofs.Laws.Calls.Refuse.{done, refused}
 use Rattle.blocks.proofs.Laws.Scaled.Ready.{ScaledMet, scaled-ready, even-bits, pairs-met}
 use Rattle.blocks.proofs.Laws.Scaled.Rule.{put-paired}
-use Rattle.blocks.proofs.bytes.scaled.put_bilin_scaled_at.Statement.{statement}
 use Rattle.blocks.proofs.bytes.scaled.put_bilin_scaled_at.Tie as tie
 
 abbrev begin : tie.After-check-scaled → tie.Start
@@ -49,7 +39,7 @@ put-bilin-scaled-rows-requires c κs =
     rw (p .scaled-plan .ensures, d .depth-numbers .ensures, back (f .depth), back (f .mx), back (f .my), back (f .dx), back (f .dy))
     (m .block, m .rows, pairs-met m (pos 0) _ (even-bits (up (begin (t .before) .args .depth))), depth-bits _ (m .deep), depth-max _ (m .deep))
 
-pub put-bilin-scaled-at-spec : {M : Type 1} → statement M
+pub put-bilin-scaled-at-spec : {M : Type 1} → Rattle.blocks.proofs.bytes.scaled.put_bilin_scaled_at.Statement.statement M
 put-bilin-scaled-at-spec =
     tie.close
     (tie.spec (λ c κs. search needs) (λ c κs. search needs)  -- depth-ok, check-scaled

@@ -1,14 +1,7 @@
 -- Made from crates/blocks/proofs/words/scaled/put_bilin_scaled_rows/Proof.antt by tools/sets: change that.
-use Prim.Native.Nat.{_+_, _-_}
-use mathlib.Core.Path.{_≡_, refl}
-use lib.ListN.{length}
-use native.Mathlib.Omega.{arith}
-use borrow.Author.Needs.{needs}
-use Rattle.rows.specs.Numbers.{clip}
+use Rattle.blocks.proofs.Usual.{_≡_, refl, _+_, _-_, arith, needs, length, clip, filled-all}
 use Rattle.rows.specs.Bilinear.{R}
-use Rattle.blocks.proofs.Laws.Loops.Rows.{filled-all}
 use Rattle.blocks.proofs.Laws.Scaled.Pairs.{PairLoop, pair-none, PairTurn, pair-turn, pair-more, parity-small}
-use Rattle.blocks.proofs.bytes.scaled.put_bilin_scaled_rows.Statement.{statement}
 use Rattle.blocks.proofs.bytes.scaled.put_bilin_scaled_rows.Tie as tie
 
 abbrev Inv-loop : tie.InvT-loop
@@ -59,7 +52,7 @@ loop-again c =
     pair-more 0 (t .before .loop .inv) (p .0) (p .1) (t .loop-test .taken) (omega arith) (r .before .next-pairs .ensures)
     (rw (b .by-parity .ensures, bits t) at (m .mid-bilin-row .ensures))
 
-pub put-bilin-scaled-rows-spec : {M : Type 1} → statement M
+pub put-bilin-scaled-rows-spec : {M : Type 1} → Rattle.blocks.proofs.bytes.scaled.put_bilin_scaled_rows.Statement.statement M
 put-bilin-scaled-rows-spec =
     tie.close
     (tie.spec Inv-loop μ-loop

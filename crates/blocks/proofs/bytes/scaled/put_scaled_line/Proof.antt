@@ -1,12 +1,7 @@
 -- Made from crates/blocks/proofs/words/scaled/put_scaled_line/Proof.antt by tools/sets: change that.
-use borrow.Author.Needs.{needs}
-use mathlib.Core.Path.{_∙_, sym, subst}
-use native.Mathlib.Omega.{arith}
-use Prim.Native.Nat.{_≤_, _<_}
+use Rattle.blocks.proofs.Usual.{_∙_, sym, subst, _≤_, _<_, arith, needs, getD}
 use lib.Dec.{T}
-use lib.ListN.{getD}
 use Rattle.blocks.proofs.Laws.Scaled.Lines.{turned-lt, put-line-whole, put-line-by}
-use Rattle.blocks.proofs.bytes.scaled.put_scaled_line.Statement.{statement}
 use Rattle.blocks.proofs.bytes.scaled.put_scaled_line.Tie as tie
 
 abbrev begin : tie.After-bits-of → tie.Start
@@ -48,7 +43,7 @@ mid-by-requires c κs =
     let h = c .before .before in let b = h .before .before .before .before in
     (omega (arith, begin b .pre), omega (arith, few b, h .half-power .ensures), λ e. absurd (subst T (sym e) tt), begin b .pre .6)
 
-pub put-scaled-line-spec : {M : Type 1} → statement M
+pub put-scaled-line-spec : {M : Type 1} → Rattle.blocks.proofs.bytes.scaled.put_scaled_line.Statement.statement M
 put-scaled-line-spec =
     tie.close
     (tie.spec

@@ -1,8 +1,6 @@
 -- Made from crates/blocks/proofs/words/search/sad_at/Proof.antt by tools/sets: change that.
-use borrow.Author.Needs.{needs}
-use Rattle.rows.proofs.Laws.Numbers.Signed.{back}
+use Rattle.blocks.proofs.Usual.{needs, back}
 use Rattle.blocks.proofs.Laws.Search.Ready.{offset-blocks, offset-sad}
-use Rattle.blocks.proofs.bytes.search.sad_at.Statement.{statement}
 use Rattle.blocks.proofs.bytes.search.sad_at.Tie as tie
 
 abbrev entry : tie.After-second-place → tie.Start
@@ -24,7 +22,7 @@ returns c =
       c .sad-sum .ensures .1,
     )
 
-pub sad-at-spec : {M : Type 1} → statement M
+pub sad-at-spec : {M : Type 1} → Rattle.blocks.proofs.bytes.search.sad_at.Statement.statement M
 sad-at-spec =
     tie.close
     (tie.spec

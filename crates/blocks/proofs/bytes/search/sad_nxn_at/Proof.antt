@@ -1,11 +1,7 @@
 -- Made from crates/blocks/proofs/words/search/hv_sad_nxn_16bpc/Proof.antt by tools/sets: change that.
-use borrow.Author.Needs.{needs}
-use mathlib.Core.Path.{sym, _∙_}
-use Rattle.rows.proofs.Laws.Numbers.Signed.{back}
-use Rattle.blocks.proofs.Laws.Calls.Refuse.{refused}
+use Rattle.blocks.proofs.Usual.{_∙_, sym, needs, back, refused}
 use Rattle.blocks.proofs.Laws.bytes.Depth.{depth-range}
 use Rattle.blocks.proofs.Laws.Search.Ready.{sads-ready, sad-blocks, sad-done}
-use Rattle.blocks.proofs.bytes.search.sad_nxn_at.Statement.{statement}
 use Rattle.blocks.proofs.bytes.search.sad_nxn_at.Tie as tie
 
 abbrev entry : tie.Then1 → tie.Start
@@ -30,7 +26,7 @@ returns-2 c =
     let k = c .before in let d = back (k .before .before .before .before .fits .depth) in
     (rw (k .before .depth-ok .ensures, d) at (k .check-sads .ensures), sym (refused _ _ _ (c .if1 .left)))
 
-pub sad-nxn-at-spec : {M : Type 1} → statement M
+pub sad-nxn-at-spec : {M : Type 1} → Rattle.blocks.proofs.bytes.search.sad_nxn_at.Statement.statement M
 sad-nxn-at-spec =
     tie.close
     (tie.spec

@@ -1,11 +1,8 @@
 -- Made from crates/blocks/proofs/words/search/sad_sum/Proof.antt by tools/sets: change that.
-use Prim.Native.Nat.{_+_, _-_, _*_, _/_, _≤_}
-use native.Mathlib.Omega.{arith}
-use lib.ListN.{length}
+use Rattle.blocks.proofs.Usual.{_≤_, _*_, _+_, _-_, _/_, arith, length}
 use Rattle.rows.specs.Search.{rowApart}
 use Rattle.rows.proofs.Laws.Numbers.Added.{Added, added-none, added-more, added-all}
 use Rattle.blocks.proofs.Laws.Search.Ready.{rows-of, from, row-apart, sad-shifted}
-use Rattle.blocks.proofs.bytes.search.sad_sum.Statement.{statement}
 use Rattle.blocks.proofs.bytes.search.sad_sum.Tie as tie
 
 abbrev Inv-loop : tie.InvT-loop
@@ -34,7 +31,7 @@ returns c =
     let e = added-all (c .before .loop .inv) (c .loop-test .left) in let s = c .before .before .before .before in
     sad-shifted (s .args .depth) _ _ _ _ (e .0, omega (arith, e .1, s .pre .0))
 
-pub sad-sum-spec : {M : Type 1} → statement M
+pub sad-sum-spec : {M : Type 1} → Rattle.blocks.proofs.bytes.search.sad_sum.Statement.statement M
 sad-sum-spec =
     tie.close
     (tie.spec Inv-loop μ-loop

@@ -1,10 +1,7 @@
 -- Made from crates/blocks/proofs/words/search/search/Proof.antt by tools/sets: change that.
-use borrow.Author.Needs.{needs}
-use Prim.Native.Nat.{ℕ}
-use Rattle.rows.specs.Places.{pixel}
+use Rattle.blocks.proofs.Usual.{ℕ, needs, pixel}
 use Rattle.rows.specs.Search as spec
 use Rattle.blocks.proofs.Laws.Search.Ready.{five}
-use Rattle.blocks.proofs.bytes.search.search.Statement.{statement}
 use Rattle.blocks.proofs.bytes.search.search.Tie as tie
 
 abbrev sums : tie.Start → spec.Offset → ℕ
@@ -17,7 +14,7 @@ returns c =
     five (λ dy. spec.through spec.steps (λ dx. spec.visit (sums s) dy dx))
     (g .visit-row .ensures) (f .visit-row2 .ensures) (e .visit-row3 .ensures) (d .visit-row4 .ensures) (c .visit-row5 .ensures)
 
-pub search-spec : {M : Type 1} → statement M
+pub search-spec : {M : Type 1} → Rattle.blocks.proofs.bytes.search.search.Statement.statement M
 search-spec =
     tie.close
     (tie.spec

@@ -1,14 +1,7 @@
 -- Made from crates/blocks/proofs/words/search/visit/Proof.antt by tools/sets: change that.
-use borrow.Author.Needs.{needs}
-use mathlib.Core.Path.{_≡_, sym, _∙_}
-use Prim.Native.Nat.{ℕ, _+_}
-use lib.Dec.{eqb}
-use lib.IntN.{natAbs}
-use Rattle.rows.specs.Places.{pixel}
+use Rattle.blocks.proofs.Usual.{_≡_, _∙_, sym, ℕ, _+_, needs, eqb, natAbs, pixel, back}
 use Rattle.rows.specs.Search.{Offset, sadAt}
-use Rattle.rows.proofs.Laws.Numbers.Signed.{back}
 use Rattle.blocks.proofs.Laws.Search.Ready.{visit-centre, visit-other}
-use Rattle.blocks.proofs.bytes.search.visit.Statement.{statement}
 use Rattle.blocks.proofs.bytes.search.visit.Tie as tie
 
 abbrev sums : tie.Start → Offset → ℕ
@@ -26,7 +19,7 @@ returns-2 c =
     visit-other (sums s) _ _ _ _ _ (sym (centre (t .before)) ∙ t .if1 .left) (rw (x, y) at (c .before .sad-at .ensures .0))
     (rw (x, y) at (c .take-better .ensures))
 
-pub visit-spec : {M : Type 1} → statement M
+pub visit-spec : {M : Type 1} → Rattle.blocks.proofs.bytes.search.visit.Statement.statement M
 visit-spec =
     tie.close
     (tie.spec

@@ -1,9 +1,6 @@
 -- Made from crates/blocks/proofs/words/subpel/prep_8tap_rows/Proof.antt by tools/sets: change that.
-use mathlib.Core.Path.{refl, _∙_}
-use native.Mathlib.Omega.{arith}
-use borrow.Author.Needs.{needs}
+use Rattle.blocks.proofs.Usual.{_∙_, refl, arith, needs}
 use Rattle.blocks.proofs.Laws.Subpel.Cases.{Planned, bits-in, one-ready, first-ready, second-ready, prep-block, prep-two}
-use Rattle.blocks.proofs.bytes.subpel.prep_8tap_rows.Statement.{statement}
 use Rattle.blocks.proofs.bytes.subpel.prep_8tap_rows.Tie as tie
 
 abbrev begin : tie.After-plan-8tap → tie.Start
@@ -45,7 +42,7 @@ returns-2 c =
     c .before .prep-lines2 .ensures
     ∙ prep-block (planned d) (s .pre .0) (s .pre .2) (s .args .src .now) (t .if1 .left) _ _ (omega (arith, s .pre .0, s .pre .1)) _
 
-pub prep-8tap-rows-spec : {M : Type 1} → statement M
+pub prep-8tap-rows-spec : {M : Type 1} → Rattle.blocks.proofs.bytes.subpel.prep_8tap_rows.Statement.statement M
 prep-8tap-rows-spec =
     tie.close
     (tie.spec

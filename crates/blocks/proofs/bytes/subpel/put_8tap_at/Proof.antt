@@ -1,15 +1,9 @@
 -- Made from crates/blocks/proofs/words/subpel/hv_put_8tap_16bpc/Proof.antt by tools/sets: change that.
-use mathlib.Core.Path.{_≡_, sym, _∙_}
-use lib.ListN.{length}
-use borrow.Author.Needs.{needs}
-use Rattle.rows.proofs.Laws.Numbers.Signed.{back}
-use Rattle.blocks.specs.Refuse.{lowest}
+use Rattle.blocks.proofs.Usual.{_≡_, _∙_, sym, needs, length, lowest, back, done, refused}
 use Rattle.blocks.specs.bytes.Depth.{depthOk}
 use Rattle.blocks.specs.Subpel.{subpelTests}
 use Rattle.blocks.proofs.Laws.bytes.Depth.{depth-bits, depth-bias, depth-max}
-use Rattle.blocks.proofs.Laws.Calls.Refuse.{done, refused}
 use Rattle.blocks.proofs.Laws.Subpel.Ready.{subpel-ready}
-use Rattle.blocks.proofs.bytes.subpel.put_8tap_at.Statement.{statement}
 use Rattle.blocks.proofs.bytes.subpel.put_8tap_at.Tie as tie
 
 abbrev begin : tie.After-check-8tap → tie.Start
@@ -34,7 +28,7 @@ put-8tap-rows-requires c κs =
     let r = subpel-ready _ _ _ _ _ _ _ _ _ _ _ _ _ (sym (k .check-8tap .ensures) ∙ t .if1 .taken) in let p = sym (k .before .depth-ok .ensures) ∙ r .0 in
     rw (d .depth-numbers .ensures) (r .1, r .2, r .3, depth-bits _ p, depth-bias _ p, depth-max _ p)
 
-pub put-8tap-at-spec : {M : Type 1} → statement M
+pub put-8tap-at-spec : {M : Type 1} → Rattle.blocks.proofs.bytes.subpel.put_8tap_at.Statement.statement M
 put-8tap-at-spec =
     tie.close
     (tie.spec (λ c κs. search needs) (λ c κs. search needs)  -- depth-ok, check-8tap

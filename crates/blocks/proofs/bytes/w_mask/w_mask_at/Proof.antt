@@ -1,18 +1,9 @@
 -- Made from crates/blocks/proofs/words/w_mask/hv_w_mask_16bpc/Proof.antt by tools/sets: change that.
-use mathlib.Core.Path.{_≡_, sym, ap, _∙_}
-use lib.IntN.{ℤ}
-use lib.ListN.{length}
-use borrow.Author.Needs.{needs}
-use Rattle.rows.specs.Numbers.{up}
-use Rattle.rows.proofs.Laws.Numbers.Signed.{back}
-use Rattle.blocks.specs.Refuse.{lowest}
+use Rattle.blocks.proofs.Usual.{_≡_, _∙_, sym, ap, needs, ℤ, length, up, lowest, numbersOf, back, done, refused}
 use Rattle.blocks.specs.bytes.Depth.{depthOk}
-use Rattle.blocks.specs.inner.Ready.{numbersOf}
 use Rattle.blocks.specs.WMask.{wMaskTests}
-use Rattle.blocks.proofs.Laws.Calls.Refuse.{done, refused}
 use Rattle.blocks.proofs.Laws.bytes.Depth.{depth-bits, depth-bias, depth-max, depth-range}
 use Rattle.blocks.proofs.Laws.WMask.Ready.{w-mask-ready}
-use Rattle.blocks.proofs.bytes.w_mask.w_mask_at.Statement.{statement}
 use Rattle.blocks.proofs.bytes.w_mask.w_mask_at.Tie as tie
 
 -- the function's entry, from the check
@@ -62,7 +53,7 @@ returns c =
     let e = r .w-mask-rows .ensures in let o = i .if1 .taken in
     (number (i .before), simp (deep (from a), depth a) at (e .0) ∙ sym (done _ _ _ o), simp (deep (from a), depth a, sign a) at (e .1) ∙ sym (done _ _ _ o))
 
-pub w-mask-at-spec : {M : Type 1} → statement M
+pub w-mask-at-spec : {M : Type 1} → Rattle.blocks.proofs.bytes.w_mask.w_mask_at.Statement.statement M
 w-mask-at-spec =
     tie.close
     (tie.spec

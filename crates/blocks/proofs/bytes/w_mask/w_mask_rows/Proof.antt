@@ -1,10 +1,7 @@
 -- Made from crates/blocks/proofs/words/w_mask/w_mask_rows/Proof.antt by tools/sets: change that.
-use mathlib.Core.Path.{_∙_}
-use native.Mathlib.Omega.{arith}
-use borrow.Author.Needs.{needs}
+use Rattle.blocks.proofs.Usual.{_∙_, arith, needs}
 use Rattle.blocks.proofs.Laws.WMask.Ready.{each-met}
 use Rattle.blocks.proofs.Laws.WMask.Weighed.{weigh, mixedBy, Kept, kept, kept-room}
-use Rattle.blocks.proofs.bytes.w_mask.w_mask_rows.Statement.{statement}
 use Rattle.blocks.proofs.bytes.w_mask.w_mask_rows.Tie as tie
 
 -- the function's entry, from where the mask is written
@@ -43,7 +40,7 @@ returns-2 c =
       k .keep-mask .ensures,
     )
 
-pub w-mask-rows-spec : {M : Type 1} → statement M
+pub w-mask-rows-spec : {M : Type 1} → Rattle.blocks.proofs.bytes.w_mask.w_mask_rows.Statement.statement M
 w-mask-rows-spec =
     tie.close
     (tie.spec

@@ -1,13 +1,7 @@
 -- Made from crates/blocks/proofs/words/w_mask/weighed_rows/Proof.antt by tools/sets: change that.
-use native.Mathlib.Omega.{arith}
-use Prim.Native.Nat.{_+_, _-_, _*_, _≤_}
-use lib.ListN.{length, drop}
-use borrow.Author.Needs.{needs}
-use mathlib.Core.List.{_++_}
-use mathlib.Core.Path.{_≡_, refl, sym}
-use Rattle.blocks.proofs.Laws.Loops.Rows.{Filled, filled-none, filled-more, filled-all, Turn, turn, row-in}
+use Rattle.blocks.proofs.Usual.{_++_, _≡_, refl, sym, _≤_, _*_, _+_, _-_, arith, needs, length, drop, Filled, filled-none, row-in, filled-more, Turn}
+use Rattle.blocks.proofs.Usual.{turn, filled-all}
 use Rattle.blocks.proofs.Laws.WMask.Weighed.{weigh, mixedBy, mixed, Front, front, front-span, weighed}
-use Rattle.blocks.proofs.bytes.w_mask.weighed_rows.Statement.{statement}
 use Rattle.blocks.proofs.bytes.w_mask.weighed_rows.Tie as tie
 
 abbrev Inv-loop : tie.InvT-loop
@@ -51,7 +45,7 @@ loop-again c =
       line r .len,
     )
 
-pub weighed-rows-spec : {M : Type 1} → statement M
+pub weighed-rows-spec : {M : Type 1} → Rattle.blocks.proofs.bytes.w_mask.weighed_rows.Statement.statement M
 weighed-rows-spec =
     tie.close
     (tie.spec Inv-loop μ-loop

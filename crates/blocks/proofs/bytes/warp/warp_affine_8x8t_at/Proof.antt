@@ -1,15 +1,9 @@
 -- Made from crates/blocks/proofs/words/warp/hv_warp_affine_8x8t_16bpc/Proof.antt by tools/sets: change that.
-use mathlib.Core.Path.{_≡_, sym, _∙_}
-use borrow.Author.Needs.{needs}
-use lib.ListN.{length}
-use Rattle.rows.proofs.Laws.Numbers.Signed.{back}
-use Rattle.blocks.specs.Refuse.{lowest}
+use Rattle.blocks.proofs.Usual.{_≡_, _∙_, sym, needs, length, lowest, back, done, refused}
 use Rattle.blocks.specs.bytes.Depth.{depthOk}
 use Rattle.blocks.specs.Warp.{warpTests}
 use Rattle.blocks.proofs.Laws.bytes.Depth.{depth-bits, depth-bias}
-use Rattle.blocks.proofs.Laws.Calls.Refuse.{done, refused}
 use Rattle.blocks.proofs.Laws.Warp.Ready.{warp-ready}
-use Rattle.blocks.proofs.bytes.warp.warp_affine_8x8t_at.Statement.{statement}
 use Rattle.blocks.proofs.bytes.warp.warp_affine_8x8t_at.Tie as tie
 
 abbrev begin : tie.After-check-warp → tie.Start
@@ -35,7 +29,7 @@ warp-prep-requires c κs =
     let t = c .before .before in let k = t .before in let r = warp-ready _ _ _ _ _ _ _ _ _ _ _ _ _ (sym (k .check-warp .ensures) ∙ t .if1 .taken) in
     let p = sym (k .before .depth-ok .ensures) ∙ r .0 in rw (c .before .depth-numbers .ensures) (r .1, depth-bits _ p, depth-bias _ p)
 
-pub warp-affine-8x8t-at-spec : {M : Type 1} → statement M
+pub warp-affine-8x8t-at-spec : {M : Type 1} → Rattle.blocks.proofs.bytes.warp.warp_affine_8x8t_at.Statement.statement M
 warp-affine-8x8t-at-spec =
     tie.close
     (tie.spec (λ c κs. search needs) (λ c κs. search needs)  -- depth-ok, check-warp

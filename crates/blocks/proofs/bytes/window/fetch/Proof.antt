@@ -1,7 +1,6 @@
 -- Made from crates/blocks/proofs/words/window/fetch/Proof.antt by tools/sets: change that.
-use borrow.Author.Needs.{needs}
+use Rattle.blocks.proofs.Usual.{needs}
 use Rattle.blocks.proofs.Laws.Window.Ready.{area-filled, area-kept}
-use Rattle.blocks.proofs.bytes.window.fetch.Statement.{statement}
 use Rattle.blocks.proofs.bytes.window.fetch.Tie as tie
 
 returns : tie.Need-returns
@@ -12,7 +11,7 @@ returns c =
 returns-2 : tie.Need-returns-2
 returns-2 c = let l = c .before .before in (l .locate .ensures, area-kept _ _ _ (l .locate .ensures) _ _ (c .if1 .left))
 
-pub fetch-spec : {M : Type 1} → statement M
+pub fetch-spec : {M : Type 1} → Rattle.blocks.proofs.bytes.window.fetch.Statement.statement M
 fetch-spec =
     tie.close
     (tie.spec

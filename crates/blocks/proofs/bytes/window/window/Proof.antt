@@ -1,13 +1,7 @@
 -- Made from crates/blocks/proofs/words/window/window/Proof.antt by tools/sets: change that.
-use borrow.Author.Needs.{needs}
-use mathlib.Core.Path.{_≡_, refl, sym, _∙_}
-use lib.ListN.{length}
-use Rattle.rows.proofs.Laws.Numbers.Signed.{back}
-use Rattle.blocks.specs.Refuse.{lowest}
-use Rattle.blocks.specs.Window.{Asked, windowTests, areaOf, windowOf}
-use Rattle.blocks.specs.inner.Window.{lentOf, asked}
+use Rattle.blocks.proofs.Usual.{_≡_, _∙_, refl, sym, needs, length, lowest, windowTests, areaOf, Asked, windowOf, lentOf, back}
+use Rattle.blocks.specs.inner.Window.{asked}
 use Rattle.blocks.proofs.Laws.Window.Ready.{no-part-of, scratch-kept, Accepted, accepted-small, accepted-ready, accepted-part, accepted-scratch}
-use Rattle.blocks.proofs.bytes.window.window.Statement.{statement}
 use Rattle.blocks.proofs.bytes.window.window.Tie as tie
 
 -- the function's entry
@@ -47,7 +41,7 @@ returns-2 c =
     let g = c .before .before in let r = g .before .before in let e = g .fetch .ensures in
     (accepted-part (accepted (r .before)) (area-is r) (e .0), accepted-scratch (accepted (r .before)) (area-is r) _ (e .0) (e .1))
 
-pub window-spec : {M : Type 1} → statement M
+pub window-spec : {M : Type 1} → Rattle.blocks.proofs.bytes.window.window.Statement.statement M
 window-spec =
     tie.close
     (tie.spec

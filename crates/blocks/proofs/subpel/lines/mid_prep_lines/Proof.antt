@@ -1,19 +1,8 @@
-use mathlib.Core.Path.{_≡_, sym, _∙_}
-use mathlib.Core.Bool.{true}
-use borrow.Author.Tests.{leb-true}
+use Rattle.blocks.proofs.Usual.{true, _≡_, _∙_, sym, _*_, _+_, _-_, arith, needs, leb-true, pos, length, w16, at, minus16, half, low16, backn, Filled}
+use Rattle.blocks.proofs.Usual.{filled-none, block-loop, filled-more}
 use Rattle.rows.specs.inner.Subpel.{Near}
-use native.Mathlib.Omega.{arith}
-use Prim.Native.Nat.{_+_, _-_, _*_}
-use lib.IntN.{pos}
-use lib.ListN.{length}
-use mir.Syntax.{w16}
-use borrow.Author.Needs.{needs}
-use Rattle.rows.specs.Numbers.{at, half, low16, minus16}
 use Rattle.rows.specs.Subpel.{tapped}
-use Rattle.rows.proofs.Laws.Numbers.Signed.{backn}
-use Rattle.blocks.proofs.Laws.Loops.Rows.{Filled, filled-none, filled-more, block-loop}
 use Rattle.blocks.proofs.Laws.Subpel.Lines.{Turn, turn, half-short}
-use Rattle.blocks.proofs.subpel.lines.mid_prep_lines.Statement.{statement}
 use Rattle.blocks.proofs.subpel.lines.mid_prep_lines.Tie as tie
 
 abbrev Inv-loop : tie.InvT-loop
@@ -47,7 +36,7 @@ mid-prep-row-requires c κs =
     let p = entry t .pre in
     (omega (arith, row t), half-short (t .before .before .before .half-power .ensures .0) (p .1), omega (arith, p), near t)
 
-pub mid-prep-lines-spec : {M : Type 1} → statement M
+pub mid-prep-lines-spec : {M : Type 1} → Rattle.blocks.proofs.subpel.lines.mid_prep_lines.Statement.statement M
 mid-prep-lines-spec =
     tie.close
     (tie.spec Inv-loop μ-loop

@@ -1,12 +1,5 @@
-use mathlib.Core.Path.{_≡_, sym, _∙_}
-use native.Mathlib.Omega.{arith}
-use borrow.Author.Needs.{needs}
-use mir.Syntax.{w32}
-use Rattle.blocks.specs.Refuse.{lowest}
-use Rattle.blocks.proofs.Laws.Calls.Refuse.{later, sooner}
-use Rattle.blocks.proofs.Laws.Calls.Told.{told-back}
+use Rattle.blocks.proofs.Usual.{_≡_, _∙_, sym, arith, needs, w32, lowest, later, sooner, told-back}
 use Rattle.blocks.proofs.Laws.Subpel.Ready.{shapeTests, shape-met}
-use Rattle.blocks.proofs.subpel.plan.check_8tap.Statement.{statement}
 use Rattle.blocks.proofs.subpel.plan.check_8tap.Tie as tie
 
 -- what the first part answers
@@ -41,7 +34,7 @@ returns-2 c =
     )
     (later (shapeTests _ _ _ _) _ (none (t .before .before .before)))
 
-pub check-8tap-spec : {M : Type 1} → statement M
+pub check-8tap-spec : {M : Type 1} → Rattle.blocks.proofs.subpel.plan.check_8tap.Statement.statement M
 check-8tap-spec =
     tie.close
     (tie.spec

@@ -1,9 +1,8 @@
-use Rattle.rows.proofs.Laws.Numbers.Signed.{signed, rd}
+use Rattle.blocks.proofs.Usual.{rd, signed}
 use Rattle.blocks.proofs.Laws.Subpel.Choice.{bits-below, bits-above}
-use Rattle.blocks.proofs.subpel.plan.filter_bits.Statement.{statement}
 use Rattle.blocks.proofs.subpel.plan.filter_bits.Tie as tie
 
-pub filter-bits-spec : {M : Type 1} → statement M
+pub filter-bits-spec : {M : Type 1} → Rattle.blocks.proofs.subpel.plan.filter_bits.Statement.statement M
 filter-bits-spec =
     tie.close
     (tie.spec

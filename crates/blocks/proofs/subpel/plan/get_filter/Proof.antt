@@ -1,14 +1,8 @@
-use native.Mathlib.Omega.{arith}
-use mathlib.Core.Path.{_≡_, ap, _∙_}
-use Prim.Native.Nat.{ℕ, _+_, _-_, _*_, _%_, _<_}
-use borrow.Author.Needs.{needs}
-use Rattle.rows.specs.Numbers.{up, dn}
+use Rattle.blocks.proofs.Usual.{_≡_, _∙_, ap, ℕ, _*_, _+_, _-_, _<_, _%_, arith, needs, up, dn, rd, signed}
 use Rattle.rows.specs.Subpel.{family}
-use Rattle.rows.proofs.Laws.Numbers.Signed.{signed, rd}
 use Rattle.blocks.specs.inner.Subpel.{filterOf}
 use Rattle.blocks.specs.declared.subpel.plan.Filter.the-variants.{Subpel}
 use Rattle.blocks.proofs.Laws.Subpel.Choice.{filter-off, filter-ext, filter-sub, family-low, family-high}
-use Rattle.blocks.proofs.subpel.plan.get_filter.Statement.{statement}
 use Rattle.blocks.proofs.subpel.plan.get_filter.Tie as tie
 
 -- the fraction, as it is carried
@@ -42,7 +36,7 @@ returns-3 c = let b = c .before in number b _ (ap (λ (n : ℕ). 3 + n % 2) (t-i
 returns-4 : tie.Need-returns-4
 returns-4 c = let b = c .before in number b _ (t-is b .0 ∙ family-high _ _ (c .if3 .left))
 
-pub get-filter-spec : {M : Type 1} → statement M
+pub get-filter-spec : {M : Type 1} → Rattle.blocks.proofs.subpel.plan.get_filter.Statement.statement M
 get-filter-spec =
     tie.close
     (tie.spec

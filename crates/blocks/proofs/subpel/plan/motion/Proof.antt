@@ -1,7 +1,4 @@
-use borrow.Author.Needs.{needs}
-use mir.Syntax.{w32}
-use Rattle.blocks.proofs.Laws.Calls.Told.{told-back}
-use Rattle.blocks.proofs.subpel.plan.motion.Statement.{statement}
+use Rattle.blocks.proofs.Usual.{needs, w32, told-back}
 use Rattle.blocks.proofs.subpel.plan.motion.Tie as tie
 
 returns : tie.Need-returns
@@ -10,7 +7,7 @@ returns c =
     rw (c .needed3 .ensures, c .before .type-ok .ensures, c .before .before .needed2 .ensures, c .before .before .before .needed .ensures)
     (rw (f .fraction-ok2 .ensures, f .before .before .fraction-ok .ensures, told-back w32 (g .1 .1), told-back w32 g, told-back w32 (g .1)))
 
-pub motion-spec : {M : Type 1} → statement M
+pub motion-spec : {M : Type 1} → Rattle.blocks.proofs.subpel.plan.motion.Statement.statement M
 motion-spec =
     tie.close
     (tie.spec

@@ -1,18 +1,9 @@
-use mathlib.Core.Path.{_≡_, ap, _∙_}
-use Prim.Native.Nat.{ℕ, _+_, _-_, _*_, _≤_}
-use mathlib.Core.List.{List}
-use lib.IntN.{ℤ}
-use native.Mathlib.Omega.{arith}
-use mir.Syntax.{w32}
-use borrow.Author.Needs.{needs}
-use Rattle.rows.specs.Numbers.{up, half}
+use Rattle.blocks.proofs.Usual.{List, _≡_, _∙_, ap, ℕ, _≤_, _*_, _+_, _-_, arith, needs, ℤ, w32, up, half, told-back}
 use Rattle.rows.specs.Subpel.{axis, filterBits}
 use Rattle.blocks.specs.Subpel.{on}
 use Rattle.blocks.specs.inner.Subpel.{axisOf, filterOf, tapsOf}
 use Rattle.blocks.specs.declared.subpel.plan.Filter.{Filter}
 use Rattle.blocks.proofs.Laws.Subpel.Choice.{axis-of, bits-fit, plan-none, plan-down, plan-across, plan-both}
-use Rattle.blocks.proofs.Laws.Calls.Told.{told-back}
-use Rattle.blocks.proofs.subpel.plan.plan_8tap.Statement.{statement}
 use Rattle.blocks.proofs.subpel.plan.plan_8tap.Tie as tie
 
 abbrev begin : tie.After-taps2 → tie.Start
@@ -98,7 +89,7 @@ returns-4 c =
     let q = h .half-power2 .ensures .0 ∙ ap (λ (n : ℕ). half (n - a .b)) (k .n) in
     plan-both _ _ _ _ _ _ _ _ _ (up (a .m .mx)) (up (a .m .my)) (k .n) (k .r) q (k .f) (k .g) (omega arith) (omega arith)
 
-pub plan-8tap-spec : {M : Type 1} → statement M
+pub plan-8tap-spec : {M : Type 1} → Rattle.blocks.proofs.subpel.plan.plan_8tap.Statement.statement M
 plan-8tap-spec =
     tie.close
     (tie.spec

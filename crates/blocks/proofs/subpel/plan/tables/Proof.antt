@@ -1,9 +1,5 @@
-use borrow.Author.Needs.{needs}
-use mir.Syntax.{w32}
+use Rattle.blocks.proofs.Usual.{needs, w32, wholeFilters, told-back}
 use Rattle.blocks.specs.Subpel.{subpelOk}
-use Rattle.blocks.specs.Refuse.{wholeFilters}
-use Rattle.blocks.proofs.Laws.Calls.Told.{told-back}
-use Rattle.blocks.proofs.subpel.plan.tables.Statement.{statement}
 use Rattle.blocks.proofs.subpel.plan.tables.Tie as tie
 
 returns : tie.Need-returns
@@ -13,7 +9,7 @@ returns c =
     rw (c .needed4 .ensures, c .before .needed3 .ensures, c .before .before .needed2 .ensures, c .before .before .before .needed .ensures)
     (rw (f .filter-in2 .ensures, f .before .before .filter-in .ensures, told-back w32 (g .1 .1), told-back w32 g, told-back w32 (g .1)))
 
-pub tables-spec : {M : Type 1} → statement M
+pub tables-spec : {M : Type 1} → Rattle.blocks.proofs.subpel.plan.tables.Statement.statement M
 tables-spec =
     tie.close
     (tie.spec

@@ -1,8 +1,5 @@
-use mathlib.Core.Path.{refl}
-use borrow.Author.Needs.{needs}
-use Rattle.rows.specs.Places.{rowOf, rowFrom}
+use Rattle.blocks.proofs.Usual.{refl, needs, rowOf, rowFrom}
 use Rattle.blocks.specs.inner.Subpel.{axisOf, tapsOf}
-use Rattle.blocks.proofs.subpel.plan.taps.Statement.{statement}
 use Rattle.blocks.proofs.subpel.plan.taps.Tie as tie
 
 returns : tie.Need-returns
@@ -17,7 +14,7 @@ returns-3 : tie.Need-returns-3
 unfolding tapsOf axisOf
 returns-3 c = rw (c .before .before .k2 .given .1) (c .eight2 .ensures)
 
-pub taps-spec : {M : Type 1} → statement M
+pub taps-spec : {M : Type 1} → Rattle.blocks.proofs.subpel.plan.taps.Statement.statement M
 taps-spec =
     tie.close
     (tie.spec

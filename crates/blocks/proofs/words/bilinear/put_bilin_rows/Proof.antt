@@ -1,10 +1,7 @@
-use mathlib.Core.Path.{_∙_}
-use native.Mathlib.Omega.{arith}
-use borrow.Author.Needs.{needs}
+use Rattle.blocks.proofs.Usual.{_∙_, arith, needs}
 use Rattle.rows.proofs.Laws.Filters.Warp.{half-of}
 use Rattle.blocks.proofs.Laws.Bilinear.Ready.{copied, across, downward, halves-small}
 use Rattle.blocks.proofs.Laws.Bilinear.Rule.{put-copied, put-across, put-downward}
-use Rattle.blocks.proofs.words.bilinear.put_bilin_rows.Statement.{statement}
 use Rattle.blocks.proofs.words.bilinear.put_bilin_rows.Tie as tie
 
 -- the function's entry, from where B is there
@@ -54,7 +51,7 @@ returns-4 c =
     r .put-rows .ensures
     ∙ put-copied (a .d .max) (a .d .bits) (a .src .now) (a .dst .now) (s .pre .0) (t .before .if1 .left) (t .if3 .left)
 
-pub put-bilin-rows-spec : {M : Type 1} → statement M
+pub put-bilin-rows-spec : {M : Type 1} → Rattle.blocks.proofs.words.bilinear.put_bilin_rows.Statement.statement M
 put-bilin-rows-spec =
     tie.close
     (tie.spec

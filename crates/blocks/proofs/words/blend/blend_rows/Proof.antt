@@ -1,13 +1,7 @@
-use native.Mathlib.Omega.{arith}
-use Prim.Native.Nat.{_+_, _-_, _*_, _≤_}
-use lib.ListN.{length}
-use borrow.Author.Needs.{needs}
-use Rattle.rows.specs.Places.{pixel}
+use Rattle.blocks.proofs.Usual.{_≤_, _*_, _+_, _-_, arith, needs, length, pixel, Filled, filled-none, row-in, block-loop, filled-span}
 use Rattle.rows.specs.Combine.{blend}
-use Rattle.blocks.proofs.Laws.Loops.Rows.{Filled, filled-none, filled-span, row-in, block-loop}
 use Rattle.blocks.proofs.Laws.Loops.InPlace.{filled-over}
 use Rattle.blocks.proofs.Laws.Blend.Above.{at-most-row}
-use Rattle.blocks.proofs.words.blend.blend_rows.Statement.{statement}
 use Rattle.blocks.proofs.words.blend.blend_rows.Tie as tie
 
 abbrev Inv-loop : tie.InvT-loop
@@ -43,7 +37,7 @@ loop-again c =
     (t .before .loop .inv) (p .0 .w1) (p .1) (t .loop-test .taken)
     (c .before .before .blend-row .ensures)
 
-pub blend-rows-spec : {M : Type 1} → statement M
+pub blend-rows-spec : {M : Type 1} → Rattle.blocks.proofs.words.blend.blend_rows.Statement.statement M
 blend-rows-spec =
     tie.close
     (tie.spec Inv-loop μ-loop

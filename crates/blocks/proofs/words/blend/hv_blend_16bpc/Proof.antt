@@ -1,10 +1,6 @@
-use mathlib.Core.Path.{_≡_, sym, _∙_}
-use lib.ListN.{length}
-use borrow.Author.Needs.{needs}
-use Rattle.blocks.specs.Refuse.{lowest}
+use Rattle.blocks.proofs.Usual.{_≡_, _∙_, sym, needs, length, lowest}
 use Rattle.blocks.specs.Blend.{blendShape}
 use Rattle.blocks.proofs.Laws.Blend.Ready.{blend-ready, Searched, blend-refused, blend-above, blend-rows, blend-done}
-use Rattle.blocks.proofs.words.blend.hv_blend_16bpc.Statement.{statement}
 use Rattle.blocks.proofs.words.blend.hv_blend_16bpc.Tie as tie
 
 -- the function's entry, from the check
@@ -25,7 +21,7 @@ first-above-requires c κs = let p = blend-ready _ _ _ _ _ _ (shape c) in (p .0,
 returns-3 : tie.Need-returns-3
 returns-3 c = let r = c .before .before in let s = r .before .before in blend-done (searched (s .before .before)) (s .if2 .left) _ (r .blend-rows .ensures)
 
-pub hv-blend-16bpc-spec : {M : Type 1} → statement M
+pub hv-blend-16bpc-spec : {M : Type 1} → Rattle.blocks.proofs.words.blend.hv_blend_16bpc.Statement.statement M
 hv-blend-16bpc-spec =
     tie.close
     (tie.spec

@@ -1,14 +1,8 @@
-use mathlib.Core.Path.{_≡_, sym, _∙_}
-use lib.ListN.{length}
-use borrow.Author.Needs.{needs}
-use Rattle.rows.proofs.Laws.Numbers.Signed.{back}
-use Rattle.blocks.specs.Refuse.{lowest}
+use Rattle.blocks.proofs.Usual.{_≡_, _∙_, sym, needs, length, lowest, back, done, refused}
 use Rattle.blocks.specs.words.Depth.{depthOk}
 use Rattle.blocks.specs.Blend.{morphTests}
-use Rattle.blocks.proofs.Laws.Calls.Refuse.{done, refused}
 use Rattle.blocks.proofs.Laws.words.Depth.{depth-max}
 use Rattle.blocks.proofs.Laws.Blend.Ready.{morph-ready}
-use Rattle.blocks.proofs.words.blend.hv_morph_16bpc.Statement.{statement}
 use Rattle.blocks.proofs.words.blend.hv_morph_16bpc.Tie as tie
 
 -- the function's entry, from the check
@@ -40,7 +34,7 @@ returns c =
           ∙ sym (done _ _ _ (i .if1 .taken)),
     )
 
-pub hv-morph-16bpc-spec : {M : Type 1} → statement M
+pub hv-morph-16bpc-spec : {M : Type 1} → Rattle.blocks.proofs.words.blend.hv_morph_16bpc.Statement.statement M
 hv-morph-16bpc-spec =
     tie.close
     (tie.spec

@@ -1,15 +1,6 @@
-use native.Mathlib.Omega.{arith}
-use Prim.Native.Nat.{_+_, _-_, _*_, _≤_}
-use lib.ListN.{length}
-use mir.Syntax.{w32}
-use mir.Val.{toZ, ofZ}
-use borrow.Author.Needs.{needs}
-use Rattle.rows.specs.Places.{pixel}
+use Rattle.blocks.proofs.Usual.{_≤_, _*_, _+_, _-_, arith, needs, length, w32, toZ, ofZ, pixel, back, Filled, filled-none, row-in, filled-all}
 use Rattle.rows.specs.Combine.{morph}
-use Rattle.rows.proofs.Laws.Numbers.Signed.{back}
-use Rattle.blocks.proofs.Laws.Loops.Rows.{Filled, filled-none, filled-all, row-in}
 use Rattle.blocks.proofs.Laws.Loops.InPlace.{filled-over}
-use Rattle.blocks.proofs.words.blend.morph_rows.Statement.{statement}
 use Rattle.blocks.proofs.words.blend.morph_rows.Tie as tie
 
 abbrev Inv-loop : tie.InvT-loop
@@ -34,7 +25,7 @@ loop-again c =
     filled-over 0 (λ i j v. morph (a .max) (toZ w32 (ofZ w32 (a .alpha))) (toZ w32 (ofZ w32 (a .beta))) v) _
     (t .before .loop .inv) (p .0 .w1) (p .1) (t .loop-test .taken) (c .before .before .morph-row .ensures)
 
-pub morph-rows-spec : {M : Type 1} → statement M
+pub morph-rows-spec : {M : Type 1} → Rattle.blocks.proofs.words.blend.morph_rows.Statement.statement M
 morph-rows-spec =
     tie.close
     (tie.spec Inv-loop μ-loop

@@ -1,17 +1,8 @@
-use mathlib.Core.Path.{_≡_, sym, ap, _∙_}
-use lib.IntN.{ℤ}
-use lib.ListN.{length}
-use borrow.Author.Needs.{needs}
-use Rattle.rows.specs.Numbers.{up}
-use Rattle.rows.proofs.Laws.Numbers.Signed.{back}
-use Rattle.blocks.specs.Refuse.{lowest}
+use Rattle.blocks.proofs.Usual.{_≡_, _∙_, sym, ap, needs, ℤ, length, up, lowest, numbersOf, back, done, refused}
 use Rattle.blocks.specs.words.Depth.{depthOk}
-use Rattle.blocks.specs.inner.Ready.{numbersOf}
 use Rattle.blocks.specs.Combine.{wAvgTests}
-use Rattle.blocks.proofs.Laws.Calls.Refuse.{done, refused}
 use Rattle.blocks.proofs.Laws.words.Depth.{depth-bits, depth-bias, depth-max}
 use Rattle.blocks.proofs.Laws.Combine.Ready.{w-avg-ready}
-use Rattle.blocks.proofs.words.combine.hv_w_avg_16bpc.Statement.{statement}
 use Rattle.blocks.proofs.words.combine.hv_w_avg_16bpc.Tie as tie
 
 abbrev entry : tie.After-check-combine → tie.Start
@@ -42,7 +33,7 @@ returns c =
     let e = back (entry (n .before .before) .fits .weight) in
     (number (n .before .before), rw (depth n, e) at (c .before .before .w-avg-rows .ensures) ∙ sym (done _ _ _ (n .before .if1 .taken)))
 
-pub hv-w-avg-16bpc-spec : {M : Type 1} → statement M
+pub hv-w-avg-16bpc-spec : {M : Type 1} → Rattle.blocks.proofs.words.combine.hv_w_avg_16bpc.Statement.statement M
 hv-w-avg-16bpc-spec =
     tie.close
     (tie.spec

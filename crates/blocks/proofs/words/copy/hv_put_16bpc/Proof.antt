@@ -1,8 +1,5 @@
-use mathlib.Core.Path.{sym, _∙_}
-use borrow.Author.Needs.{needs}
-use Rattle.blocks.proofs.Laws.Calls.Refuse.{done, refused}
+use Rattle.blocks.proofs.Usual.{_∙_, sym, needs, done, refused}
 use Rattle.blocks.proofs.Laws.Copy.Ready.{put-ready}
-use Rattle.blocks.proofs.words.copy.hv_put_16bpc.Statement.{statement}
 use Rattle.blocks.proofs.words.copy.hv_put_16bpc.Tie as tie
 
 returns : tie.Need-returns
@@ -10,7 +7,7 @@ returns c =
     let t = c .before .before .before .before in
     (t .before .check-put .ensures, c .before .before .put-rows .ensures ∙ sym (done _ _ _ (t .if1 .taken)))
 
-pub hv-put-16bpc-spec : {M : Type 1} → statement M
+pub hv-put-16bpc-spec : {M : Type 1} → Rattle.blocks.proofs.words.copy.hv_put_16bpc.Statement.statement M
 hv-put-16bpc-spec =
     tie.close
     (tie.spec

@@ -1,12 +1,5 @@
-use native.Mathlib.Omega.{arith}
-use Prim.Native.Nat.{_+_, _-_, _*_, _≤_}
-use lib.IntN.{pos}
-use lib.ListN.{length}
-use borrow.Author.Needs.{needs}
-use Rattle.rows.specs.Places.{pixel}
+use Rattle.blocks.proofs.Usual.{_≤_, _*_, _+_, _-_, arith, needs, pos, length, pixel, Filled, filled-none, row-in, block-loop, filled-more, Turn, turn}
 use Rattle.rows.specs.Copy.{prep}
-use Rattle.blocks.proofs.Laws.Loops.Rows.{Filled, filled-none, filled-more, Turn, turn, row-in, block-loop}
-use Rattle.blocks.proofs.words.copy.prep_rows.Statement.{statement}
 use Rattle.blocks.proofs.words.copy.prep_rows.Tie as tie
 
 abbrev Inv-loop : tie.InvT-loop
@@ -31,7 +24,7 @@ loop-again c =
     let p = entry t .pre in
     filled-more (pos 0) _ (t .before .loop .inv) (p .0 .w1) (p .1) (t .loop-test .taken) (c .before .prep-row .ensures)
 
-pub prep-rows-spec : {M : Type 1} → statement M
+pub prep-rows-spec : {M : Type 1} → Rattle.blocks.proofs.words.copy.prep_rows.Statement.statement M
 prep-rows-spec =
     tie.close
     (tie.spec Inv-loop μ-loop

@@ -1,11 +1,5 @@
-use native.Mathlib.Omega.{arith}
-use Prim.Native.Nat.{_+_, _-_, _*_, _≤_}
-use lib.ListN.{length}
-use borrow.Author.Needs.{needs}
-use Rattle.rows.specs.Places.{pixel}
+use Rattle.blocks.proofs.Usual.{_≤_, _*_, _+_, _-_, arith, needs, length, pixel, Filled, filled-none, row-in, block-loop, Turn, turn}
 use Rattle.rows.specs.Copy.{put}
-use Rattle.blocks.proofs.Laws.Loops.Rows.{Filled, filled-none, Turn, turn, row-in, block-loop}
-use Rattle.blocks.proofs.words.copy.put_rows.Statement.{statement}
 use Rattle.blocks.proofs.words.copy.put_rows.Tie as tie
 
 abbrev Inv-loop : tie.InvT-loop
@@ -24,7 +18,7 @@ row c =
     let p = entry c .pre in let y = c .before .loop .y in let lt = c .loop-test .taken in
     (turn 0 (c .before .loop .inv) (p .1) lt, row-in y (p .2) lt)
 
-pub put-rows-spec : {M : Type 1} → statement M
+pub put-rows-spec : {M : Type 1} → Rattle.blocks.proofs.words.copy.put_rows.Statement.statement M
 put-rows-spec =
     tie.close
     (tie.spec Inv-loop μ-loop

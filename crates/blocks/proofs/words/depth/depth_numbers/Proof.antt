@@ -1,9 +1,5 @@
-use borrow.Author.Needs.{needs}
-use mathlib.Core.Path.{_≡_, ap, _∙_}
-use Rattle.rows.specs.Numbers.{up}
-use Rattle.rows.proofs.Laws.Numbers.Signed.{back}
+use Rattle.blocks.proofs.Usual.{_≡_, _∙_, ap, needs, up, back}
 use Rattle.blocks.proofs.Laws.words.Depth.{depth-high}
-use Rattle.blocks.proofs.words.depth.depth_numbers.Statement.{statement}
 use Rattle.blocks.proofs.words.depth.depth_numbers.Tie as tie
 
 above-is : (c : tie.After-up32) → c .up32 .result ≡ up (c .before .args .depth)
@@ -13,7 +9,7 @@ returns : tie.Need-returns
 returns c =
     rw (c .before .before .intermediate-bits .ensures, c .before .prep-bias .ensures, c .bitdepth-max .ensures, above-is (c .before .before .before))
 
-pub depth-numbers-spec : {M : Type 1} → statement M
+pub depth-numbers-spec : {M : Type 1} → Rattle.blocks.proofs.words.depth.depth_numbers.Statement.statement M
 depth-numbers-spec =
     tie.close
     (tie.spec

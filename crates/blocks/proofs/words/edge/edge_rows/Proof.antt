@@ -1,12 +1,7 @@
-use borrow.Author.Needs.{needs}
-use Prim.Native.Nat.{_+_, _-_, _*_, _≤_}
-use native.Mathlib.Omega.{arith}
-use lib.ListN.{length}
+use Rattle.blocks.proofs.Usual.{_≤_, _*_, _+_, _-_, arith, needs, length, Filled, filled-none, row-in, filled-more, filled-all, filled-span}
 use Rattle.rows.specs.Edge.{edge}
-use Rattle.blocks.proofs.Laws.Loops.Rows.{Filled, filled-none, filled-more, filled-all, filled-span, row-in}
 use Rattle.blocks.proofs.Laws.Edge.Ready.{turn, row-is}
 use Rattle.blocks.proofs.Laws.Calls.Told.{left-passed, top-passed}
-use Rattle.blocks.proofs.words.edge.edge_rows.Statement.{statement}
 use Rattle.blocks.proofs.words.edge.edge_rows.Tie as tie
 
 abbrev Inv-loop : tie.InvT-loop
@@ -54,7 +49,7 @@ loop-again c =
 returns : tie.Need-returns Inv-loop μ-loop
 returns c = filled-all (c .before .before .loop .inv) (c .if1 .left)
 
-pub edge-rows-spec : {M : Type 1} → statement M
+pub edge-rows-spec : {M : Type 1} → Rattle.blocks.proofs.words.edge.edge_rows.Statement.statement M
 edge-rows-spec =
     tie.close
     (tie.spec Inv-loop μ-loop

@@ -1,9 +1,5 @@
-use mathlib.Core.Path.{sym, _∙_}
-use borrow.Author.Needs.{needs}
-use Rattle.rows.proofs.Laws.Numbers.Signed.{back}
-use Rattle.blocks.proofs.Laws.Calls.Refuse.{done, refused}
+use Rattle.blocks.proofs.Usual.{_∙_, sym, needs, back, done, refused}
 use Rattle.blocks.proofs.Laws.Edge.Ready.{edge-ready}
-use Rattle.blocks.proofs.words.edge.hv_emu_edge_16bpc.Statement.{statement}
 use Rattle.blocks.proofs.words.edge.hv_emu_edge_16bpc.Tie as tie
 
 returns : tie.Need-returns
@@ -18,7 +14,7 @@ returns-2 c =
     let s = c .before .before .before .before in
     (rw (back (s .fits .x), back (s .fits .y)) at (c .before .check-edge .ensures), sym (refused _ _ _ (c .if1 .left)))
 
-pub hv-emu-edge-16bpc-spec : {M : Type 1} → statement M
+pub hv-emu-edge-16bpc-spec : {M : Type 1} → Rattle.blocks.proofs.words.edge.hv_emu_edge_16bpc.Statement.statement M
 hv-emu-edge-16bpc-spec =
     tie.close
     (tie.spec

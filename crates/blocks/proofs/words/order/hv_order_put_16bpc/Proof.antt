@@ -1,17 +1,9 @@
-use borrow.Author.Needs.{needs}
-use mathlib.Core.Path.{_≡_, refl, sym, ap, _∙_}
-use mathlib.Core.Bool.{true}
-use Prim.Native.Nat.{ℕ}
-use mir.Syntax.{w32}
-use Rattle.rows.specs.Numbers.{up}
-use Rattle.rows.proofs.Laws.Numbers.Signed.{back}
+use Rattle.blocks.proofs.Usual.{true, _≡_, _∙_, refl, sym, ap, ℕ, needs, w32, up, Tables, kindOf, back}
 use Rattle.blocks.specs.words.Depth.{depthOk}
-use Rattle.blocks.specs.Order.{kindOf, Tables}
 use Rattle.blocks.proofs.Laws.words.Depth.{depth-bits, depth-bias, depth-max}
 use Rattle.blocks.proofs.Laws.Calls.Told.{passed}
 use Rattle.blocks.proofs.Laws.Order.Run.{ordered-number, ordered, ordered-deep, order-part, order-rows, put-done, put-refused, order-passed}
 use Rattle.blocks.proofs.Laws.Order.Run.{setting-passed, put-passed}
-use Rattle.blocks.proofs.words.order.hv_order_put_16bpc.Statement.{statement}
 use Rattle.blocks.proofs.words.order.hv_order_put_16bpc.Tie as tie
 
 -- the function's entry, and the window's call, from where its number is 0
@@ -68,7 +60,7 @@ returns-2 c =
     (order-passed _ _ (back (f .x)) (back (f .y)) (kind-is w)) _ _
     (put-refused _ _ _ _ _ _ (ordered-number (depth w) (tables w) refl (w .order-window .ensures)) (w .order-window .ensures .full) (c .if1 .left))
 
-pub hv-order-put-16bpc-spec : {M : Type 1} → statement M
+pub hv-order-put-16bpc-spec : {M : Type 1} → Rattle.blocks.proofs.words.order.hv_order_put_16bpc.Statement.statement M
 hv-order-put-16bpc-spec =
     tie.close
     (tie.spec

@@ -1,11 +1,8 @@
-use borrow.Author.Needs.{needs}
-use mathlib.Core.Path.{refl}
-use Rattle.rows.proofs.Laws.Numbers.Signed.{back}
+use Rattle.blocks.proofs.Usual.{refl, needs, back}
 use Rattle.blocks.proofs.Laws.Window.Ready.{part-answer}
-use Rattle.blocks.proofs.words.plane_row.hv_row_16bpc.Statement.{statement}
 use Rattle.blocks.proofs.words.plane_row.hv_row_16bpc.Tie as tie
 
-pub hv-row-16bpc-spec : {M : Type 1} → statement M
+pub hv-row-16bpc-spec : {M : Type 1} → Rattle.blocks.proofs.words.plane_row.hv_row_16bpc.Statement.statement M
 hv-row-16bpc-spec =
     tie.close
     (tie.spec

@@ -1,20 +1,10 @@
-use mathlib.Core.Path.{_≡_, sym, _∙_}
-use mathlib.Core.Bool.{true, false}
-use native.Mathlib.Omega.{arith}
-use lib.IntN.{pos}
-use lib.ListN.{length}
-use borrow.Author.Needs.{needs}
-use Rattle.rows.specs.Numbers.{up}
-use Rattle.rows.proofs.Laws.Numbers.Signed.{back}
-use Rattle.blocks.specs.Refuse.{lowest}
+use Rattle.blocks.proofs.Usual.{true, false, _≡_, _∙_, sym, arith, needs, pos, length, up, lowest, back, done, refused}
 use Rattle.blocks.specs.words.Depth.{depthOk}
 use Rattle.blocks.specs.Scaled.{scaledTests}
 use Rattle.blocks.specs.inner.Scaled.{scaledPlan}
 use Rattle.blocks.proofs.Laws.words.Depth.{depth-bits, depth-bias}
-use Rattle.blocks.proofs.Laws.Calls.Refuse.{done, refused}
 use Rattle.blocks.proofs.Laws.Scaled.Ready.{ScaledMet, scaled-ready, even-bits, pairs-met}
 use Rattle.blocks.proofs.Laws.Scaled.Rule.{prep-paired}
-use Rattle.blocks.proofs.words.scaled.hv_prep_bilin_scaled_16bpc.Statement.{statement}
 use Rattle.blocks.proofs.words.scaled.hv_prep_bilin_scaled_16bpc.Tie as tie
 
 abbrev begin : tie.After-check-scaled → tie.Start
@@ -48,7 +38,7 @@ prep-bilin-scaled-rows-requires c κs =
     rw (p .scaled-plan .ensures, d .depth-numbers .ensures, back (f .depth), back (f .mx), back (f .my), back (f .dx), back (f .dy))
     (m .block, m .rows, pairs-met m (pos 0) _ (even-bits (up (begin (t .before) .args .depth))), depth-bits _ (m .deep), depth-bias _ (m .deep))
 
-pub hv-prep-bilin-scaled-16bpc-spec : {M : Type 1} → statement M
+pub hv-prep-bilin-scaled-16bpc-spec : {M : Type 1} → Rattle.blocks.proofs.words.scaled.hv_prep_bilin_scaled_16bpc.Statement.statement M
 hv-prep-bilin-scaled-16bpc-spec =
     tie.close
     (tie.spec (λ c κs. search needs) (λ c κs. search needs)  -- depth-ok, check-scaled

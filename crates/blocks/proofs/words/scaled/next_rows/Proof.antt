@@ -1,13 +1,8 @@
-use borrow.Author.Needs.{needs}
-use mathlib.Core.Path.{_≡_, subst}
-use native.Mathlib.Omega.{arith}
-use Prim.Native.Nat.{ℕ, _+_, _-_, _*_, _%_, _≤_, _<_}
-use lib.ListN.{length, getD}
+use Rattle.blocks.proofs.Usual.{_≡_, subst, ℕ, _≤_, _*_, _+_, _-_, _<_, _%_, arith, needs, length, getD}
 use Rattle.rows.specs.Scaled.{position}
 use Rattle.rows.specs.inner.Scaled.{Fetched}
 use Rattle.blocks.specs.inner.Scaled.{lineOf, LastEight}
 use Rattle.blocks.proofs.Laws.Scaled.Rows.{eight-order, eight-more}
-use Rattle.blocks.proofs.words.scaled.next_rows.Statement.{statement}
 use Rattle.blocks.proofs.words.scaled.next_rows.Tie as tie
 
 abbrev Inv-loop : tie.InvT-loop
@@ -50,7 +45,7 @@ returns c =
     let l = c .before .loop in let a = c .before .before .before .args in
     subst (λ (n : ℕ). LastEight (a .w) (lineOf (a .src .now) (a .subpel .now) (a .p)) n (l .rows) (l .order)) (omega (arith, l .inv .0)) (l .inv .1)
 
-pub next-rows-spec : {M : Type 1} → statement M
+pub next-rows-spec : {M : Type 1} → Rattle.blocks.proofs.words.scaled.next_rows.Statement.statement M
 next-rows-spec =
     tie.close
     (tie.spec Inv-loop μ-loop (λ c. (c .before .pre .1, c .before .pre .0))

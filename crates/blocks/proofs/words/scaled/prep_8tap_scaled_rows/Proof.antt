@@ -1,17 +1,10 @@
-use borrow.Author.Needs.{needs}
-use mathlib.Core.Path.{_≡_, refl, _∙_}
-use native.Mathlib.Omega.{arith}
-use Prim.Native.Nat.{_+_, _-_, _*_, _≤_, _<_, _^_}
-use lib.IntN.{pos}
-use lib.ListN.{length}
+use Rattle.blocks.proofs.Usual.{_≡_, _∙_, refl, _≤_, _*_, _+_, _-_, _<_, _^_, arith, needs, pos, length, row-same, Filled, filled-none, filled-more}
+use Rattle.blocks.proofs.Usual.{Turn, turn, filled-all}
 use Rattle.rows.specs.Scaled.{position, pixelOf, sixteenth, inFamily, prepDown}
-use Rattle.rows.proofs.Laws.Blocks.Places.{row-same}
 use Rattle.rows.proofs.Laws.Filters.Scaled.{position-lt}
 use Rattle.blocks.specs.inner.Scaled.{lineOf, LastEight}
-use Rattle.blocks.proofs.Laws.Loops.Rows.{Filled, filled-none, filled-more, filled-all, Turn, turn}
 use Rattle.blocks.proofs.Laws.Scaled.Rows.{eight-none, eight-turned, eight-at}
 use Rattle.blocks.proofs.Laws.Scaled.Lines.{prep-down-same, row-on, row-last, filtered-less}
-use Rattle.blocks.proofs.words.scaled.prep_8tap_scaled_rows.Statement.{statement}
 use Rattle.blocks.proofs.words.scaled.prep_8tap_scaled_rows.Tie as tie
 
 abbrev Inv-loop : tie.InvT-loop
@@ -67,7 +60,7 @@ loop-again c =
       omega (arith, row-on (s .args .p .my) (s .args .p .dy) (l .before .loop .y)),
     )
 
-pub prep-8tap-scaled-rows-spec : {M : Type 1} → statement M
+pub prep-8tap-scaled-rows-spec : {M : Type 1} → Rattle.blocks.proofs.words.scaled.prep_8tap_scaled_rows.Statement.statement M
 prep-8tap-scaled-rows-spec =
     tie.close
     (tie.spec Inv-loop μ-loop

@@ -1,16 +1,10 @@
-use borrow.Author.Needs.{needs}
-use mathlib.Core.Path.{_≡_, refl, _∙_}
-use native.Mathlib.Omega.{arith}
-use Prim.Native.Nat.{_+_, _-_, _*_, _≤_, _<_, _^_}
-use lib.ListN.{length}
+use Rattle.blocks.proofs.Usual.{_≡_, _∙_, refl, _≤_, _*_, _+_, _-_, _<_, _^_, arith, needs, length, row-same, Filled, filled-none, filled-more, Turn}
+use Rattle.blocks.proofs.Usual.{turn, filled-all}
 use Rattle.rows.specs.Scaled.{position, pixelOf, sixteenth, inFamily, putDown}
-use Rattle.rows.proofs.Laws.Blocks.Places.{row-same}
 use Rattle.rows.proofs.Laws.Filters.Scaled.{position-lt}
 use Rattle.blocks.specs.inner.Scaled.{lineOf, LastEight}
-use Rattle.blocks.proofs.Laws.Loops.Rows.{Filled, filled-none, filled-more, filled-all, Turn, turn}
 use Rattle.blocks.proofs.Laws.Scaled.Rows.{eight-none, eight-turned, eight-at}
 use Rattle.blocks.proofs.Laws.Scaled.Lines.{put-down-same, row-on, row-last, filtered-less}
-use Rattle.blocks.proofs.words.scaled.put_8tap_scaled_rows.Statement.{statement}
 use Rattle.blocks.proofs.words.scaled.put_8tap_scaled_rows.Tie as tie
 
 abbrev Inv-loop : tie.InvT-loop
@@ -65,7 +59,7 @@ loop-again c =
       omega (arith, row-on (s .args .p .my) (s .args .p .dy) (l .before .loop .y)),
     )
 
-pub put-8tap-scaled-rows-spec : {M : Type 1} → statement M
+pub put-8tap-scaled-rows-spec : {M : Type 1} → Rattle.blocks.proofs.words.scaled.put_8tap_scaled_rows.Statement.statement M
 put-8tap-scaled-rows-spec =
     tie.close
     (tie.spec Inv-loop μ-loop

@@ -1,10 +1,6 @@
-use borrow.Author.Needs.{needs}
-use mathlib.Core.Path.{sym, _∙_}
-use Rattle.rows.proofs.Laws.Numbers.Signed.{back}
-use Rattle.blocks.proofs.Laws.Calls.Refuse.{refused}
+use Rattle.blocks.proofs.Usual.{_∙_, sym, needs, back, refused}
 use Rattle.blocks.proofs.Laws.words.Depth.{depth-range}
 use Rattle.blocks.proofs.Laws.Search.Ready.{sads-ready, sad-blocks, sad-done}
-use Rattle.blocks.proofs.words.search.hv_sad_nxn_16bpc.Statement.{statement}
 use Rattle.blocks.proofs.words.search.hv_sad_nxn_16bpc.Tie as tie
 
 abbrev entry : tie.Then1 → tie.Start
@@ -29,7 +25,7 @@ returns-2 c =
     let k = c .before in let d = back (k .before .before .before .before .fits .depth) in
     (rw (k .before .depth-ok .ensures, d) at (k .check-sads .ensures), sym (refused _ _ _ (c .if1 .left)))
 
-pub hv-sad-nxn-16bpc-spec : {M : Type 1} → statement M
+pub hv-sad-nxn-16bpc-spec : {M : Type 1} → Rattle.blocks.proofs.words.search.hv_sad_nxn_16bpc.Statement.statement M
 hv-sad-nxn-16bpc-spec =
     tie.close
     (tie.spec

@@ -1,10 +1,7 @@
-use borrow.Author.Needs.{needs}
-use mathlib.Core.Path.{sym, _∙_}
-use Rattle.rows.specs.Places.{pixel}
+use Rattle.blocks.proofs.Usual.{_∙_, sym, needs, pixel}
 use Rattle.rows.specs.Search.{answer}
 use Rattle.blocks.specs.inner.Search.{bestOf}
 use Rattle.blocks.proofs.Laws.Search.Ready.{refine-at-once, refine-searched}
-use Rattle.blocks.proofs.words.search.implicit.Statement.{statement}
 use Rattle.blocks.proofs.words.search.implicit.Tie as tie
 
 returns : tie.Need-returns
@@ -21,7 +18,7 @@ returns-2 c =
     refine-searched (a .n .depth) (pixel (a .p0 .now) (a .n .s0)) (pixel (a .p1 .now) (a .n .s1)) (a .n .w) (a .n .h) (s .sad-at .ensures .0) (k .kept-of .ensures)
     (sym (e .is-enough .ensures) ∙ t .if1 .left) (c .search .ensures)
 
-pub implicit-spec : {M : Type 1} → statement M
+pub implicit-spec : {M : Type 1} → Rattle.blocks.proofs.words.search.implicit.Statement.statement M
 implicit-spec =
     tie.close
     (tie.spec

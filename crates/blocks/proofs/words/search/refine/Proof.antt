@@ -1,9 +1,6 @@
-use borrow.Author.Needs.{needs}
-use mathlib.Core.Path.{_∙_}
-use Rattle.rows.specs.Places.{pixel}
+use Rattle.blocks.proofs.Usual.{_∙_, needs, pixel}
 use Rattle.blocks.specs.inner.Search.{bestOf}
 use Rattle.blocks.proofs.Laws.Search.Ready.{refine-explicit}
-use Rattle.blocks.proofs.words.search.refine.Statement.{statement}
 use Rattle.blocks.proofs.words.search.refine.Tie as tie
 
 returns-2 : tie.Need-returns-2
@@ -13,7 +10,7 @@ returns-2 c =
     rw (t .before .if1 .left)
     (c .offset-of2 .ensures ∙ refine-explicit (a .n .depth) (pixel (a .p0 .now) (a .n .s0)) (pixel (a .p1 .now) (a .n .s1)) (a .n .w) (a .n .h) (t .search .ensures))
 
-pub refine-spec : {M : Type 1} → statement M
+pub refine-spec : {M : Type 1} → Rattle.blocks.proofs.words.search.refine.Statement.statement M
 refine-spec =
     tie.close
     (tie.spec

@@ -1,12 +1,6 @@
-use borrow.Author.Needs.{needs}
-use Prim.Native.Nat.{ℕ}
-use mir.Syntax.{w32}
-use mir.Val.{toZ, ofZ}
-use Rattle.rows.specs.Places.{pixel}
+use Rattle.blocks.proofs.Usual.{ℕ, needs, w32, toZ, ofZ, pixel, back}
 use Rattle.rows.specs.Search.{Offset, sadAt, visit}
-use Rattle.rows.proofs.Laws.Numbers.Signed.{back}
 use Rattle.blocks.proofs.Laws.Search.Ready.{five}
-use Rattle.blocks.proofs.words.search.visit_row.Statement.{statement}
 use Rattle.blocks.proofs.words.search.visit_row.Tie as tie
 
 abbrev sums : tie.Start → Offset → ℕ
@@ -18,7 +12,7 @@ returns c =
     rw (back (s .fits .dy)) at (five (visit (sums s) (toZ w32 (ofZ w32 (s .args .dy))))
     (g .visit .ensures) (f .visit2 .ensures) (e .visit3 .ensures) (d .visit4 .ensures) (c .visit5 .ensures))
 
-pub visit-row-spec : {M : Type 1} → statement M
+pub visit-row-spec : {M : Type 1} → Rattle.blocks.proofs.words.search.visit_row.Statement.statement M
 visit-row-spec =
     tie.close
     (tie.spec

@@ -1,14 +1,8 @@
-use mathlib.Core.Path.{_≡_, sym, _∙_}
-use lib.ListN.{length}
-use borrow.Author.Needs.{needs}
-use Rattle.rows.proofs.Laws.Numbers.Signed.{back}
-use Rattle.blocks.specs.Refuse.{lowest}
+use Rattle.blocks.proofs.Usual.{_≡_, _∙_, sym, needs, length, lowest, back, done, refused}
 use Rattle.blocks.specs.words.Depth.{depthOk}
 use Rattle.blocks.specs.Subpel.{subpelTests}
 use Rattle.blocks.proofs.Laws.words.Depth.{depth-bits, depth-bias}
-use Rattle.blocks.proofs.Laws.Calls.Refuse.{done, refused}
 use Rattle.blocks.proofs.Laws.Subpel.Ready.{subpel-ready}
-use Rattle.blocks.proofs.words.subpel.hv_prep_8tap_16bpc.Statement.{statement}
 use Rattle.blocks.proofs.words.subpel.hv_prep_8tap_16bpc.Tie as tie
 
 abbrev begin : tie.After-check-8tap → tie.Start
@@ -33,7 +27,7 @@ prep-8tap-rows-requires c κs =
     let r = subpel-ready _ _ _ _ _ _ _ _ _ _ _ _ _ (sym (k .check-8tap .ensures) ∙ t .if1 .taken) in let p = sym (k .before .depth-ok .ensures) ∙ r .0 in
     rw (d .depth-numbers .ensures) (r .1, r .2, r .3, depth-bits _ p, depth-bias _ p)
 
-pub hv-prep-8tap-16bpc-spec : {M : Type 1} → statement M
+pub hv-prep-8tap-16bpc-spec : {M : Type 1} → Rattle.blocks.proofs.words.subpel.hv_prep_8tap_16bpc.Statement.statement M
 hv-prep-8tap-16bpc-spec =
     tie.close
     (tie.spec (λ c κs. search needs) (λ c κs. search needs)  -- depth-ok, check-8tap

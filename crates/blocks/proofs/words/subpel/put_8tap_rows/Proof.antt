@@ -1,8 +1,5 @@
-use mathlib.Core.Path.{refl, _∙_}
-use native.Mathlib.Omega.{arith}
-use borrow.Author.Needs.{needs}
+use Rattle.blocks.proofs.Usual.{_∙_, refl, arith, needs}
 use Rattle.blocks.proofs.Laws.Subpel.Cases.{Planned, bits-in, round-in, one-ready, first-ready, second-ready, put-block, put-two}
-use Rattle.blocks.proofs.words.subpel.put_8tap_rows.Statement.{statement}
 use Rattle.blocks.proofs.words.subpel.put_8tap_rows.Tie as tie
 
 abbrev begin : tie.After-plan-8tap → tie.Start
@@ -44,7 +41,7 @@ returns-2 c =
     c .before .before .put-lines .ensures
     ∙ put-block (planned d) (s .pre .0) (s .pre .2) (s .args .src .now) (t .if1 .left) _ _ (omega (arith, s .pre .0, s .pre .1)) _
 
-pub put-8tap-rows-spec : {M : Type 1} → statement M
+pub put-8tap-rows-spec : {M : Type 1} → Rattle.blocks.proofs.words.subpel.put_8tap_rows.Statement.statement M
 put-8tap-rows-spec =
     tie.close
     (tie.spec

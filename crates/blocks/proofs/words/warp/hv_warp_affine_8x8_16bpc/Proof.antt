@@ -1,14 +1,8 @@
-use mathlib.Core.Path.{_≡_, sym, _∙_}
-use borrow.Author.Needs.{needs}
-use lib.ListN.{length}
-use Rattle.rows.proofs.Laws.Numbers.Signed.{back}
-use Rattle.blocks.specs.Refuse.{lowest}
+use Rattle.blocks.proofs.Usual.{_≡_, _∙_, sym, needs, length, lowest, back, done, refused}
 use Rattle.blocks.specs.words.Depth.{depthOk}
 use Rattle.blocks.specs.Warp.{warpTests}
 use Rattle.blocks.proofs.Laws.words.Depth.{depth-bits, depth-max}
-use Rattle.blocks.proofs.Laws.Calls.Refuse.{done, refused}
 use Rattle.blocks.proofs.Laws.Warp.Ready.{warp-ready}
-use Rattle.blocks.proofs.words.warp.hv_warp_affine_8x8_16bpc.Statement.{statement}
 use Rattle.blocks.proofs.words.warp.hv_warp_affine_8x8_16bpc.Tie as tie
 
 abbrev begin : tie.After-check-warp → tie.Start
@@ -34,7 +28,7 @@ warp-put-requires c κs =
     let t = c .before .before in let k = t .before in let r = warp-ready _ _ _ _ _ _ _ _ _ _ _ _ _ (sym (k .check-warp .ensures) ∙ t .if1 .taken) in
     let p = sym (k .before .depth-ok .ensures) ∙ r .0 in rw (c .before .depth-numbers .ensures) (r .1, depth-bits _ p, depth-max _ p)
 
-pub hv-warp-affine-8x8-16bpc-spec : {M : Type 1} → statement M
+pub hv-warp-affine-8x8-16bpc-spec : {M : Type 1} → Rattle.blocks.proofs.words.warp.hv_warp_affine_8x8_16bpc.Statement.statement M
 hv-warp-affine-8x8-16bpc-spec =
     tie.close
     (tie.spec (λ c κs. search needs) (λ c κs. search needs)  -- depth-ok, check-warp

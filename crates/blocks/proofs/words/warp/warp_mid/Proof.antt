@@ -1,10 +1,5 @@
-use native.Mathlib.Omega.{arith}
-use Prim.Native.Nat.{_-_}
-use lib.IntN.{pos}
-use borrow.Author.Needs.{needs}
-use Rattle.blocks.proofs.Laws.Loops.Rows.{Filled, Turn, filled-none, block-loop}
+use Rattle.blocks.proofs.Usual.{_-_, arith, needs, pos, Filled, filled-none, block-loop, Turn}
 use Rattle.blocks.proofs.Laws.Warp.Passes.{first, column-part, column-more}
-use Rattle.blocks.proofs.words.warp.warp_mid.Statement.{statement}
 use Rattle.blocks.proofs.words.warp.warp_mid.Tie as tie
 
 abbrev Inv-loop : tie.InvT-loop
@@ -32,7 +27,7 @@ loop-again c =
     let t = c .before .before .before in
     column-more (t .before .loop .inv) (entry t .pre .0) (t .loop-test .taken) _ (c .before .warp-column .ensures)
 
-pub warp-mid-spec : {M : Type 1} → statement M
+pub warp-mid-spec : {M : Type 1} → Rattle.blocks.proofs.words.warp.warp_mid.Statement.statement M
 warp-mid-spec =
     tie.close
     (tie.spec Inv-loop μ-loop

@@ -1,10 +1,5 @@
-use borrow.Author.Needs.{needs}
-use mathlib.Core.Path.{refl, _∙_}
-use mir.Syntax.{w16, w32}
-use native.Mathlib.Omega.{arith}
+use Rattle.blocks.proofs.Usual.{_∙_, refl, arith, needs, w32, w16, told-back}
 use Rattle.blocks.proofs.Laws.Warp.Passes.{taps-in, prep-second}
-use Rattle.blocks.proofs.Laws.Calls.Told.{told-back}
-use Rattle.blocks.proofs.words.warp.warp_prep.Statement.{statement}
 use Rattle.blocks.proofs.words.warp.warp_prep.Tie as tie
 
 warp-mid-requires : tie.Need-warp-mid-requires
@@ -27,7 +22,7 @@ returns c =
     (rw (told-back w32 (k .1 .1 .1 .1 .1), told-back w16 (k .1 .1), told-back w16 (k .1 .1 .1)) at (two .warp-prep-rows .ensures))
     ∙ prep-second _ _ _ _ _ _ _ _ (s .pre .0 .src .before) _ _ refl first _ _ _ _ _ _ (omega (arith, s .pre .0 .dst))
 
-pub warp-prep-spec : {M : Type 1} → statement M
+pub warp-prep-spec : {M : Type 1} → Rattle.blocks.proofs.words.warp.warp_prep.Statement.statement M
 warp-prep-spec =
     tie.close
     (tie.spec

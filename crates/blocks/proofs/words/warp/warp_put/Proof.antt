@@ -1,10 +1,5 @@
-use borrow.Author.Needs.{needs}
-use mathlib.Core.Path.{refl, _∙_}
-use mir.Syntax.{w16, w32}
-use native.Mathlib.Omega.{arith}
+use Rattle.blocks.proofs.Usual.{_∙_, refl, arith, needs, w32, w16, told-back}
 use Rattle.blocks.proofs.Laws.Warp.Passes.{taps-in, put-second}
-use Rattle.blocks.proofs.Laws.Calls.Told.{told-back}
-use Rattle.blocks.proofs.words.warp.warp_put.Statement.{statement}
 use Rattle.blocks.proofs.words.warp.warp_put.Tie as tie
 
 warp-mid-requires : tie.Need-warp-mid-requires
@@ -27,7 +22,7 @@ returns c =
     (rw (told-back w32 (k .1 .1 .1 .1 .1), told-back w16 (k .1 .1), told-back w16 (k .1 .1 .1)) at (two .warp-put-rows .ensures))
     ∙ put-second _ _ _ _ _ _ _ _ (s .pre .0 .src .before) _ _ refl first _ _ _ _ _ _ (omega (arith, s .pre .0 .dst))
 
-pub warp-put-spec : {M : Type 1} → statement M
+pub warp-put-spec : {M : Type 1} → Rattle.blocks.proofs.words.warp.warp_put.Statement.statement M
 warp-put-spec =
     tie.close
     (tie.spec

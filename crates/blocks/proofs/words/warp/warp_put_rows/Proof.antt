@@ -1,12 +1,6 @@
-use native.Mathlib.Omega.{arith}
-use Prim.Native.Nat.{_+_, _-_, _*_, _≤_}
-use lib.ListN.{length}
-use borrow.Author.Needs.{needs}
-use Rattle.rows.specs.Numbers.{at, clip, low16}
+use Rattle.blocks.proofs.Usual.{_≤_, _*_, _+_, _-_, arith, needs, length, at, clip, low16, Filled, filled-none, row-in, block-loop, filled-span}
 use Rattle.rows.specs.Warp.{warped}
-use Rattle.blocks.proofs.Laws.Loops.Rows.{Filled, filled-none, filled-span, row-in, block-loop}
 use Rattle.blocks.proofs.Laws.Warp.Passes.{filled-row}
-use Rattle.blocks.proofs.words.warp.warp_put_rows.Statement.{statement}
 use Rattle.blocks.proofs.words.warp.warp_put_rows.Tie as tie
 
 abbrev Inv-loop : tie.InvT-loop
@@ -35,7 +29,7 @@ loop-again c =
     let t = c .before .before .before .before in
     filled-row 0 _ (t .before .loop .inv) (omega arith) (entry t .pre .0) (t .loop-test .taken) (c .before .before .warp-put-row .ensures)
 
-pub warp-put-rows-spec : {M : Type 1} → statement M
+pub warp-put-rows-spec : {M : Type 1} → Rattle.blocks.proofs.words.warp.warp_put_rows.Statement.statement M
 warp-put-rows-spec =
     tie.close
     (tie.spec Inv-loop μ-loop

@@ -1,9 +1,5 @@
-use mathlib.Core.Path.{refl}
-use native.Mathlib.Omega.{arith}
-use borrow.Author.Needs.{needs}
-use borrow.Author.Tests.{eq-eqb, ne-eqb}
-use Rattle.blocks.specs.Window.{partOf}
-use Rattle.blocks.proofs.words.window.pick.Statement.{statement}
+use Rattle.blocks.proofs.Usual.{refl, arith, needs, ne-eqb, partOf}
+use borrow.Author.Tests.{eq-eqb}
 use Rattle.blocks.proofs.words.window.pick.Tie as tie
 
 returns : tie.Need-returns
@@ -18,7 +14,7 @@ returns-3 : tie.Need-returns-3
 unfolding partOf
 returns-3 c = rw (ne-eqb _ 1 (c .before .before .if1 .left), ne-eqb _ 2 (c .before .if2 .left)) refl
 
-pub pick-spec : {M : Type 1} → statement M
+pub pick-spec : {M : Type 1} → Rattle.blocks.proofs.words.window.pick.Statement.statement M
 pick-spec =
     tie.close
     (tie.spec

@@ -1,12 +1,7 @@
-use borrow.Author.Needs.{needs}
-use mathlib.Core.Path.{_≡_, refl, ap, _∙_}
-use lib.ListN.{length}
-use Rattle.rows.proofs.Laws.Numbers.Signed.{back}
-use Rattle.blocks.specs.Window.{windowOf, partOf}
-use Rattle.blocks.specs.inner.Window.{lentOf, asked}
+use Rattle.blocks.proofs.Usual.{_≡_, _∙_, refl, ap, needs, length, windowOf, partOf, lentOf, back}
+use Rattle.blocks.specs.inner.Window.{asked}
 use Rattle.blocks.proofs.Laws.Window.Holds.{window-in}
 use Rattle.blocks.specs.declared.window.Part.{Part}
-use Rattle.blocks.proofs.words.window.window_part.Statement.{statement}
 use Rattle.blocks.proofs.words.window.window_part.Tie as tie
 
 answer : (c : tie.After-find-window) → let a = c .before .before .before .args in
@@ -21,7 +16,7 @@ returns c =
     let g = c .before in let a = g .before .before .before .args in
     c .pick .ensures ∙ ap (λ (p : Part). partOf p (a .plane .now) (a .scratch .now)) (answer g)
 
-pub window-part-spec : {M : Type 1} → statement M
+pub window-part-spec : {M : Type 1} → Rattle.blocks.proofs.words.window.window_part.Statement.statement M
 window-part-spec =
     tie.close
     (tie.spec

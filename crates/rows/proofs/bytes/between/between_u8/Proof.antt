@@ -1,12 +1,5 @@
-use borrow.Author.Needs.{needs}
-use native.Mathlib.Omega.{arith}
-use Prim.Native.Nat.{ℕ, _+_}
-use lib.IntN.{pos}
-use lib.ListN.{getD}
-use mir.Syntax.{w32}
-use mir.Val.{toZ}
+use Rattle.rows.proofs.Usual.{_+_, ℕ, arith, needs, pos, getD, w32, toZ}
 use Rattle.rows.proofs.Laws.Filters.Bilinear.{Widened, pixel-widened, between-is}
-use Rattle.rows.proofs.bytes.between.between_u8.Statement.{statement}
 use Rattle.rows.proofs.bytes.between.between_u8.Tie as tie
 
 pixel : (c : tie.After-shared-slice-known) (k : ℕ) → let x = getD (c .before .args .src .now) k 0 in Widened (toZ w32 x) (pos x)
@@ -22,7 +15,7 @@ returns c =
     let s = c .before .before .before in let a = s .before .args in
     between-is (a .f) (pixel s (a .p)) (pixel s (a .p + a .step)) (omega arith) (c .bilin-sum .ensures)
 
-pub between-u8-spec : {M : Type 1} → statement M
+pub between-u8-spec : {M : Type 1} → Rattle.rows.proofs.bytes.between.between_u8.Statement.statement M
 between-u8-spec =
     tie.close
     (tie.spec

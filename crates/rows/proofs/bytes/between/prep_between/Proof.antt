@@ -1,11 +1,6 @@
-use borrow.Author.Needs.{needs}
-use native.Mathlib.Omega.{arith}
-use mir.Syntax.{w16, w32}
-use mir.Val.{SFits}
+use Rattle.rows.proofs.Usual.{arith, needs, w32, w16, SFits, back, rd}
 use Rattle.rows.specs.Bilinear.{R}
 use Rattle.rows.proofs.Laws.Filters.Bilinear.{half-small}
-use Rattle.rows.proofs.Laws.Numbers.Signed.{back, rd}
-use Rattle.rows.proofs.bytes.between.prep_between.Statement.{statement}
 use Rattle.rows.proofs.bytes.between.prep_between.Tie as tie
 
 kept-requires : tie.Need-kept-requires
@@ -21,7 +16,7 @@ returns c =
     let fb : SFits w32 (b .between-u8 .result) = omega arith in
     rw (back fv, c .kept .ensures, back fb, b .between-u8 .ensures .0, s .pre .2, back (s .fits .bias))
 
-pub prep-between-spec : {M : Type 1} → statement M
+pub prep-between-spec : {M : Type 1} → Rattle.rows.proofs.bytes.between.prep_between.Statement.statement M
 prep-between-spec =
     tie.close
     (tie.spec

@@ -1,9 +1,4 @@
-use borrow.Author.Needs.{needs}
-use native.Mathlib.Omega.{arith}
-use mir.Syntax.{w32}
-use mir.Val.{SFits}
-use Rattle.rows.proofs.Laws.Numbers.Signed.{back, rd}
-use Rattle.rows.proofs.bytes.between.put_between.Statement.{statement}
+use Rattle.rows.proofs.Usual.{arith, needs, w32, SFits, back, rd}
 use Rattle.rows.proofs.bytes.between.put_between.Tie as tie
 
 returns : tie.Need-returns
@@ -13,7 +8,7 @@ returns c =
     let fb : SFits w32 (b .between-u8 .result) = omega arith in
     rw (c .clip .ensures, back fq, q .rounded .ensures, back fb, b .between-u8 .ensures .0)
 
-pub put-between-spec : {M : Type 1} → statement M
+pub put-between-spec : {M : Type 1} → Rattle.rows.proofs.bytes.between.put_between.Statement.statement M
 put-between-spec =
     tie.close
     (tie.spec

@@ -1,10 +1,5 @@
 -- Made from crates/rows/proofs/words/bilinear/bilin_px/Proof.antt by tools/sets: change that.
-use borrow.Author.Needs.{needs}
-use native.Mathlib.Omega.{arith}
-use mir.Syntax.{w32}
-use mir.Val.{SFits}
-use Rattle.rows.proofs.Laws.Numbers.Signed.{back}
-use Rattle.rows.proofs.bytes.bilinear.bilin_px.Statement.{statement}
+use Rattle.rows.proofs.Usual.{arith, needs, w32, SFits, back}
 use Rattle.rows.proofs.bytes.bilinear.bilin_px.Tie as tie
 
 returns : tie.Need-returns
@@ -13,7 +8,7 @@ returns c =
     let fb : SFits w32 (b .bilin-rnd .result) = omega arith in
     rw (c .clip .ensures, back fb, b .bilin-rnd .ensures .0, back (b .before .fits .s))
 
-pub bilin-px-spec : {M : Type 1} → statement M
+pub bilin-px-spec : {M : Type 1} → Rattle.rows.proofs.bytes.bilinear.bilin_px.Statement.statement M
 bilin-px-spec =
     tie.close
     (tie.spec

@@ -1,11 +1,8 @@
 -- Made from crates/rows/proofs/words/blend/blend_px/Proof.antt by tools/sets: change that.
-use borrow.Author.Needs.{needs}
-use native.Mathlib.Omega.{arith}
-use Prim.Native.Nat.{_-_, _*_, _≤_, _<_}
+use Rattle.rows.proofs.Usual.{_-_, _*_, _≤_, _<_, arith, needs}
 use Rattle.rows.specs.Combine.{blend}
 use Rattle.rows.specs.inner.bytes.Pixel.{pixels}
 use Rattle.rows.proofs.Laws.Pixels.Pixel.{part-le, blend-lt}
-use Rattle.rows.proofs.bytes.blend.blend_px.Statement.{statement}
 use Rattle.rows.proofs.bytes.blend.blend_px.Tie as tie
 
 parts : (c : tie.Start) → (c .args .d * (64 - c .args .m) ≤ 65535 * 64) × (c .args .t * c .args .m ≤ 65535 * 64)
@@ -21,7 +18,7 @@ returns : tie.Need-returns
 unfolding blend
 returns c = search needs
 
-pub blend-px-spec : {M : Type 1} → statement M
+pub blend-px-spec : {M : Type 1} → Rattle.rows.proofs.bytes.blend.blend_px.Statement.statement M
 blend-px-spec =
     tie.close
     (tie.spec

@@ -1,13 +1,7 @@
 -- Made from crates/rows/proofs/words/blend/morph_row/Proof.antt by tools/sets: change that.
-use native.Mathlib.Omega.{arith}
-use Prim.Native.Nat.{_-_}
-use lib.ListN.{length, getD}
-use mir.Syntax.{w32}
-use mir.Val.{toZ}
+use Rattle.rows.proofs.Usual.{_-_, arith, length, getD, w32, toZ, back}
 use Rattle.rows.specs.Combine.{morph}
 use Rattle.rows.proofs.Laws.Blocks.Over.{Over, over-none, over-here, over-more, over-all}
-use Rattle.rows.proofs.Laws.Numbers.Signed.{back}
-use Rattle.rows.proofs.bytes.blend.morph_row.Statement.{statement}
 use Rattle.rows.proofs.bytes.blend.morph_row.Tie as tie
 
 abbrev Inv-loop : tie.InvT-loop
@@ -21,7 +15,7 @@ returns c =
     let s = c .before .before .before in
     rw (← back (s .fits .alpha), ← back (s .fits .beta)) (over-all (c .before .loop .inv) (omega arith))
 
-pub morph-row-spec : {M : Type 1} → statement M
+pub morph-row-spec : {M : Type 1} → Rattle.rows.proofs.bytes.blend.morph_row.Statement.statement M
 morph-row-spec =
     tie.close
     (tie.spec

@@ -1,13 +1,8 @@
 -- Made from crates/rows/proofs/words/combine/avg_row/Proof.antt by tools/sets: change that.
-use borrow.Author.Needs.{needs}
-use native.Mathlib.Omega.{arith}
-use mathlib.Core.Path.{_∙_}
-use Prim.Native.Nat.{_-_}
-use lib.ListN.{length}
+use Rattle.rows.proofs.Usual.{_∙_, _-_, arith, needs, length, Upto, upto-more}
 use Rattle.rows.specs.Combine.{avg, both}
 use Rattle.rows.proofs.Laws.Pixels.Pixel.{read-both}
-use Rattle.rows.proofs.Laws.Blocks.Row.{Upto, upto-more, row-loop}
-use Rattle.rows.proofs.bytes.combine.avg_row.Statement.{statement}
+use Rattle.rows.proofs.Laws.Blocks.Row.{row-loop}
 use Rattle.rows.proofs.bytes.combine.avg_row.Tie as tie
 
 abbrev Inv-loop : tie.InvT-loop
@@ -21,7 +16,7 @@ loop-again c =
     upto-more (c .before .before .before .before .loop .inv) (omega arith)
     (c .avg-px .ensures ∙ read-both (avg _ _ _) (c .before .before .avg-px-arg .given) (c .before .avg-px-arg2 .given))
 
-pub avg-row-spec : {M : Type 1} → statement M
+pub avg-row-spec : {M : Type 1} → Rattle.rows.proofs.bytes.combine.avg_row.Statement.statement M
 avg-row-spec =
     tie.close
     (tie.spec

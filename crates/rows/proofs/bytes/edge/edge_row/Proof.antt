@@ -1,13 +1,6 @@
 -- Made from crates/rows/proofs/words/edge/edge_row/Proof.antt by tools/sets: change that.
-use borrow.Author.Needs.{needs}
-use mathlib.Core.Path.{sym}
-use Prim.Native.Nat.{ℕ}
-use native.Mathlib.Omega.{arith}
-use lib.Seq.{length-take-le}
-use mir.Syntax.{w64}
-use Rattle.rows.proofs.Laws.Numbers.Signed.{back, backn}
+use Rattle.rows.proofs.Usual.{sym, ℕ, arith, needs, length-take-le, w64, back, backn}
 use Rattle.rows.proofs.Laws.Pixels.Edge.{Parts, parts, middle-in, middle-held, last-in, edge-row}
-use Rattle.rows.proofs.bytes.edge.edge_row.Statement.{statement}
 use Rattle.rows.proofs.bytes.edge.edge_row.Tie as tie
 
 module _ (c : tie.After-left-of3) where
@@ -38,7 +31,7 @@ returns c =
     let g = c .before .before in let k = g .before .before .before .before .before in let f = at-copy k in
     edge-row (know (at-fill f)) (f .fill-row .ensures) (k .copy-row .ensures) (g .fill-row2 .ensures)
 
-pub edge-row-spec : {M : Type 1} → statement M
+pub edge-row-spec : {M : Type 1} → Rattle.rows.proofs.bytes.edge.edge_row.Statement.statement M
 edge-row-spec =
     tie.close
     (tie.spec

@@ -1,15 +1,11 @@
-use borrow.Author.Needs.{needs}
-use native.Mathlib.Omega.{arith}
-use Prim.Native.Nat.{ℕ, _+_, _<_}
-use lib.ListN.{getD}
-use Rattle.rows.proofs.bytes.pairs.pair_at.Statement.{statement}
+use Rattle.rows.proofs.Usual.{_+_, _<_, ℕ, arith, needs, getD}
 use Rattle.rows.proofs.bytes.pairs.pair_at.Tie as tie
 
 -- both are bytes
 small : (c : tie.After-shared-slice-known2) → let a = c .before .before .args in (getD (a .src .now) (a .c) 0 < 256) × (getD (a .src .now) (a .c + 1) 0 < 256)
 small c = let g = c .shared-slice-known2 .given in let a = c .before .before .args in (omega (arith, g (a .c)), omega (arith, g (a .c + 1)))
 
-pub pair-at-spec : {M : Type 1} → statement M
+pub pair-at-spec : {M : Type 1} → Rattle.rows.proofs.bytes.pairs.pair_at.Statement.statement M
 pair-at-spec =
     tie.close
     (tie.spec

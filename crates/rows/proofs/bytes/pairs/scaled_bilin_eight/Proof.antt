@@ -1,14 +1,7 @@
-use borrow.Author.Needs.{needs}
-use native.Mathlib.Omega.{arith}
-use native.Mathlib.Nat.{add-zero}
-use mathlib.Core.Path.{refl, sym, ap, _∙_}
-use Prim.Native.Nat.{ℕ, _+_, _≤_, _<_}
-use lib.IntN.{pos}
-use lib.ListN.{length, getD, length-set}
+use Rattle.rows.proofs.Usual.{_∙_, refl, ap, sym, _+_, _≤_, _<_, ℕ, add-zero, arith, needs, pos, length, getD, back}
+use lib.ListN.{length-set}
 use Rattle.rows.specs.inner.Scaled.{pairMid}
 use Rattle.rows.proofs.Laws.Blocks.Part.{eight-stored}
-use Rattle.rows.proofs.Laws.Numbers.Signed.{back}
-use Rattle.rows.proofs.bytes.pairs.scaled_bilin_eight.Statement.{statement}
 use Rattle.rows.proofs.bytes.pairs.scaled_bilin_eight.Tie as tie
 
 -- what each of the eight columns reads is there
@@ -31,7 +24,7 @@ returns c =
     (back (omega arith) ∙ c6 .scaled-bilin-px7 .ensures)
     (back (omega arith) ∙ c .scaled-bilin-px8 .ensures)
 
-pub scaled-bilin-eight-spec : {M : Type 1} → statement M
+pub scaled-bilin-eight-spec : {M : Type 1} → Rattle.rows.proofs.bytes.pairs.scaled_bilin_eight.Statement.statement M
 scaled-bilin-eight-spec =
     tie.close
     (tie.spec

@@ -1,11 +1,6 @@
-use native.Mathlib.Omega.{arith}
-use Prim.Native.Nat.{_-_}
-use lib.IntN.{pos}
-use lib.ListN.{length}
+use Rattle.rows.proofs.Usual.{_-_, arith, pos, length, Upto, upto-all, upto-none}
 use Rattle.rows.specs.inner.Scaled.{pairMid}
-use Rattle.rows.proofs.Laws.Blocks.Row.{Upto, upto-none, upto-all}
 use Rattle.rows.proofs.Laws.Blocks.Part.{upto-part}
-use Rattle.rows.proofs.bytes.pairs.scaled_bilin_eights.Statement.{statement}
 use Rattle.rows.proofs.bytes.pairs.scaled_bilin_eights.Tie as tie
 
 abbrev Inv-loop : tie.InvT-loop
@@ -14,7 +9,7 @@ Inv-loop mid₀ src pixels fractions w i₀ mid i = Upto (pos 0) (pairMid src pi
 abbrev μ-loop : tie.MeasureT-loop
 μ-loop mid₀ src pixels fractions w i₀ mid i = w - i
 
-pub scaled-bilin-eights-spec : {M : Type 1} → statement M
+pub scaled-bilin-eights-spec : {M : Type 1} → Rattle.rows.proofs.bytes.pairs.scaled_bilin_eights.Statement.statement M
 scaled-bilin-eights-spec =
     tie.close
     (tie.spec Inv-loop μ-loop (λ c. upto-none _ _ _)  -- while i < w

@@ -1,14 +1,5 @@
-use native.Mathlib.Omega.{arith}
-use Prim.Native.Nat.{_-_}
-use lib.IntN.{pos}
-use lib.ListN.{length}
-use mir.Syntax.{w16}
-use mir.Val.{SFits}
-use mathlib.Core.Path.{_∙_}
+use Rattle.rows.proofs.Usual.{_∙_, _-_, arith, pos, length, w16, SFits, Upto, upto-all, upto-none, upto-more, back}
 use Rattle.rows.specs.inner.Scaled.{pairMid}
-use Rattle.rows.proofs.Laws.Blocks.Row.{Upto, upto-none, upto-more, upto-all}
-use Rattle.rows.proofs.Laws.Numbers.Signed.{back}
-use Rattle.rows.proofs.bytes.pairs.scaled_bilin_few.Statement.{statement}
 use Rattle.rows.proofs.bytes.pairs.scaled_bilin_few.Tie as tie
 
 abbrev Inv-loop : tie.InvT-loop
@@ -27,7 +18,7 @@ loop-again c =
     let f : SFits w16 (c .scaled-bilin-px .result) = omega arith in
     upto-more (c .before .before .loop .inv) (omega arith) (back f ∙ c .scaled-bilin-px .ensures)
 
-pub scaled-bilin-few-spec : {M : Type 1} → statement M
+pub scaled-bilin-few-spec : {M : Type 1} → Rattle.rows.proofs.bytes.pairs.scaled_bilin_few.Statement.statement M
 scaled-bilin-few-spec =
     tie.close
     (tie.spec Inv-loop μ-loop (λ c. upto-none _ _ _)  -- while i < w

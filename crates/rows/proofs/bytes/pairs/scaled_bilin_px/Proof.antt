@@ -1,15 +1,6 @@
-use borrow.Author.Needs.{needs}
-use native.Mathlib.Omega.{arith}
-use mathlib.Core.Path.{ap₂, _∙_}
-use Prim.Native.Nat.{ℕ}
-use lib.IntN.{pos}
-use lib.ListN.{getD}
-use mir.Syntax.{w16}
-use mir.Val.{SFits}
+use Rattle.rows.proofs.Usual.{_∙_, ap₂, ℕ, arith, needs, pos, getD, w16, SFits, back}
 use Rattle.rows.specs.Bilinear.{bilin}
 use Rattle.rows.proofs.Laws.Filters.Scaled.{byte-mid}
-use Rattle.rows.proofs.Laws.Numbers.Signed.{back}
-use Rattle.rows.proofs.bytes.pairs.scaled_bilin_px.Statement.{statement}
 use Rattle.rows.proofs.bytes.pairs.scaled_bilin_px.Tie as tie
 
 returns : tie.Need-returns
@@ -19,7 +10,7 @@ returns c =
     let n = getD (a .fractions .now) (a .i) 0 in
     back f ∙ byte-mid (e .0 ∙ ap₂ (λ (x y : ℕ). bilin (pos x) (pos y) n) (p .pair-at .ensures .0) (p .pair-at .ensures .1)) (e .1)
 
-pub scaled-bilin-px-spec : {M : Type 1} → statement M
+pub scaled-bilin-px-spec : {M : Type 1} → Rattle.rows.proofs.bytes.pairs.scaled_bilin_px.Statement.statement M
 scaled-bilin-px-spec =
     tie.close
     (tie.spec

@@ -1,12 +1,6 @@
-use borrow.Author.Needs.{needs}
-use native.Mathlib.Omega.{arith}
-use mathlib.Core.Path.{_≡_, _∙_}
-use lib.ListN.{length}
-use Rattle.rows.specs.Places.{span}
+use Rattle.rows.proofs.Usual.{_≡_, _∙_, arith, needs, length, span, span-length}
 use Rattle.rows.specs.inner.Scaled.{PairsFetched}
-use Rattle.rows.proofs.Laws.Blocks.Places.{span-length}
 use Rattle.rows.proofs.Laws.Filters.Scaled.{part-row}
-use Rattle.rows.proofs.bytes.pairs.scaled_bilin_row.Statement.{statement}
 use Rattle.rows.proofs.bytes.pairs.scaled_bilin_row.Tie as tie
 
 -- the part holds what each column reads
@@ -27,7 +21,7 @@ returns-2 c =
     let t = c .before .before .before in let s = t .before .before .before in
     rw (s .pre .3) (c .before .scaled-bilin-eights .ensures ∙ part-row (s .args .src .now) _ _ _ _ _ (s .pre .2))
 
-pub scaled-bilin-row-spec : {M : Type 1} → statement M
+pub scaled-bilin-row-spec : {M : Type 1} → Rattle.rows.proofs.bytes.pairs.scaled_bilin_row.Statement.statement M
 scaled-bilin-row-spec =
     tie.close
     (tie.spec

@@ -1,15 +1,6 @@
 -- Made from crates/rows/proofs/words/subpel/mid_by/Proof.antt by tools/sets: change that.
-use native.Mathlib.Omega.{arith}
-use Prim.Native.Nat.{_+_, _*_, _-_}
-use lib.ListN.{length}
-use mir.Syntax.{w32}
-use mir.Val.{SFits}
-use borrow.Author.Needs.{needs}
-use Rattle.rows.specs.Numbers.{clip, at}
+use Rattle.rows.proofs.Usual.{_-_, _+_, _*_, arith, needs, length, w32, SFits, at, clip, Upto, upto-all, upto-none, upto-more, back}
 use Rattle.rows.specs.Subpel.{tapped}
-use Rattle.rows.proofs.Laws.Blocks.Row.{Upto, upto-none, upto-more, upto-all}
-use Rattle.rows.proofs.Laws.Numbers.Signed.{back}
-use Rattle.rows.proofs.bytes.subpel.mid_by.Statement.{statement}
 use Rattle.rows.proofs.bytes.subpel.mid_by.Tie as tie
 
 -- the first i are done
@@ -27,7 +18,7 @@ loop-again c =
     let ft : SFits w32 (s .sum-i16 .result) = omega arith in
     upto-more (s .before .before .loop .inv) (omega arith) (rw (c .clip .ensures, back fr, r .rounded .ensures, back ft, s .sum-i16 .ensures .0))
 
-pub mid-by-spec : {M : Type 1} → statement M
+pub mid-by-spec : {M : Type 1} → Rattle.rows.proofs.bytes.subpel.mid_by.Statement.statement M
 mid-by-spec =
     tie.close
     (tie.spec Inv-loop μ-loop (λ c. upto-none _ _ _)  -- while i < w

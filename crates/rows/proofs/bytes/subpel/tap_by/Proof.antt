@@ -1,14 +1,6 @@
 -- Made from crates/rows/proofs/words/subpel/tap_by/Proof.antt by tools/sets: change that.
-use native.Mathlib.Omega.{arith}
-use Prim.Native.Nat.{_+_, _*_, _-_}
-use lib.ListN.{length}
-use mir.Syntax.{w32}
-use mir.Val.{SFits}
-use Rattle.rows.specs.Numbers.{clip, px}
+use Rattle.rows.proofs.Usual.{_-_, _+_, _*_, arith, length, w32, SFits, clip, px, Upto, upto-all, upto-none, upto-more, back}
 use Rattle.rows.specs.Subpel.{tapped}
-use Rattle.rows.proofs.Laws.Blocks.Row.{Upto, upto-none, upto-more, upto-all}
-use Rattle.rows.proofs.Laws.Numbers.Signed.{back}
-use Rattle.rows.proofs.bytes.subpel.tap_by.Statement.{statement}
 use Rattle.rows.proofs.bytes.subpel.tap_by.Tie as tie
 
 -- the first i are done
@@ -24,7 +16,7 @@ loop-again c =
     let fr : SFits w32 (p .rounded-taps .result) = omega arith in
     upto-more (p .before .before .loop .inv) (omega arith) (rw (c .clip .ensures, back fr, p .rounded-taps .ensures))
 
-pub tap-by-spec : {M : Type 1} → statement M
+pub tap-by-spec : {M : Type 1} → Rattle.rows.proofs.bytes.subpel.tap_by.Statement.statement M
 tap-by-spec =
     tie.close
     (tie.spec Inv-loop μ-loop (λ c. upto-none _ _ _)  -- while i < w

@@ -1,16 +1,7 @@
 -- Made from crates/rows/proofs/words/subpel/tap_mid_by/Proof.antt by tools/sets: change that.
-use native.Mathlib.Omega.{arith}
-use Prim.Native.Nat.{_+_, _*_, _-_}
-use lib.IntN.{pos}
-use lib.ListN.{length}
-use mir.Syntax.{w16}
-use mir.Val.{toZ}
-use Rattle.rows.specs.Numbers.{low16, minus16, px}
+use Rattle.rows.proofs.Usual.{_-_, _+_, _*_, arith, pos, length, w16, toZ, px, minus16, low16, Upto, upto-all, upto-none, back}
 use Rattle.rows.specs.Subpel.{tapped}
-use Rattle.rows.proofs.Laws.Blocks.Row.{Upto, upto-none, upto-all}
 use Rattle.rows.proofs.Laws.Filters.Loop.{upto-kept}
-use Rattle.rows.proofs.Laws.Numbers.Signed.{back}
-use Rattle.rows.proofs.bytes.subpel.tap_mid_by.Statement.{statement}
 use Rattle.rows.proofs.bytes.subpel.tap_mid_by.Tie as tie
 
 -- the first i are done
@@ -21,7 +12,7 @@ Inv-loop tmp₀ src o f near by bias w i₀ tmp i =
 abbrev μ-loop : tie.MeasureT-loop
 μ-loop tmp₀ src o f near by bias w i₀ tmp i = w - i
 
-pub tap-mid-by-spec : {M : Type 1} → statement M
+pub tap-mid-by-spec : {M : Type 1} → Rattle.rows.proofs.bytes.subpel.tap_mid_by.Statement.statement M
 tap-mid-by-spec =
     tie.close
     (tie.spec Inv-loop μ-loop (λ c. upto-none _ _ _)  -- while i < w

@@ -1,12 +1,5 @@
-use mathlib.Core.Path.{refl}
-use native.Mathlib.Omega.{arith}
-use Prim.Native.Nat.{_+_, _*_, _-_, _≤_}
-use mir.Syntax.{w8}
-use Rattle.rows.specs.Numbers.{px}
-use Rattle.rows.proofs.Laws.Numbers.Signed.{fit}
-use Rattle.rows.proofs.Laws.Numbers.Sum.{steps-le}
+use Rattle.rows.proofs.Usual.{refl, _-_, _+_, _*_, _≤_, arith, w8, px, fit, steps-le}
 use Rattle.rows.proofs.Laws.Filters.Near.{NearSum, near-none, near-room, near-more, near-all}
-use Rattle.rows.proofs.bytes.sums.near_sum.Statement.{statement}
 use Rattle.rows.proofs.bytes.sums.near_sum.Tie as tie
 
 -- s holds the bits of the sum of the first j taps
@@ -25,7 +18,7 @@ loop-again c =
     let h = c .before .before .before .before in
     near-more (h .loop .inv) (omega arith) (h .before .before .pre .1) (fit w8 (c .before .before .near-tap-u8-arg .given)) refl (c .near-tap-u8 .ensures)
 
-pub near-sum-spec : {M : Type 1} → statement M
+pub near-sum-spec : {M : Type 1} → Rattle.rows.proofs.bytes.sums.near_sum.Statement.statement M
 near-sum-spec =
     tie.close
     (tie.spec Inv-loop μ-loop (λ c. near-none _ _)  -- while j < 8

@@ -1,11 +1,6 @@
-use native.Mathlib.Omega.{arith}
-use mir.Syntax.{w16}
-use mir.Val.{SFits}
-use borrow.Author.Needs.{needs}
+use Rattle.rows.proofs.Usual.{arith, needs, w16, SFits, back, reading, back16}
 use Rattle.rows.specs.Subpel.{tapped}
 use Rattle.rows.proofs.Laws.Filters.Near.{rounded-is}
-use Rattle.rows.proofs.Laws.Numbers.Signed.{back, back16, reading}
-use Rattle.rows.proofs.bytes.sums.rounded_taps.Statement.{statement}
 use Rattle.rows.proofs.bytes.sums.rounded_taps.Tie as tie
 
 near-rounded-requires : tie.Need-near-rounded-requires
@@ -21,7 +16,7 @@ returns c =
     let ft : SFits w16 (c .before .near-sum .result) = omega arith in
     rw (back16 fr, c .near-rounded .ensures, back ft, c .before .near-sum .ensures .0)
 
-pub rounded-taps-spec : {M : Type 1} → statement M
+pub rounded-taps-spec : {M : Type 1} → Rattle.rows.proofs.bytes.sums.rounded_taps.Statement.statement M
 rounded-taps-spec =
     tie.close
     (tie.spec

@@ -1,9 +1,4 @@
-use native.Mathlib.Omega.{arith}
-use mir.Syntax.{w16, w32}
-use mir.Val.{SFits}
-use borrow.Author.Needs.{needs}
-use Rattle.rows.proofs.Laws.Numbers.Signed.{back}
-use Rattle.rows.proofs.bytes.sums.tap_mid_px.Statement.{statement}
+use Rattle.rows.proofs.Usual.{arith, needs, w32, w16, SFits, back}
 use Rattle.rows.proofs.bytes.sums.tap_mid_px.Tie as tie
 
 returns : tie.Need-returns
@@ -14,7 +9,7 @@ returns c =
     let fr : SFits w32 (r .rounded-taps .result) = omega arith in
     rw (back fv, c .wrapping-sub16 .ensures, back fk, k .keep16 .ensures, back fr, r .rounded-taps .ensures, back (r .before .before .fits .bias))
 
-pub tap-mid-px-spec : {M : Type 1} → statement M
+pub tap-mid-px-spec : {M : Type 1} → Rattle.rows.proofs.bytes.sums.tap_mid_px.Statement.statement M
 tap-mid-px-spec =
     tie.close
     (tie.spec

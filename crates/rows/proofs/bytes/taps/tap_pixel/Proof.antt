@@ -1,9 +1,5 @@
-use native.Mathlib.Omega.{arith}
-use mir.Syntax.{w32}
-use mir.Val.{SFits}
-use Rattle.rows.proofs.Laws.Numbers.Signed.{back, backn, rd, rdn}
-use borrow.Author.Needs.{needs}
-use Rattle.rows.proofs.bytes.taps.tap_pixel.Statement.{statement}
+use Rattle.rows.proofs.Usual.{arith, needs, w32, SFits, back, backn, rd}
+use Rattle.rows.proofs.Laws.Numbers.Signed.{rdn}
 use Rattle.rows.proofs.bytes.taps.tap_pixel.Tie as tie
 
 returns : tie.Need-returns
@@ -12,7 +8,7 @@ returns c =
     let fr : SFits w32 (c .tap .result) = omega arith in
     rw (back fr) (rw (back (s .fits .acc), back (s .fits .f), backn w32 (s .args .x) (omega arith)) at (c .tap .ensures))
 
-pub tap-pixel-spec : {M : Type 1} → statement M
+pub tap-pixel-spec : {M : Type 1} → Rattle.rows.proofs.bytes.taps.tap_pixel.Statement.statement M
 tap-pixel-spec =
     tie.close
     (tie.spec

@@ -1,15 +1,7 @@
 -- Made from crates/rows/proofs/words/warp/warp_put_row/Proof.antt by tools/sets: change that.
-use Prim.Native.Nat.{_+_, _*_, _-_}
-use native.Mathlib.Omega.{arith}
-use borrow.Author.Needs.{needs}
-use mir.Syntax.{w16, w32}
-use mir.Val.{SFits}
-use Rattle.rows.specs.Numbers.{at, clip, low16}
+use Rattle.rows.proofs.Usual.{_-_, _+_, _*_, arith, needs, w32, w16, SFits, at, clip, low16, Upto, upto-all, upto-more, back, reading, back16}
 use Rattle.rows.specs.Warp.{warped}
-use Rattle.rows.proofs.Laws.Numbers.Signed.{back, back16, reading}
-use Rattle.rows.proofs.Laws.Blocks.Row.{Upto, upto-more, upto-all}
 use Rattle.rows.proofs.Laws.Filters.Warp.{upto-start, length-filter, warp-kept-is}
-use Rattle.rows.proofs.bytes.warp.warp_put_row.Statement.{statement}
 use Rattle.rows.proofs.bytes.warp.warp_put_row.Tie as tie
 
 abbrev Inv-loop : tie.InvT-loop
@@ -38,7 +30,7 @@ loop-again c =
     let e = warp-kept-is (at mid) _ _ (f .filter-for .ensures) (t .taps-i16 .ensures .0) (rw (back ft) at (k .warp-kept .ensures)) in
     upto-more (f .before .before .loop .inv) (omega arith) (rw (c .clip .ensures, back16 fk, e))
 
-pub warp-put-row-spec : {M : Type 1} → statement M
+pub warp-put-row-spec : {M : Type 1} → Rattle.rows.proofs.bytes.warp.warp_put_row.Statement.statement M
 warp-put-row-spec =
     tie.close
     (tie.spec Inv-loop μ-loop (λ c. upto-start (omega arith))  -- while c < 8

@@ -1,7 +1,4 @@
-use borrow.Author.Needs.{needs}
-use native.Mathlib.Omega.{arith}
-use Prim.Native.Nat.{_+_}
-use Rattle.rows.proofs.words.between.high_between.Statement.{statement}
+use Rattle.rows.proofs.Usual.{_+_, arith, needs}
 use Rattle.rows.proofs.words.between.high_between.Tie as tie
 
 requires : tie.Need-bilin-bytes-requires
@@ -9,7 +6,7 @@ requires c κs =
     let s = c .before .before in let a = s .before .args in let x = s .shared-slice-known .given in
     omega (arith, x (a .p), x (a .p + a .step))
 
-pub high-between-spec : {M : Type 1} → statement M
+pub high-between-spec : {M : Type 1} → Rattle.rows.proofs.words.between.high_between.Statement.statement M
 high-between-spec =
     tie.close
     (tie.spec

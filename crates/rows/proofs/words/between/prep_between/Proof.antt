@@ -1,11 +1,6 @@
-use borrow.Author.Needs.{needs}
-use native.Mathlib.Omega.{arith}
-use mir.Syntax.{w16}
-use mir.Val.{SFits}
+use Rattle.rows.proofs.Usual.{arith, needs, w16, SFits, back, backn}
 use Rattle.rows.specs.Bilinear.{R}
-use Rattle.rows.proofs.Laws.Numbers.Signed.{back, backn}
 use Rattle.rows.proofs.Laws.Filters.Bilinear.{sum-joined, half-small}
-use Rattle.rows.proofs.words.between.prep_between.Statement.{statement}
 use Rattle.rows.proofs.words.between.prep_between.Tie as tie
 
 kept-requires : tie.Need-near-kept-requires
@@ -24,7 +19,7 @@ returns c =
     let v = rw (fh, fl, s .pre .2, back (s .fits .bias)) at (c .near-kept .ensures) in
     rw (back fv, e) v
 
-pub prep-between-spec : {M : Type 1} → statement M
+pub prep-between-spec : {M : Type 1} → Rattle.rows.proofs.words.between.prep_between.Statement.statement M
 prep-between-spec =
     tie.close
     (tie.spec

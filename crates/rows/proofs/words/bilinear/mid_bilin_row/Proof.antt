@@ -1,15 +1,6 @@
-use borrow.Author.Needs.{needs}
-use native.Mathlib.Omega.{arith}
-use Prim.Native.Nat.{_+_, _-_}
-use lib.ListN.{length}
-use mir.Syntax.{w32}
-use mir.Val.{SFits}
-use Rattle.rows.specs.Numbers.{clip, at}
+use Rattle.rows.proofs.Usual.{_-_, _+_, arith, needs, length, w32, SFits, at, clip, Upto, upto-all, upto-none, upto-more, back}
 use Rattle.rows.specs.Bilinear.{R}
 use Rattle.rows.specs.inner.Bilinear.{bilinAt}
-use Rattle.rows.proofs.Laws.Blocks.Row.{Upto, upto-none, upto-more, upto-all}
-use Rattle.rows.proofs.Laws.Numbers.Signed.{back}
-use Rattle.rows.proofs.words.bilinear.mid_bilin_row.Statement.{statement}
 use Rattle.rows.proofs.words.bilinear.mid_bilin_row.Tie as tie
 
 -- the first i are done
@@ -25,7 +16,7 @@ loop-again c =
     let fb : SFits w32 (b .between-i16 .result) = omega arith in
     upto-more (b .before .before .loop .inv) (omega arith) (rw (back fb, b .between-i16 .ensures .0) at (c .bilin-px .ensures))
 
-pub mid-bilin-row-spec : {M : Type 1} → statement M
+pub mid-bilin-row-spec : {M : Type 1} → Rattle.rows.proofs.words.bilinear.mid_bilin_row.Statement.statement M
 mid-bilin-row-spec =
     tie.close
     (tie.spec Inv-loop μ-loop (λ c. upto-none _ _ _)  -- while i < w

@@ -1,16 +1,7 @@
-use native.Mathlib.Omega.{arith}
-use Prim.Native.Nat.{_+_, _-_}
-use lib.IntN.{pos}
-use lib.ListN.{length}
-use mir.Syntax.{w16}
-use mir.Val.{toZ}
-use Rattle.rows.specs.Numbers.{low16, minus16, px}
+use Rattle.rows.proofs.Usual.{_-_, _+_, arith, pos, length, w16, toZ, px, minus16, low16, Upto, upto-all, upto-none, back}
 use Rattle.rows.specs.Bilinear.{R}
 use Rattle.rows.specs.inner.Bilinear.{bilinAt}
-use Rattle.rows.proofs.Laws.Blocks.Row.{Upto, upto-none, upto-all}
 use Rattle.rows.proofs.Laws.Filters.Loop.{upto-kept}
-use Rattle.rows.proofs.Laws.Numbers.Signed.{back}
-use Rattle.rows.proofs.words.bilinear.prep_bilin_row.Statement.{statement}
 use Rattle.rows.proofs.words.bilinear.prep_bilin_row.Tie as tie
 
 -- the first i are done
@@ -23,7 +14,7 @@ abbrev μ-loop : tie.MeasureT-loop
 loop-again : tie.Need-loop-again Inv-loop μ-loop
 loop-again c = upto-kept (c .before .before .loop .inv) (omega arith) (omega arith) (c .prep-between .ensures)
 
-pub prep-bilin-row-spec : {M : Type 1} → statement M
+pub prep-bilin-row-spec : {M : Type 1} → Rattle.rows.proofs.words.bilinear.prep_bilin_row.Statement.statement M
 prep-bilin-row-spec =
     tie.close
     (tie.spec Inv-loop μ-loop

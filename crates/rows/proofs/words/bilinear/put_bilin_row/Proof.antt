@@ -1,14 +1,7 @@
-use native.Mathlib.Omega.{arith}
-use Prim.Native.Nat.{_+_, _-_, _^_}
-use lib.IntN.{pos, _+ℤ_}
-use lib.ListN.{length}
-use lib.Signed.{shrZ}
-use Rattle.rows.specs.Numbers.{clip, px}
+use Rattle.rows.proofs.Usual.{_-_, _+_, _^_, arith, pos, _+ℤ_, length, shrZ, clip, px, Upto, upto-all, upto-none, upto-more}
 use Rattle.rows.specs.Bilinear.{R}
 use Rattle.rows.specs.inner.Bilinear.{bilinAt}
-use Rattle.rows.proofs.Laws.Blocks.Row.{Upto, upto-none, upto-more, upto-all}
 use Rattle.rows.proofs.Laws.Filters.Bilinear.{put-at}
-use Rattle.rows.proofs.words.bilinear.put_bilin_row.Statement.{statement}
 use Rattle.rows.proofs.words.bilinear.put_bilin_row.Tie as tie
 
 -- the first i are done
@@ -24,7 +17,7 @@ loop-again c =
     let e = put-at (a .max) (a .src .now) (a .o + t .loop .i) (a .step) (a .f) (a .n) (a .r) (a .k) (omega arith) (omega arith) in
     upto-more (t .loop .inv) (omega arith) (rw (s .both-halves .ensures, e) at (c .put-between .ensures))
 
-pub put-bilin-row-spec : {M : Type 1} → statement M
+pub put-bilin-row-spec : {M : Type 1} → Rattle.rows.proofs.words.bilinear.put_bilin_row.Statement.statement M
 put-bilin-row-spec =
     tie.close
     (tie.spec Inv-loop μ-loop

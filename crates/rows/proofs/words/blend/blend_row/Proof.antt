@@ -1,9 +1,6 @@
-use native.Mathlib.Omega.{arith}
-use Prim.Native.Nat.{_+_, _-_}
-use lib.ListN.{length, getD}
+use Rattle.rows.proofs.Usual.{_-_, _+_, arith, length, getD}
 use Rattle.rows.specs.Combine.{blend}
 use Rattle.rows.proofs.Laws.Blocks.Over.{Over, over-none, over-here, over-more, over-all}
-use Rattle.rows.proofs.words.blend.blend_row.Statement.{statement}
 use Rattle.rows.proofs.words.blend.blend_row.Tie as tie
 
 abbrev Inv-loop : tie.InvT-loop
@@ -20,7 +17,7 @@ loop-again c =
     let p = c .before .before .before .before .before .loop .inv in
     over-more p (omega arith) (rw (← over-here p) (c .blend-px .ensures))
 
-pub blend-row-spec : {M : Type 1} → statement M
+pub blend-row-spec : {M : Type 1} → Rattle.rows.proofs.words.blend.blend_row.Statement.statement M
 blend-row-spec =
     tie.close
     (tie.spec

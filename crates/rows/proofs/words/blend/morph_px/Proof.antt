@@ -1,10 +1,5 @@
-use borrow.Author.Needs.{needs}
-use native.Mathlib.Omega.{arith}
-use mir.Syntax.{w32}
-use mir.Val.{SFits}
+use Rattle.rows.proofs.Usual.{arith, needs, w32, SFits, back, backn}
 use Rattle.rows.specs.Combine.{morph}
-use Rattle.rows.proofs.Laws.Numbers.Signed.{back, backn}
-use Rattle.rows.proofs.words.blend.morph_px.Statement.{statement}
 use Rattle.rows.proofs.words.blend.morph_px.Tie as tie
 
 scaled-requires : tie.Need-scaled-requires
@@ -17,7 +12,7 @@ returns c =
     let f : SFits w32 (c .before .scaled .result) = omega arith in
     rw (c .clip .ensures, back f, c .before .scaled .ensures, back (s .fits .alpha), back (s .fits .beta), backn w32 (s .args .d) (omega arith))
 
-pub morph-px-spec : {M : Type 1} → statement M
+pub morph-px-spec : {M : Type 1} → Rattle.rows.proofs.words.blend.morph_px.Statement.statement M
 morph-px-spec =
     tie.close
     (tie.spec

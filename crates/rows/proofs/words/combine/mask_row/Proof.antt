@@ -1,12 +1,6 @@
-use borrow.Author.Needs.{needs}
-use native.Mathlib.Omega.{arith}
-use mathlib.Core.Path.{_∙_}
-use Prim.Native.Nat.{_+_, _-_}
-use lib.ListN.{length, getD}
+use Rattle.rows.proofs.Usual.{_∙_, _-_, _+_, arith, needs, length, getD, Upto, upto-all, upto-none, upto-more}
 use Rattle.rows.specs.Combine.{masked, both}
 use Rattle.rows.proofs.Laws.Pixels.Pixel.{read-both}
-use Rattle.rows.proofs.Laws.Blocks.Row.{Upto, upto-none, upto-more, upto-all}
-use Rattle.rows.proofs.words.combine.mask_row.Statement.{statement}
 use Rattle.rows.proofs.words.combine.mask_row.Tie as tie
 
 abbrev Inv-loop : tie.InvT-loop
@@ -20,7 +14,7 @@ loop-again c =
     upto-more (c .before .before .before .before .before .loop .inv) (omega arith)
     (c .mask-px .ensures ∙ read-both (masked _ _ _ _) (c .before .before .before .mask-px-arg .given) (c .before .before .mask-px-arg2 .given))
 
-pub mask-row-spec : {M : Type 1} → statement M
+pub mask-row-spec : {M : Type 1} → Rattle.rows.proofs.words.combine.mask_row.Statement.statement M
 mask-row-spec =
     tie.close
     (tie.spec

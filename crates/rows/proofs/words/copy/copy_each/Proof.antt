@@ -1,7 +1,5 @@
-use Prim.Native.Nat.{_+_, _-_}
-use lib.ListN.{length, getD}
-use Rattle.rows.proofs.Laws.Blocks.Row.{Upto, row-loop}
-use Rattle.rows.proofs.words.copy.copy_each.Statement.{statement}
+use Rattle.rows.proofs.Usual.{_-_, _+_, length, getD, Upto}
+use Rattle.rows.proofs.Laws.Blocks.Row.{row-loop}
 use Rattle.rows.proofs.words.copy.copy_each.Tie as tie
 
 abbrev Inv-loop : tie.InvT-loop
@@ -10,7 +8,7 @@ Inv-loop dst₀ src o n i₀ dst i = Upto 0 (λ x. getD src (o + x) 0) (length d
 abbrev μ-loop : tie.MeasureT-loop
 μ-loop dst₀ src o n i₀ dst i = n - i
 
-pub copy-each-spec : {M : Type 1} → statement M
+pub copy-each-spec : {M : Type 1} → Rattle.rows.proofs.words.copy.copy_each.Statement.statement M
 copy-each-spec =
     tie.close
     (tie.spec Inv-loop μ-loop (λ c. search row-loop)  -- while i < n

@@ -1,9 +1,7 @@
-use native.Mathlib.Omega.{arith}
-use borrow.Author.Needs.{needs}
-use Rattle.rows.proofs.words.copy.copy_row.Statement.{statement}
+use Rattle.rows.proofs.Usual.{arith, needs}
 use Rattle.rows.proofs.words.copy.copy_row.Tie as tie
 
-pub copy-row-spec : {M : Type 1} → statement M
+pub copy-row-spec : {M : Type 1} → Rattle.rows.proofs.words.copy.copy_row.Statement.statement M
 copy-row-spec =
     tie.close
     (tie.spec

@@ -1,9 +1,5 @@
-use mathlib.Core.Path.{refl}
-use Prim.Native.Nat.{_+_, _-_}
-use native.Mathlib.Omega.{arith}
-use lib.ListN.{length, getD}
-use Rattle.rows.proofs.Laws.Blocks.Row.{Upto, upto-none, upto-more, upto-through}
-use Rattle.rows.proofs.words.copy.copy_whole.Statement.{statement}
+use Rattle.rows.proofs.Usual.{refl, _-_, _+_, arith, length, getD, Upto, upto-none, upto-more}
+use Rattle.rows.proofs.Laws.Blocks.Row.{upto-through}
 use Rattle.rows.proofs.words.copy.copy_whole.Tie as tie
 
 -- the first i are read
@@ -20,7 +16,7 @@ Inv-loop2 dst₀ src o n line i j₀ dst j = Upto 0 (λ x. getD line x 0) (lengt
 abbrev μ-loop2 : tie.MeasureT-loop2
 μ-loop2 dst₀ src o n line i j₀ dst j = n - j
 
-pub copy-whole-spec : {M : Type 1} → statement M
+pub copy-whole-spec : {M : Type 1} → Rattle.rows.proofs.words.copy.copy_whole.Statement.statement M
 copy-whole-spec =
     tie.close
     (tie.spec

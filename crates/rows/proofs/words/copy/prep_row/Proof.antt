@@ -1,14 +1,5 @@
-use mathlib.Core.Path.{_∙_}
-use Prim.Native.Nat.{_+_, _-_}
-use native.Mathlib.Omega.{arith}
-use lib.IntN.{pos}
-use lib.ListN.{length, getD}
-use mir.Syntax.{w16}
-use mir.Val.{SFits}
+use Rattle.rows.proofs.Usual.{_∙_, _-_, _+_, arith, pos, length, getD, w16, SFits, Upto, upto-all, upto-none, upto-more, back}
 use Rattle.rows.specs.Copy.{prep}
-use Rattle.rows.proofs.Laws.Numbers.Signed.{back}
-use Rattle.rows.proofs.Laws.Blocks.Row.{Upto, upto-none, upto-more, upto-all}
-use Rattle.rows.proofs.words.copy.prep_row.Statement.{statement}
 use Rattle.rows.proofs.words.copy.prep_row.Tie as tie
 
 abbrev Inv-loop : tie.InvT-loop
@@ -22,7 +13,7 @@ loop-again c =
     let f : SFits w16 (c .prep-px .result) = omega arith in
     upto-more (c .before .before .before .loop .inv) (omega arith) (back f ∙ c .prep-px .ensures)
 
-pub prep-row-spec : {M : Type 1} → statement M
+pub prep-row-spec : {M : Type 1} → Rattle.rows.proofs.words.copy.prep_row.Statement.statement M
 prep-row-spec =
     tie.close
     (tie.spec Inv-loop μ-loop (λ c. upto-none _ _ _)  -- while i < n

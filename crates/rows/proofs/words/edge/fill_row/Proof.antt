@@ -1,9 +1,4 @@
-use mathlib.Core.Path.{refl}
-use Prim.Native.Nat.{_-_}
-use native.Mathlib.Omega.{arith}
-use lib.ListN.{length}
-use Rattle.rows.proofs.Laws.Blocks.Row.{Upto, upto-none, upto-more, upto-all}
-use Rattle.rows.proofs.words.edge.fill_row.Statement.{statement}
+use Rattle.rows.proofs.Usual.{refl, _-_, arith, length, Upto, upto-all, upto-none, upto-more}
 use Rattle.rows.proofs.words.edge.fill_row.Tie as tie
 
 abbrev Inv-loop : tie.InvT-loop
@@ -12,7 +7,7 @@ Inv-loop dst₀ v n i₀ dst i = Upto 0 (λ x. v) (length dst₀) i dst
 abbrev μ-loop : tie.MeasureT-loop
 μ-loop dst₀ v n i₀ dst i = n - i
 
-pub fill-row-spec : {M : Type 1} → statement M
+pub fill-row-spec : {M : Type 1} → Rattle.rows.proofs.words.edge.fill_row.Statement.statement M
 fill-row-spec =
     tie.close
     (tie.spec Inv-loop μ-loop (λ c. upto-none _ _ _)  -- while i < n

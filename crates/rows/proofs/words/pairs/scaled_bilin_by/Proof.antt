@@ -1,11 +1,6 @@
-use native.Mathlib.Omega.{arith}
-use Prim.Native.Nat.{_-_}
-use lib.IntN.{pos}
-use lib.ListN.{length}
+use Rattle.rows.proofs.Usual.{_-_, arith, pos, length, Upto, upto-all, upto-none}
 use Rattle.rows.specs.inner.Scaled.{pairMid}
-use Rattle.rows.proofs.Laws.Blocks.Row.{Upto, upto-none, upto-all}
 use Rattle.rows.proofs.Laws.Filters.Loop.{upto-kept}
-use Rattle.rows.proofs.words.pairs.scaled_bilin_by.Statement.{statement}
 use Rattle.rows.proofs.words.pairs.scaled_bilin_by.Tie as tie
 
 abbrev Inv-loop : tie.InvT-loop
@@ -24,7 +19,7 @@ loop-again : tie.Need-loop-again Inv-loop μ-loop
 loop-again c =
     upto-kept (c .before .before .before .before .loop .inv) (omega arith) (omega arith) (c .scaled-bilin-px .ensures)
 
-pub scaled-bilin-by-spec : {M : Type 1} → statement M
+pub scaled-bilin-by-spec : {M : Type 1} → Rattle.rows.proofs.words.pairs.scaled_bilin_by.Statement.statement M
 scaled-bilin-by-spec =
     tie.close
     (tie.spec Inv-loop μ-loop (λ c. upto-none _ _ _)  -- while i < w

@@ -1,15 +1,7 @@
-use borrow.Author.Needs.{needs}
-use native.Mathlib.Omega.{arith}
-use Prim.Native.Nat.{ℕ, _+_}
-use lib.IntN.{pos}
-use lib.ListN.{getD}
-use mir.Syntax.{w16, w32}
-use mir.Val.{SFits, toZ}
+use Rattle.rows.proofs.Usual.{_+_, ℕ, arith, needs, pos, getD, w32, w16, SFits, toZ, back, rd}
 use Rattle.rows.specs.Bilinear.{R}
-use Rattle.rows.proofs.Laws.Numbers.Signed.{back, rd}
 use Rattle.rows.proofs.Laws.Numbers.Low.{low16-again}
 use Rattle.rows.proofs.Laws.Filters.Bilinear.{Widened, pixel-widened, between-is, half-small}
-use Rattle.rows.proofs.words.pairs.scaled_bilin_px.Statement.{statement}
 use Rattle.rows.proofs.words.pairs.scaled_bilin_px.Tie as tie
 
 pixel : (c : tie.After-shared-slice-known) (k : ℕ) → let x = getD (c .before .args .src .now) k 0 in Widened (toZ w32 x) (pos x)
@@ -33,7 +25,7 @@ returns c =
     let e = between-is (a .f) (pixel s (a .c)) (pixel s (a .c + 1)) (omega arith) (b .bilin-sum .ensures) in
     rw (back fv, c .kept .ensures, e .0, s .before .pre .2) (low16-again _)
 
-pub scaled-bilin-px-spec : {M : Type 1} → statement M
+pub scaled-bilin-px-spec : {M : Type 1} → Rattle.rows.proofs.words.pairs.scaled_bilin_px.Statement.statement M
 scaled-bilin-px-spec =
     tie.close
     (tie.spec

@@ -1,12 +1,6 @@
-use borrow.Author.Needs.{needs}
-use native.Mathlib.Omega.{arith}
-use mathlib.Core.Path.{_≡_, _∙_}
-use lib.ListN.{length}
-use Rattle.rows.specs.Places.{span}
+use Rattle.rows.proofs.Usual.{_≡_, _∙_, arith, needs, length, span, span-length}
 use Rattle.rows.specs.inner.Scaled.{PairsFetched}
-use Rattle.rows.proofs.Laws.Blocks.Places.{span-length}
 use Rattle.rows.proofs.Laws.Filters.Scaled.{part-row}
-use Rattle.rows.proofs.words.pairs.scaled_bilin_row.Statement.{statement}
 use Rattle.rows.proofs.words.pairs.scaled_bilin_row.Tie as tie
 
 -- the part holds what each column reads
@@ -28,7 +22,7 @@ returns-2 c =
     let two : s .args .bits ≡ 2 = omega (arith, t .if1 .left) in
     rw two (c .before .scaled-bilin-by2 .ensures ∙ part-row (s .args .src .now) _ _ _ _ _ (s .pre .2))
 
-pub scaled-bilin-row-spec : {M : Type 1} → statement M
+pub scaled-bilin-row-spec : {M : Type 1} → Rattle.rows.proofs.words.pairs.scaled_bilin_row.Statement.statement M
 scaled-bilin-row-spec =
     tie.close
     (tie.spec

@@ -1,13 +1,6 @@
-use borrow.Author.Needs.{needs}
-use native.Mathlib.Omega.{arith}
-use mathlib.Core.Path.{_∙_}
-use lib.IntN.{pos}
-use mir.Syntax.{w16}
-use mir.Val.{SFits}
-use Rattle.rows.proofs.Laws.Numbers.Signed.{back, fit}
+use Rattle.rows.proofs.Usual.{_∙_, arith, needs, pos, w16, SFits, back, fit}
 use Rattle.rows.proofs.Laws.Filters.Near.{kept-is}
 use Rattle.rows.proofs.Laws.Filters.Scaled.{family-lent, mid-by, mid-whole}
-use Rattle.rows.proofs.words.scaled.scaled_px.Statement.{statement}
 use Rattle.rows.proofs.words.scaled.scaled_px.Tie as tie
 
 returns : tie.Need-returns
@@ -24,7 +17,7 @@ returns-2 c =
     (rw (h .half-power .ensures .0, b .bits-of .ensures) at (c .kept .ensures))
     ∙ mid-by _ _ _ (a .src .now) (a .o) (a .p) (omega arith) (omega arith)
 
-pub scaled-px-spec : {M : Type 1} → statement M
+pub scaled-px-spec : {M : Type 1} → Rattle.rows.proofs.words.scaled.scaled_px.Statement.statement M
 scaled-px-spec =
     tie.close
     (tie.spec

@@ -1,16 +1,8 @@
-use native.Mathlib.Omega.{arith}
-use mathlib.Core.Path.{_∙_}
-use Prim.Native.Nat.{_-_, _^_, _<_}
-use lib.IntN.{pos}
-use lib.ListN.{length, getD}
-use mir.Syntax.{w16}
-use mir.Val.{SFits}
+use Rattle.rows.proofs.Usual.{_∙_, _-_, _<_, _^_, arith, pos, length, getD, w16, SFits, back}
 use Rattle.rows.specs.Scaled.{position, sixteenth, inFamily, scaledMid}
 use Rattle.rows.specs.inner.Scaled.{eightAt}
 use Rattle.rows.proofs.Laws.Blocks.Part.{PartUpto, part-none, part-more, part-all}
 use Rattle.rows.proofs.Laws.Filters.Scaled.{position-lt}
-use Rattle.rows.proofs.Laws.Numbers.Signed.{back}
-use Rattle.rows.proofs.words.scaled.scaled_row.Statement.{statement}
 use Rattle.rows.proofs.words.scaled.scaled_row.Tie as tie
 
 abbrev Inv-loop : tie.InvT-loop
@@ -36,7 +28,7 @@ loop-again c =
     let f : SFits w16 (c .scaled-px .result) = omega arith in
     part-more (c .before .before .before .before .loop .inv) (omega arith) (omega arith) (back f ∙ c .scaled-px .ensures)
 
-pub scaled-row-spec : {M : Type 1} → statement M
+pub scaled-row-spec : {M : Type 1} → Rattle.rows.proofs.words.scaled.scaled_row.Statement.statement M
 scaled-row-spec =
     tie.close
     (tie.spec Inv-loop μ-loop (λ c. part-none _ _ _ _ _)  -- while i < w

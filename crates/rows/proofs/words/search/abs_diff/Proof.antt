@@ -1,12 +1,5 @@
-use borrow.Author.Needs.{needs}
-use native.Mathlib.Omega.{arith}
-use mathlib.Core.Path.{_≡_}
-use Prim.Native.Nat.{_<_}
-use lib.IntN.{ℤ, pos, natAbs, _-ℤ_}
-use mir.Syntax.{w32}
-use mir.Val.{SFits, toZ}
-use Rattle.rows.proofs.Laws.Numbers.Signed.{back, backn, abs-parts, fit-abs, sub-parts, one-part, turned, above}
-use Rattle.rows.proofs.words.search.abs_diff.Statement.{statement}
+use Rattle.rows.proofs.Usual.{_≡_, _<_, arith, needs, pos, ℤ, _-ℤ_, natAbs, w32, SFits, toZ, back, backn, fit-abs, one-part, sub-parts}
+use Rattle.rows.proofs.Laws.Numbers.Signed.{abs-parts, turned, above}
 use Rattle.rows.proofs.words.search.abs_diff.Tie as tie
 
 module _ (s : tie.Start) where
@@ -38,7 +31,7 @@ over c = let s = c .before in above (D s) (simp (a-is s, b-is s, back (fits s)) 
 returns : tie.Need-returns
 returns c = let s = c .before in simp (a-is s, b-is s, back (fits s), under c, back (size s)) (omega (arith, within s))
 
-pub abs-diff-spec : {M : Type 1} → statement M
+pub abs-diff-spec : {M : Type 1} → Rattle.rows.proofs.words.search.abs_diff.Statement.statement M
 abs-diff-spec =
     tie.close
     (tie.spec

@@ -1,8 +1,6 @@
-use Prim.Native.Nat.{_+_, _-_}
-use native.Mathlib.Omega.{arith}
-use Rattle.rows.specs.Numbers.{px, apart}
+use Rattle.rows.proofs.Usual.{_-_, _+_, arith, px}
+use Rattle.rows.specs.Numbers.{apart}
 use Rattle.rows.proofs.Laws.Numbers.Added.{Added, added-none, added-more, added-all}
-use Rattle.rows.proofs.words.search.sad_row.Statement.{statement}
 use Rattle.rows.proofs.words.search.sad_row.Tie as tie
 
 abbrev Inv-loop : tie.InvT-loop
@@ -14,7 +12,7 @@ abbrev μ-loop : tie.MeasureT-loop
 loop-again : tie.Need-loop-again Inv-loop μ-loop
 loop-again c = added-more (c .before .before .before .before .loop .inv) (omega arith) (c .abs-diff .ensures .0) (omega arith)
 
-pub sad-row-spec : {M : Type 1} → statement M
+pub sad-row-spec : {M : Type 1} → Rattle.rows.proofs.words.search.sad_row.Statement.statement M
 sad-row-spec =
     tie.close
     (tie.spec Inv-loop μ-loop (λ c. added-none _ _ _)  -- while i < w

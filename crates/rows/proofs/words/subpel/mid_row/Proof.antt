@@ -1,11 +1,7 @@
-use lib.Dec.{T}
-use mathlib.Core.Path.{sym, subst}
-use native.Mathlib.Omega.{arith}
-use borrow.Author.Needs.{needs}
-use Rattle.rows.proofs.words.subpel.mid_row.Statement.{statement}
+use Rattle.rows.proofs.Usual.{sym, subst, arith, needs, T}
 use Rattle.rows.proofs.words.subpel.mid_row.Tie as tie
 
-pub mid-row-spec : {M : Type 1} → statement M
+pub mid-row-spec : {M : Type 1} → Rattle.rows.proofs.words.subpel.mid_row.Statement.statement M
 mid-row-spec =
     tie.close
     (tie.spec

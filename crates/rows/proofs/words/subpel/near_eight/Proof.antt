@@ -1,12 +1,5 @@
-use native.Mathlib.Omega.{arith}
-use Prim.Native.Nat.{_+_, _*_, _-_}
-use mir.Syntax.{w32}
-use mir.Val.{SFits}
-use Rattle.rows.specs.Numbers.{clip, px}
+use Rattle.rows.proofs.Usual.{_-_, _+_, _*_, arith, w32, SFits, clip, px, Upto, upto-all, upto-none, upto-more, back}
 use Rattle.rows.specs.Subpel.{tapped}
-use Rattle.rows.proofs.Laws.Blocks.Row.{Upto, upto-none, upto-more, upto-all}
-use Rattle.rows.proofs.Laws.Numbers.Signed.{back}
-use Rattle.rows.proofs.words.subpel.near_eight.Statement.{statement}
 use Rattle.rows.proofs.words.subpel.near_eight.Tie as tie
 
 -- the first i are done
@@ -22,7 +15,7 @@ loop-again c =
     let fr : SFits w32 (p .rounded-taps .result) = omega arith in
     upto-more (p .before .before .loop .inv) (omega arith) (rw (c .clip .ensures, back fr, p .rounded-taps .ensures))
 
-pub near-eight-spec : {M : Type 1} → statement M
+pub near-eight-spec : {M : Type 1} → Rattle.rows.proofs.words.subpel.near_eight.Statement.statement M
 near-eight-spec =
     tie.close
     (tie.spec Inv-loop μ-loop (λ c. upto-none 0 _ _)  -- while i < 8

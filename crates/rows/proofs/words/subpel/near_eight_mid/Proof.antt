@@ -1,14 +1,6 @@
-use native.Mathlib.Omega.{arith}
-use Prim.Native.Nat.{_+_, _*_, _-_}
-use lib.IntN.{pos}
-use mir.Syntax.{w16}
-use mir.Val.{toZ}
-use Rattle.rows.specs.Numbers.{low16, minus16, px}
+use Rattle.rows.proofs.Usual.{_-_, _+_, _*_, arith, pos, w16, toZ, px, minus16, low16, Upto, upto-all, upto-none, back}
 use Rattle.rows.specs.Subpel.{tapped}
-use Rattle.rows.proofs.Laws.Blocks.Row.{Upto, upto-none, upto-all}
 use Rattle.rows.proofs.Laws.Filters.Loop.{upto-kept}
-use Rattle.rows.proofs.Laws.Numbers.Signed.{back}
-use Rattle.rows.proofs.words.subpel.near_eight_mid.Statement.{statement}
 use Rattle.rows.proofs.words.subpel.near_eight_mid.Tie as tie
 
 -- the first i are done
@@ -19,7 +11,7 @@ Inv-loop src o f by bias line₀ i₀ line i =
 abbrev μ-loop : tie.MeasureT-loop
 μ-loop src o f by bias line₀ i₀ line i = 8 - i
 
-pub near-eight-mid-spec : {M : Type 1} → statement M
+pub near-eight-mid-spec : {M : Type 1} → Rattle.rows.proofs.words.subpel.near_eight_mid.Statement.statement M
 near-eight-mid-spec =
     tie.close
     (tie.spec Inv-loop μ-loop (λ c. upto-none (pos 0) _ _)  -- while i < 8

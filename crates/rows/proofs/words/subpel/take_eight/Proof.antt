@@ -1,9 +1,4 @@
-use mathlib.Core.Path.{refl}
-use Prim.Native.Nat.{_-_}
-use native.Mathlib.Omega.{arith}
-use lib.ListN.{length, getD}
-use Rattle.rows.proofs.Laws.Blocks.Row.{Upto, upto-none, upto-more, upto-all}
-use Rattle.rows.proofs.words.subpel.take_eight.Statement.{statement}
+use Rattle.rows.proofs.Usual.{refl, _-_, arith, length, getD, Upto, upto-all, upto-none, upto-more}
 use Rattle.rows.proofs.words.subpel.take_eight.Tie as tie
 
 abbrev Inv-loop : tie.InvT-loop
@@ -12,7 +7,7 @@ Inv-loop dst₀ line i₀ dst i = Upto 0 (λ x. getD line x 0) (length dst₀) i
 abbrev μ-loop : tie.MeasureT-loop
 μ-loop dst₀ line i₀ dst i = 8 - i
 
-pub take-eight-spec : {M : Type 1} → statement M
+pub take-eight-spec : {M : Type 1} → Rattle.rows.proofs.words.subpel.take_eight.Statement.statement M
 take-eight-spec =
     tie.close
     (tie.spec Inv-loop μ-loop (λ c. upto-none _ _ _)  -- while i < 8

@@ -1,11 +1,5 @@
-use lib.Dec.{T}
-use lib.IntN.{pos}
-use mathlib.Core.Path.{sym, subst}
-use native.Mathlib.Omega.{arith}
-use borrow.Author.Needs.{needs}
+use Rattle.rows.proofs.Usual.{sym, subst, arith, needs, T, pos, back}
 use Rattle.rows.proofs.Laws.Filters.Near.{row-copied}
-use Rattle.rows.proofs.Laws.Numbers.Signed.{back}
-use Rattle.rows.proofs.words.subpel.tap_mid_row.Statement.{statement}
 use Rattle.rows.proofs.words.subpel.tap_mid_row.Tie as tie
 
 abbrev begin : tie.Then2 → tie.Start
@@ -27,7 +21,7 @@ returns-2 c =
     row-copied (pos 0) _ (t .before .by-eight .ensures (t .if3 .taken)) (c .before .take-eight-mid .ensures)
     (rw (back (begin (t .before .before) .fits .bias)) at (e .near-eight-mid .ensures))
 
-pub tap-mid-row-spec : {M : Type 1} → statement M
+pub tap-mid-row-spec : {M : Type 1} → Rattle.rows.proofs.words.subpel.tap_mid_row.Statement.statement M
 tap-mid-row-spec =
     tie.close
     (tie.spec

@@ -1,9 +1,5 @@
-use lib.Dec.{T}
-use mathlib.Core.Path.{sym, subst}
-use native.Mathlib.Omega.{arith}
-use borrow.Author.Needs.{needs}
+use Rattle.rows.proofs.Usual.{sym, subst, arith, needs, T}
 use Rattle.rows.proofs.Laws.Filters.Near.{row-copied}
-use Rattle.rows.proofs.words.subpel.tap_row.Statement.{statement}
 use Rattle.rows.proofs.words.subpel.tap_row.Tie as tie
 
 abbrev begin : tie.Then2 → tie.Start
@@ -26,7 +22,7 @@ returns-2 c =
     let e = c .before .before .before .before .before in let t = e .before in
     row-copied 0 _ (t .before .by-eight .ensures (t .if3 .taken)) (c .before .before .take-eight .ensures) (e .near-eight .ensures)
 
-pub tap-row-spec : {M : Type 1} → statement M
+pub tap-row-spec : {M : Type 1} → Rattle.rows.proofs.words.subpel.tap_row.Statement.statement M
 tap-row-spec =
     tie.close
     (tie.spec

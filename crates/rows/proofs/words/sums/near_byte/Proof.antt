@@ -1,8 +1,4 @@
-use native.Mathlib.Omega.{arith}
-use mir.Syntax.{w16}
-use mir.Val.{SFits}
-use Rattle.rows.proofs.Laws.Numbers.Signed.{back}
-use Rattle.rows.proofs.words.sums.near_byte.Statement.{statement}
+use Rattle.rows.proofs.Usual.{arith, w16, SFits, back}
 use Rattle.rows.proofs.words.sums.near_byte.Tie as tie
 
 near-tap-u8-requires : tie.Need-near-tap-u8-requires
@@ -23,7 +19,7 @@ returns-2 c =
     let fr : SFits w16 (c .near-tap-u82 .result) = omega arith in
     rw (back fr, c .before .if1 .left) (rw (back (s .fits .acc), back (s .fits .f)) at (c .near-tap-u82 .ensures))
 
-pub near-byte-spec : {M : Type 1} → statement M
+pub near-byte-spec : {M : Type 1} → Rattle.rows.proofs.words.sums.near_byte.Statement.statement M
 near-byte-spec =
     tie.close
     (tie.spec

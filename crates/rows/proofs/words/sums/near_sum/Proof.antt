@@ -1,11 +1,5 @@
-use mathlib.Core.Path.{_∙_}
-use native.Mathlib.Omega.{arith}
-use mir.Syntax.{w32}
-use mir.Val.{SFits}
-use borrow.Author.Needs.{needs}
-use Rattle.rows.proofs.Laws.Numbers.Signed.{back}
+use Rattle.rows.proofs.Usual.{_∙_, arith, needs, w32, SFits, back}
 use Rattle.rows.proofs.Laws.Filters.Near.{parts-fit, whole-is}
-use Rattle.rows.proofs.words.sums.near_sum.Statement.{statement}
 use Rattle.rows.proofs.words.sums.near_sum.Tie as tie
 
 returns : tie.Need-returns
@@ -14,7 +8,7 @@ returns c =
     let fr : SFits w32 (c .near-whole .result) = omega arith in
     rw (back fr) (c .near-whole .ensures .0 ∙ whole-is _ _ (l .before .near-bytes .ensures) (l .near-bytes2 .ensures), c .near-whole .ensures .1)
 
-pub near-sum-spec : {M : Type 1} → statement M
+pub near-sum-spec : {M : Type 1} → Rattle.rows.proofs.words.sums.near_sum.Statement.statement M
 near-sum-spec =
     tie.close
     (tie.spec

@@ -1,10 +1,8 @@
-use native.Mathlib.Omega.{arith}
-use borrow.Author.Needs.{needs}
+use Rattle.rows.proofs.Usual.{arith, needs}
 use Rattle.rows.proofs.Laws.Filters.Near.{rounded-is}
-use Rattle.rows.proofs.words.sums.rounded_taps.Statement.{statement}
 use Rattle.rows.proofs.words.sums.rounded_taps.Tie as tie
 
-pub rounded-taps-spec : {M : Type 1} → statement M
+pub rounded-taps-spec : {M : Type 1} → Rattle.rows.proofs.words.sums.rounded_taps.Statement.statement M
 rounded-taps-spec =
     tie.close
     (tie.spec

@@ -1,11 +1,6 @@
-use native.Mathlib.Omega.{arith}
-use borrow.Author.Needs.{needs}
-use lib.IntN.{pos, _-ℤ_}
-use mir.Syntax.{w16, w32}
-use mir.Val.{SFits}
-use Rattle.rows.proofs.Laws.Numbers.Signed.{back, backn, wide16, reading}
+use Rattle.rows.proofs.Usual.{arith, needs, pos, _-ℤ_, w32, w16, SFits, back, backn, reading}
+use Rattle.rows.proofs.Laws.Numbers.Signed.{wide16}
 use Rattle.rows.proofs.Laws.Filters.Centred.{centred-fits}
-use Rattle.rows.proofs.words.taps.tap_centred.Statement.{statement}
 use Rattle.rows.proofs.words.taps.tap_centred.Tie as tie
 
 short : (s : tie.Start) → SFits w16 (pos (s .args .x) -ℤ pos 32768)
@@ -18,7 +13,7 @@ returns c =
     rw (back fr)
     (rw (back (s .fits .acc), back (s .fits .f), backn w32 (s .args .x) (omega arith), back (wide16 (short s)), back (short s)) at (c .tap-i16 .ensures))
 
-pub tap-centred-spec : {M : Type 1} → statement M
+pub tap-centred-spec : {M : Type 1} → Rattle.rows.proofs.words.taps.tap_centred.Statement.statement M
 tap-centred-spec =
     tie.close
     (tie.spec

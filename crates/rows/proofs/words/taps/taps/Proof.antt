@@ -1,12 +1,6 @@
-use native.Mathlib.Omega.{arith}
-use Prim.Native.Nat.{_+_, _*_, _-_, _^_, _≤_}
-use lib.IntN.{pos, _-ℤ_, _*ℤ_}
-use mir.Syntax.{w8}
-use Rattle.rows.specs.Numbers.{at, px}
-use Rattle.rows.proofs.Laws.Numbers.Signed.{back, fit}
-use Rattle.rows.proofs.Laws.Numbers.Sum.{Summed, summed-none, summed-mag, summed-more, steps-le}
+use Rattle.rows.proofs.Usual.{_-_, _+_, _*_, _≤_, _^_, arith, pos, _*ℤ_, _-ℤ_, w8, at, px, back, fit, steps-le, Summed, summed-mag, summed-none}
+use Rattle.rows.proofs.Usual.{summed-more}
 use Rattle.rows.proofs.Laws.Filters.Centred.{product-fits, whole-fits, centred-whole}
-use Rattle.rows.proofs.words.taps.taps.Statement.{statement}
 use Rattle.rows.proofs.words.taps.taps.Tie as tie
 
 -- s holds the bits of the sum of the first j taps
@@ -32,7 +26,7 @@ returns c =
     let a = h .before .before .args in
     centred-whole (a .f .now) (λ t. px (a .src .now) (a .o + t * a .step)) (c .taps-alone .result) (h .loop .inv .0) (omega arith) (h .loop .inv .1) (c .taps-alone .ensures)
 
-pub taps-spec : {M : Type 1} → statement M
+pub taps-spec : {M : Type 1} → Rattle.rows.proofs.words.taps.taps.Statement.statement M
 taps-spec =
     tie.close
     (tie.spec Inv-loop μ-loop (λ c. (omega arith, summed-none _ _))  -- while j < 8

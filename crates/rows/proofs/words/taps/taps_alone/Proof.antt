@@ -1,12 +1,6 @@
-use native.Mathlib.Omega.{arith}
-use Prim.Native.Nat.{_-_, _≤_}
-use mathlib.Core.Path.{_≡_, refl}
-use mir.Syntax.{w8, w32}
-use mir.Val.{SFits, toZ}
-use Rattle.rows.specs.Numbers.{at}
-use Rattle.rows.proofs.Laws.Numbers.Signed.{back8, fit, mag-add, reading}
-use Rattle.rows.proofs.Laws.Numbers.Sum.{Summed, summed-none, summed-mag, summed-more, summed-is}
-use Rattle.rows.proofs.words.taps.taps_alone.Statement.{statement}
+use Rattle.rows.proofs.Usual.{_≡_, refl, _-_, _≤_, arith, w32, w8, SFits, toZ, at, fit, reading, mag-add, Summed, summed-mag, summed-none, summed-more}
+use Rattle.rows.proofs.Laws.Numbers.Signed.{back8}
+use Rattle.rows.proofs.Laws.Numbers.Sum.{summed-is}
 use Rattle.rows.proofs.words.taps.taps_alone.Tie as tie
 
 abbrev Inv-loop : tie.InvT-loop
@@ -31,7 +25,7 @@ returns c =
     let p = rw e at (h .inv .1) in
     (summed-is p (omega arith), omega (arith, summed-mag p (omega arith)))
 
-pub taps-alone-spec : {M : Type 1} → statement M
+pub taps-alone-spec : {M : Type 1} → Rattle.rows.proofs.words.taps.taps_alone.Statement.statement M
 taps-alone-spec =
     tie.close
     (tie.spec Inv-loop μ-loop (λ c. (omega arith, summed-none _ _))  -- while j < 8

@@ -1,17 +1,7 @@
-use Prim.Native.Nat.{_+_, _*_, _-_, _≤_}
-use native.Mathlib.Omega.{arith}
-use lib.IntN.{pos}
-use lib.ListN.{length}
-use borrow.Author.Needs.{needs}
-use mir.Syntax.{w16, w32}
-use mir.Val.{SFits}
-use Rattle.rows.specs.Numbers.{px, low16}
+use Rattle.rows.proofs.Usual.{_-_, _+_, _*_, _≤_, arith, needs, pos, length, w32, w16, SFits, px, low16, Upto, upto-all, back}
 use Rattle.rows.specs.Warp.{warped}
-use Rattle.rows.proofs.Laws.Numbers.Signed.{back}
-use Rattle.rows.proofs.Laws.Blocks.Row.{Upto, upto-all}
 use Rattle.rows.proofs.Laws.Filters.Loop.{upto-kept}
 use Rattle.rows.proofs.Laws.Filters.Warp.{tap-row, upto-start, length-filter, warp-kept-is}
-use Rattle.rows.proofs.words.warp.warp_column.Statement.{statement}
 use Rattle.rows.proofs.words.warp.warp_column.Tie as tie
 
 abbrev Inv-loop : tie.InvT-loop
@@ -44,7 +34,7 @@ loop-again c =
     upto-kept (f .before .before .loop .inv) (omega arith) fk
     (warp-kept-is (px src) _ _ (f .filter-for .ensures) (t .taps .ensures .0) (rw (back ft) at (c .warp-kept .ensures)))
 
-pub warp-column-spec : {M : Type 1} → statement M
+pub warp-column-spec : {M : Type 1} → Rattle.rows.proofs.words.warp.warp_column.Statement.statement M
 warp-column-spec =
     tie.close
     (tie.spec Inv-loop μ-loop (λ c. upto-start (omega arith))  -- while r < 15

@@ -1,14 +1,8 @@
 -- Made from crates/blocks/proofs/words/order/kinds/put_kind/Proof.antt by tools/sets: change that.
-use native.Mathlib.Omega.{arith}
-use borrow.Author.Needs.{needs}
-use mathlib.Core.Path.{ap, _∙_}
-use Rattle.rows.specs.Places.{fill}
+use Rattle.blocks.proofs.Usual.{_∙_, ap, arith, needs, fill, putRule, before}
 use Rattle.rows.specs.Copy.{put}
-use Rattle.blocks.specs.Window.{before}
-use Rattle.blocks.specs.Order.{putRule}
 use Rattle.blocks.proofs.Laws.Order.Kinds.{copy-ready, subpel-ready, bilin-ready, warp-ready}
 use Rattle.blocks.proofs.Laws.Order.Kinds.{bilin-passed, warp-size, from-window, no-margin}
-use Rattle.blocks.proofs.bytes.order.kinds.put_kind.Statement.{statement}
 use Rattle.blocks.proofs.bytes.order.kinds.put_kind.Tie as tie
 
 copy-requires : tie.Need-put-rows-requires
@@ -64,7 +58,7 @@ warp-returns c =
     let z = warp-size (k .before .before .before .before .pre .0) e in
     rw (z .0, z .1, e) (c .before .before .warp-put .ensures)
 
-pub put-kind-spec : {M : Type 1} → statement M
+pub put-kind-spec : {M : Type 1} → Rattle.blocks.proofs.bytes.order.kinds.put_kind.Statement.statement M
 put-kind-spec =
     tie.close
     (tie.spec

@@ -1,17 +1,9 @@
 -- Made from crates/blocks/proofs/words/order/run/order_window/Proof.antt by tools/sets: change that.
-use borrow.Author.Needs.{needs}
-use mathlib.Core.Path.{_≡_, refl, sym, _∙_}
-use Prim.Native.Nat.{ℕ}
-use lib.ListN.{length}
-use mir.Syntax.{w64}
-use Rattle.blocks.specs.Window.{areaOf}
-use Rattle.blocks.specs.inner.Window.{lentOf}
-use Rattle.blocks.specs.Order.{Tables, Setting, askedBy, orderNumber}
+use Rattle.blocks.proofs.Usual.{_≡_, _∙_, refl, sym, ℕ, needs, length, w64, Setting, Tables, areaOf, lentOf, told-back}
+use Rattle.blocks.specs.Order.{askedBy, orderNumber}
 use Rattle.blocks.specs.inner.Order.{settingOf, lengthsOf}
-use Rattle.blocks.proofs.Laws.Calls.Told.{told-back}
 use Rattle.blocks.proofs.Laws.Window.Ready.{Accepted, accepted-small, accepted-ready}
 use Rattle.blocks.proofs.Laws.Order.Run.{tables-of, refused-part, refused-scratch, order-accepted, fetched-part, fetched-scratch}
-use Rattle.blocks.proofs.bytes.order.run.order_window.Statement.{statement}
 use Rattle.blocks.proofs.bytes.order.run.order_window.Tie as tie
 
 -- the function's entry
@@ -63,7 +55,7 @@ returns-2 c =
       full = fetched-scratch _ _ _ (accepted e) (area-is a) (g .fetch .ensures .0) (g .fetch .ensures .1);
     }
 
-pub order-window-spec : {M : Type 1} → statement M
+pub order-window-spec : {M : Type 1} → Rattle.blocks.proofs.bytes.order.run.order_window.Statement.statement M
 order-window-spec =
     tie.close
     (tie.spec

@@ -1,10 +1,6 @@
 -- Made from crates/blocks/proofs/words/subpel/lines/put_line_row/Proof.antt by tools/sets: change that.
-use mathlib.Core.Path.{_∙_}
-use Rattle.rows.proofs.Laws.Blocks.Places.{row-same}
-use borrow.Author.Needs.{needs}
-use native.Mathlib.Omega.{arith}
+use Rattle.blocks.proofs.Usual.{_∙_, arith, needs, row-same}
 use Rattle.blocks.proofs.Laws.Subpel.Lines.{put-none, put-some}
-use Rattle.blocks.proofs.bytes.subpel.lines.put_line_row.Statement.{statement}
 use Rattle.blocks.proofs.bytes.subpel.lines.put_line_row.Tie as tie
 
 returns : tie.Need-returns
@@ -18,7 +14,7 @@ returns-2 c =
     let t = c .before .before .before .before in
     c .before .before .tap-row .ensures ∙ row-same 0 _ _ _ (λ i b. put-some _ _ _ _ _ _ (omega (arith, t .if1 .left)))
 
-pub put-line-row-spec : {M : Type 1} → statement M
+pub put-line-row-spec : {M : Type 1} → Rattle.blocks.proofs.bytes.subpel.lines.put_line_row.Statement.statement M
 put-line-row-spec =
     tie.close
     (tie.spec

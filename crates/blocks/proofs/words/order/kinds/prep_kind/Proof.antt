@@ -1,13 +1,8 @@
-use native.Mathlib.Omega.{arith}
-use borrow.Author.Needs.{needs}
-use mathlib.Core.Path.{ap, _∙_}
-use Rattle.rows.specs.Places.{fill}
+use Rattle.blocks.proofs.Usual.{_∙_, ap, arith, needs, fill, before}
 use Rattle.rows.specs.Copy.{prep}
-use Rattle.blocks.specs.Window.{before}
 use Rattle.blocks.specs.Order.{prepRule}
 use Rattle.blocks.proofs.Laws.Order.Kinds.{copy-ready, subpel-ready, bilin-ready, warp-ready}
 use Rattle.blocks.proofs.Laws.Order.Kinds.{bilin-passed, warp-size, from-window, no-margin}
-use Rattle.blocks.proofs.words.order.kinds.prep_kind.Statement.{statement}
 use Rattle.blocks.proofs.words.order.kinds.prep_kind.Tie as tie
 
 copy-requires : tie.Need-prep-rows-requires
@@ -66,7 +61,7 @@ warp-returns c =
     let z = warp-size (k .before .before .before .pre .0) e in
     rw (z .0, z .1, e) (c .before .warp-prep .ensures)
 
-pub prep-kind-spec : {M : Type 1} → statement M
+pub prep-kind-spec : {M : Type 1} → Rattle.blocks.proofs.words.order.kinds.prep_kind.Statement.statement M
 prep-kind-spec =
     tie.close
     (tie.spec

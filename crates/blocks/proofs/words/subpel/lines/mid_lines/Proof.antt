@@ -1,16 +1,8 @@
-use mathlib.Core.Path.{_≡_, sym, _∙_}
-use mathlib.Core.Bool.{true}
-use borrow.Author.Tests.{leb-true}
+use Rattle.blocks.proofs.Usual.{true, _≡_, _∙_, sym, _*_, _+_, _-_, arith, needs, leb-true, length, at, clip, half, Filled, filled-none, block-loop}
+use Rattle.blocks.proofs.Usual.{filled-more}
 use Rattle.rows.specs.inner.Subpel.{Near}
-use native.Mathlib.Omega.{arith}
-use Prim.Native.Nat.{_+_, _-_, _*_}
-use lib.ListN.{length}
-use borrow.Author.Needs.{needs}
-use Rattle.rows.specs.Numbers.{at, half, clip}
 use Rattle.rows.specs.Subpel.{tapped}
-use Rattle.blocks.proofs.Laws.Loops.Rows.{Filled, filled-none, filled-more, block-loop}
 use Rattle.blocks.proofs.Laws.Subpel.Lines.{Turn, turn}
-use Rattle.blocks.proofs.words.subpel.lines.mid_lines.Statement.{statement}
 use Rattle.blocks.proofs.words.subpel.lines.mid_lines.Tie as tie
 
 abbrev Inv-loop : tie.InvT-loop
@@ -40,7 +32,7 @@ near c e = leb-true _ _ (sym (c .before .before .is-near .ensures) ∙ e)
 mid-row-requires : tie.Need-mid-row-requires Inv-loop μ-loop
 mid-row-requires c κs = let t = c .before in let p = entry t .pre in (omega (arith, row t), omega arith, omega (arith, p), near t, p .3)
 
-pub mid-lines-spec : {M : Type 1} → statement M
+pub mid-lines-spec : {M : Type 1} → Rattle.blocks.proofs.words.subpel.lines.mid_lines.Statement.statement M
 mid-lines-spec =
     tie.close
     (tie.spec Inv-loop μ-loop

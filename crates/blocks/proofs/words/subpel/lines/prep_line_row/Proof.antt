@@ -1,12 +1,5 @@
-use mathlib.Core.Path.{_∙_}
-use Rattle.rows.proofs.Laws.Blocks.Places.{row-same}
-use lib.IntN.{pos}
-use borrow.Author.Needs.{needs}
-use native.Mathlib.Omega.{arith}
-use mir.Syntax.{w16}
-use Rattle.rows.proofs.Laws.Numbers.Signed.{backn}
+use Rattle.blocks.proofs.Usual.{_∙_, arith, needs, pos, w16, row-same, backn}
 use Rattle.blocks.proofs.Laws.Subpel.Lines.{prep-none, prep-some, half-short}
-use Rattle.blocks.proofs.words.subpel.lines.prep_line_row.Statement.{statement}
 use Rattle.blocks.proofs.words.subpel.lines.prep_line_row.Tie as tie
 
 returns : tie.Need-returns
@@ -29,7 +22,7 @@ tap-mid-row-requires c κs =
     let p = h .before .before .before .pre in
     (p .0, half-short (h .half-power .ensures .0) (p .1), omega arith, p .2)
 
-pub prep-line-row-spec : {M : Type 1} → statement M
+pub prep-line-row-spec : {M : Type 1} → Rattle.blocks.proofs.words.subpel.lines.prep_line_row.Statement.statement M
 prep-line-row-spec =
     tie.close
     (tie.spec

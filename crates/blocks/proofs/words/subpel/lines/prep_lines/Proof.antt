@@ -1,16 +1,7 @@
-use mathlib.Core.Path.{_≡_, sym, _∙_}
-use mathlib.Core.Bool.{true}
-use borrow.Author.Tests.{leb-true}
+use Rattle.blocks.proofs.Usual.{true, _≡_, _∙_, sym, _-_, arith, needs, leb-true, pos, length, Filled, filled-none, block-loop, filled-more}
 use Rattle.rows.specs.inner.Subpel.{Near}
-use native.Mathlib.Omega.{arith}
-use Prim.Native.Nat.{_-_}
-use lib.ListN.{length}
-use lib.IntN.{pos}
-use borrow.Author.Needs.{needs}
 use Rattle.blocks.specs.inner.Subpel.{prepLine, along}
-use Rattle.blocks.proofs.Laws.Loops.Rows.{Filled, filled-none, filled-more, block-loop}
 use Rattle.blocks.proofs.Laws.Subpel.Lines.{Turn, turn}
-use Rattle.blocks.proofs.words.subpel.lines.prep_lines.Statement.{statement}
 use Rattle.blocks.proofs.words.subpel.lines.prep_lines.Tie as tie
 
 abbrev Inv-loop : tie.InvT-loop
@@ -43,7 +34,7 @@ prep-line-row-requires c κs =
     let p = entry t .pre in
     (omega (arith, row t), omega (arith, p), near t, p .3, p .4)
 
-pub prep-lines-spec : {M : Type 1} → statement M
+pub prep-lines-spec : {M : Type 1} → Rattle.blocks.proofs.words.subpel.lines.prep_lines.Statement.statement M
 prep-lines-spec =
     tie.close
     (tie.spec Inv-loop μ-loop

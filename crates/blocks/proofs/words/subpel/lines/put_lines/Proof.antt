@@ -1,15 +1,7 @@
-use mathlib.Core.Path.{_≡_, sym, _∙_}
-use mathlib.Core.Bool.{true}
-use borrow.Author.Tests.{leb-true}
+use Rattle.blocks.proofs.Usual.{true, _≡_, _∙_, sym, _-_, arith, needs, leb-true, length, Filled, filled-none, block-loop}
 use Rattle.rows.specs.inner.Subpel.{Near}
-use native.Mathlib.Omega.{arith}
-use Prim.Native.Nat.{_-_}
-use lib.ListN.{length}
-use borrow.Author.Needs.{needs}
 use Rattle.blocks.specs.inner.Subpel.{putLine, along}
-use Rattle.blocks.proofs.Laws.Loops.Rows.{Filled, filled-none, block-loop}
 use Rattle.blocks.proofs.Laws.Subpel.Lines.{Turn, turn}
-use Rattle.blocks.proofs.words.subpel.lines.put_lines.Statement.{statement}
 use Rattle.blocks.proofs.words.subpel.lines.put_lines.Tie as tie
 
 abbrev Inv-loop : tie.InvT-loop
@@ -37,7 +29,7 @@ put-line-row-requires c κs =
     let p = entry t .pre in
     (omega (arith, row t), p .1, omega (arith, p), near t, p .4)
 
-pub put-lines-spec : {M : Type 1} → statement M
+pub put-lines-spec : {M : Type 1} → Rattle.blocks.proofs.words.subpel.lines.put_lines.Statement.statement M
 put-lines-spec =
     tie.close
     (tie.spec Inv-loop μ-loop
