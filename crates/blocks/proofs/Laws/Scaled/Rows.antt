@@ -1,13 +1,13 @@
 -- Scaled blocks: the last filtered rows as they come in and as they are read. Assumes nothing.
-use Rattle.blocks.proofs.Usual.{List, _≡_, _∙_, refl, sym, ap, ap₂, ℕ, _≤_, _*_, _+_, _-_, _<_, suc, zero, _%_, arith, ne-eqb, pos, ℤ, _+ℤ_, _*ℤ_}
-use Rattle.blocks.proofs.Usual.{length, getD, up, at, dn, splice, rowOf, by-lt, row-same, length-rowOf, add-parts, eq-of}
+use Rattle.blocks.proofs.Usual.{List, _≡_, _∙_, refl, sym, ap, ℕ, _≤_, _*_, _+_, _-_, _<_, suc, zero, _%_, arith, ne-eqb, pos, ℤ, _+ℤ_, _*ℤ_}
+use Rattle.blocks.proofs.Usual.{length, getD, at, splice, rowOf, by-lt, row-same, length-rowOf, add-parts, eq-of}
 use borrow.Author.Tests.{eq-eqb}
 use Rattle.rows.specs.Numbers.{sumZ, _>>_}
 use Rattle.rows.specs.Subpel.{S, tapped}
 use Rattle.rows.proofs.Laws.Blocks.Places.{getD-rowOf, splice-before, splice-in, splice-after, splice-length}
 use Rattle.rows.proofs.Laws.Filters.Taps.{sum-same}
 use Rattle.rows.specs.Scaled.{pixelOf, sixteenth}
-use Rattle.blocks.specs.inner.Scaled.{LastEight, LastTwo, Turned, byParity}
+use Rattle.blocks.specs.inner.Scaled.{LastEight, Turned, byParity}
 
 -- ---- rows that stand side by side in place of rows in their order: a sum of eight goes round
 

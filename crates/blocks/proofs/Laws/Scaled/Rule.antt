@@ -1,7 +1,7 @@
 -- Scaled blocks: what the plan's rows give is the rule on the pixels around a place. Assumes nothing.
-use Rattle.blocks.proofs.Usual.{List, _≡_, _∙_, refl, ap, ap₂, ℕ, _≤_, _*_, _+_, _-_, _<_, _^_, arith, pos, ℤ, getD, up, clip, minus16, half, px, low16}
+use Rattle.blocks.proofs.Usual.{List, _≡_, _∙_, ap, ap₂, ℕ, _≤_, _*_, _+_, _-_, _<_, _^_, arith, pos, ℤ, getD, up, clip, minus16, half, px, low16}
 use Rattle.blocks.proofs.Usual.{fill, around, fill-same}
-use Rattle.rows.specs.Subpel.{Axis, whole, by, family, tapped}
+use Rattle.rows.specs.Subpel.{Axis, whole, by}
 use Rattle.rows.specs.Bilinear.{bilin, R, along, bilinMid}
 use Rattle.rows.specs.Scaled.{position, pixelOf, sixteenth, inFamily, scaledMid, putDown, prepDown, putScaled, prepScaled, putBilinScaled, prepBilinScaled}
 use Rattle.rows.proofs.Laws.Filters.Taps.{tapped-same}

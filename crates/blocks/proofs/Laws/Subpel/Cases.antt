@@ -1,5 +1,5 @@
 -- 8-tap: what the rows of a plan read and compute is the pixel rule on the pixels around a place, in each of the four cases. Assumes nothing.
-use Rattle.blocks.proofs.Usual.{true, Bool, false, List, _≡_, _∙_, refl, sym, ap, ap₂, ℕ, _≤_, _*_, _+_, _-_, _<_, _^_, suc, zero, min, arith, pos, ℤ}
+use Rattle.blocks.proofs.Usual.{true, Bool, false, List, _≡_, _∙_, refl, sym, ap, ap₂, ℕ, _≤_, _*_, _+_, _-_, _<_, suc, zero, min, arith, pos, ℤ}
 use Rattle.blocks.proofs.Usual.{negsuc, length, getD, up, at, clip, minus16, half, px, low16, fill, around, Rows, Block, fill-same, fill-in}
 use mathlib.Core.Bool.{true≢false}
 use Rattle.rows.specs.Copy.{prep}

@@ -35,10 +35,7 @@ returns-2 c =
     (sizes-pass _ _ _ (sym (t .before .sizes .ensures) ∙ t .if1 .left))
 
 pub check-bilin-spec : {M : Type 1} → Rattle.blocks.proofs.bilinear.check_bilin.Statement.statement M
-check-bilin-spec =
-    tie.close
-    (tie.spec
-    (λ c κs. search needs) returns (λ c κs. search needs) (λ c κs. search needs)  -- sizes, held, on-axis
+check-bilin-spec = tie.close (tie.spec (λ c κs. search needs) returns (λ c κs. search needs) (λ c κs. search needs)  -- sizes, held, on-axis
     (λ c. omega (arith, block (c .before .before), c .on-axis .ensures))  -- add-held
     (λ c κs. search needs)  -- on-axis-requires-2
     (λ c. omega (arith, block (c .before .before .before), c .on-axis2 .ensures))  -- add-held-2

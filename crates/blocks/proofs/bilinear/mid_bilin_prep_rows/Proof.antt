@@ -21,9 +21,7 @@ row : (c : tie.In-loop Inv-loop μ-loop) → let a = entry c .args in
 row c = turn (pos 0) (entry c .pre) (c .before .loop .inv) (c .loop-test .taken)
 
 pub mid-bilin-prep-rows-spec : {M : Type 1} → Rattle.blocks.proofs.bilinear.mid_bilin_prep_rows.Statement.statement M
-mid-bilin-prep-rows-spec =
-    tie.close
-    (tie.spec Inv-loop μ-loop
+mid-bilin-prep-rows-spec = tie.close (tie.spec Inv-loop μ-loop
     (λ c. filled-none (pos 0) _ _ _ _ _ (omega (arith, c .pre)))  -- loop-holds
     (λ c. omega (arith, row c)) (λ c. omega (arith, row c))  -- y * ts, d + w
     (λ c. omega (arith, row c)) (λ c. omega (arith, row c)) (λ c. omega (arith, row c)) (λ c. omega (arith, row c))  -- tmp[d..d + w]

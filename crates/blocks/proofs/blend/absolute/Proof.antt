@@ -13,9 +13,7 @@ fits : (c : tie.Then1) → SFits w32 (pos (mag (c .before .args .v)))
 fits c = fit w32 (c .before .fits .v .sfits)
 
 pub absolute-spec : {M : Type 1} → Rattle.blocks.proofs.blend.absolute.Statement.statement M
-absolute-spec =
-    tie.close
-    (tie.spec (λ c. rw (minus c) (fits c)) (λ c. rw (backs w32 (minus c) (fits c)) (omega (signed, fits c)))  -- (-1 - v) as u32
+absolute-spec = tie.close (tie.spec (λ c. rw (minus c) (fits c)) (λ c. rw (backs w32 (minus c) (fits c)) (omega (signed, fits c)))  -- (-1 - v) as u32
     (λ c. rw (backs w32 (minus c) (fits c)) (omega (arith, fits c)))  -- + 1
     (λ c. omega (signed, rd (c .before .fits .v)))  -- v as u32
     (λ c. rw (backs w32 (minus c) (fits c)) (omega (arith, below (c .before .args .v) (under c))))  -- returns

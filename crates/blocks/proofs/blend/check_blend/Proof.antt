@@ -12,8 +12,6 @@ returns c =
     )
 
 pub check-blend-spec : {M : Type 1} → Rattle.blocks.proofs.blend.check_blend.Statement.statement M
-check-blend-spec =
-    tie.close
-    (tie.spec
+check-blend-spec = tie.close (tie.spec
     (λ c κs. search needs) (λ c κs. search needs) (λ c κs. search needs) (λ c κs. search needs) (λ c κs. search needs)  -- held, stride, sizes
     returns)

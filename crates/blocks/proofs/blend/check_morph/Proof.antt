@@ -18,9 +18,7 @@ returns c =
     )
 
 pub check-morph-spec : {M : Type 1} → Rattle.blocks.proofs.blend.check_morph.Statement.statement M
-check-morph-spec =
-    tie.close
-    (tie.spec
+check-morph-spec = tie.close (tie.spec
     (λ c κs. search needs) (λ c κs. search needs) (λ c κs. search needs) (λ c κs. search needs) (λ c κs. search needs)  -- held, absolute, needed
     (λ c κs. search needs) (λ c κs. search needs) (λ c κs. search needs)  -- needed, stride, sizes
     returns)

@@ -50,9 +50,7 @@ returns-2 c =
     (t .before .before .search-test .taken) (t .loop-test .taken) (c .if1 .taken)
 
 pub find-above-spec : {M : Type 1} → Rattle.blocks.proofs.blend.find_above.Statement.statement M
-find-above-spec =
-    tie.close
-    (tie.spec Inv-loop μ-loop
+find-above-spec = tie.close (tie.spec Inv-loop μ-loop
     Inv-search
     μ-search
     (λ c. (omega arith, refl, λ i b. absurd (omega (arith, zero-mul (c .args .w)))))  -- search-holds

@@ -16,9 +16,6 @@ returns c =
     spot-none l (t .args .w) (t .args .h) (at-most-wider (m .result) l 64 n (c .if1 .taken) (m .ensures)) (t .pre .0 .w1)
 
 pub first-above-spec : {M : Type 1} → Rattle.blocks.proofs.blend.first_above.Statement.statement M
-first-above-spec =
-    tie.close
-    (tie.spec
-    (λ c. omega (arith, all (c .before)))  -- mul-largest
+first-above-spec = tie.close (tie.spec (λ c. omega (arith, all (c .before)))  -- mul-largest
     (λ c κs. all (c .before))  -- largest-requires
     returns (λ c κs. search needs) (λ c. search needs))  -- find-above, returns

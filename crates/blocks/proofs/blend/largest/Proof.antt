@@ -17,9 +17,7 @@ loop-again c =
     (omega arith, at-most-more (c .larger .result) l (t .loop .i) w (c .larger .ensures .1))
 
 pub largest-spec : {M : Type 1} → Rattle.blocks.proofs.blend.largest.Statement.statement M
-largest-spec =
-    tie.close
-    (tie.spec Inv-loop μ-loop
+largest-spec = tie.close (tie.spec Inv-loop μ-loop
     (λ c. (omega arith, at-most-none 0 (c .before .args .mask .now) 0))  -- loop-holds
     (λ c. search needs) (λ c κs. search needs) (λ c. search needs) (λ c. search needs)  -- shared-slice-read-larger, larger, add-i, loop-less
     loop-again

@@ -18,8 +18,6 @@ returns c =
     )
 
 pub check-edge-spec : {M : Type 1} → Rattle.blocks.proofs.edge.check_edge.Statement.statement M
-check-edge-spec =
-    tie.close
-    (tie.spec
+check-edge-spec = tie.close (tie.spec
     (λ c κs. search needs) (λ c κs. search needs) (λ c κs. search needs) (λ c κs. search needs) (λ c κs. search needs)  -- held, places, stride
     (λ c κs. search needs) (λ c κs. search needs) returns)  -- sides

@@ -11,10 +11,7 @@ returns c =
     (e, rw e (clip-below (s .args .ih) (s .args .y +ℤ pos (s .args .j)) (s .pre .2)))
 
 pub nearest-row-spec : {M : Type 1} → Rattle.blocks.proofs.edge.nearest_row.Statement.statement M
-nearest-row-spec =
-    tie.close
-    (tie.spec
-    (λ c. fit w64 (omega arith))  -- cast-left-of
+nearest-row-spec = tie.close (tie.spec (λ c. fit w64 (omega arith))  -- cast-left-of
     (λ c. row c .fits)  -- add-left-of
     (λ c. search needs)  -- sub-left-of
     (λ c κs. (omega arith, row c .nearest, omega arith))  -- left-of-requires

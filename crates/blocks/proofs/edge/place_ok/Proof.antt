@@ -8,7 +8,4 @@ unfolding placeOk
 returns c = rw (back (c .fits .x)) (within-both 1073741823 (c .args .x))
 
 pub place-ok-spec : {M : Type 1} → Rattle.blocks.proofs.edge.place_ok.Statement.statement M
-place-ok-spec =
-    tie.close
-    (tie.spec
-    returns)
+place-ok-spec = tie.close (tie.spec returns)

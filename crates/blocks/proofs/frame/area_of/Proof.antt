@@ -22,10 +22,7 @@ returns c plane mode =
     rw (top-is c, left-is l, p .plane-h .ensures, p .before .plane-w .ensures, t .window-side2 .ensures, t .before .window-side .ensures) refl
 
 pub area-of-spec : {M : Type 1} → Rattle.blocks.proofs.frame.area_of.Statement.statement M
-area-of-spec =
-    tie.close
-    (tie.spec
-    (λ c κs. c .before .pre .0)  -- window-side-requires
+area-of-spec = tie.close (tie.spec (λ c κs. c .before .pre .0)  -- window-side-requires
     (λ c κs. c .before .before .pre .1)  -- window-side-requires-2
     (λ c κs. search needs) (λ c κs. search needs)  -- plane-w, plane-h
     (λ c κs. let s = c .before .before .before .before .before in rw (back (s .fits .x)) (s .pre .2))  -- window-start-requires

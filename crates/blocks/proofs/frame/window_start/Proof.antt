@@ -11,10 +11,7 @@ is : (c : tie.After-before2) → toZ w64 (ofZ w64 (c .before .args .x)) -ℤ toZ
 is c = rw (c .before2 .ensures, back (c .before .fits .x), backn w64 (before (c .before .args .kind)) (omega (arith, margins (c .before .args .kind)))) refl
 
 pub window-start-spec : {M : Type 1} → Rattle.blocks.proofs.frame.window_start.Statement.statement M
-window-start-spec =
-    tie.close
-    (tie.spec
-    (λ c κs. search needs)  -- before-requires
+window-start-spec = tie.close (tie.spec (λ c κs. search needs)  -- before-requires
     (λ c. fit w64 (omega (arith, c .before2 .ensures, margins (c .before .args .kind))))  -- cast-result
     (λ c. rw (is c) (fits c))  -- sub-result
     (λ c. rw (is c) (back (fits c))))  -- returns

@@ -20,10 +20,7 @@ cast-result-2 c =
     rw (back f) (rw e tt, omega (arith, abs-mag (c .before .args .v)))
 
 pub abs64-spec : {M : Type 1} → Rattle.blocks.proofs.numbers.abs64.Statement.statement M
-abs64-spec =
-    tie.close
-    (tie.spec
-    (λ c. rw (back (c .before .fits .v), flip (v c) (test c)) (m c))  -- sub-result
+abs64-spec = tie.close (tie.spec (λ c. rw (back (c .before .fits .v), flip (v c) (test c)) (m c))  -- sub-result
     (λ c. rw (back (c .before .fits .v), flip (v c) (test c), back (m c)) (tt, omega (arith, c .before .fits .v)))  -- cast-result
     (λ c. rw (back (c .before .fits .v), flip (v c) (test c), back (m c)) (omega (arith, c .before .fits .v)))  -- add-result
     cast-result-2

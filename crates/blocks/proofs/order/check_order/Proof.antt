@@ -58,8 +58,6 @@ returns-3 c depth plane tables l t =
     (order-go (tested (e .before .before) depth plane tables) _ _ _ _ _ (none e) (no-number n))
 
 pub check-order-spec : {M : Type 1} → Rattle.blocks.proofs.order.check_order.Statement.statement M
-check-order-spec =
-    tie.close
-    (tie.spec
+check-order-spec = tie.close (tie.spec
     (λ c κs. search needs) returns (λ c κs. search needs) returns-2 (λ c κs. search needs)  -- order-shape, order-numbers, held
     (λ c κs. search needs) window-held-requires order-tables-requires returns-3)  -- kind-number

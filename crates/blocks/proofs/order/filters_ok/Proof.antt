@@ -29,8 +29,6 @@ returns-4 c =
     rw (k .k2 .given .1, c .filters-there .ensures)
 
 pub filters-ok-spec : {M : Type 1} → Rattle.blocks.proofs.order.filters_ok.Statement.statement M
-filters-ok-spec =
-    tie.close
-    (tie.spec
+filters-ok-spec = tie.close (tie.spec
     (λ c. search needs) (λ c. search needs) (λ c κs. search needs) (λ c κs. search needs) (λ c. search needs)  -- enum-told, enum-known-k, filter-in
     (λ c. search needs) filters-there-requires returns returns-2 returns-3 returns-4)  -- enum-known-k

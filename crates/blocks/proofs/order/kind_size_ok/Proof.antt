@@ -18,7 +18,5 @@ unfolding kindSizeOk
 returns-4 c = rw (c .enum-told4 .given .1) refl
 
 pub kind-size-ok-spec : {M : Type 1} → Rattle.blocks.proofs.order.kind_size_ok.Statement.statement M
-kind-size-ok-spec =
-    tie.close
-    (tie.spec
+kind-size-ok-spec = tie.close (tie.spec
     (λ c. search needs) (λ c. search needs) (λ c. search needs) (λ c. search needs) returns returns-2 returns-3 returns-4)  -- enum-told

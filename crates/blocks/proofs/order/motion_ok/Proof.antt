@@ -31,9 +31,7 @@ returns-4 c =
     rw (warp-passed (s .before .before .k3 .given .1) (s .struct-told6 .given), x .within .ensures, c .within2 .ensures)
 
 pub motion-ok-spec : {M : Type 1} → Rattle.blocks.proofs.order.motion_ok.Statement.statement M
-motion-ok-spec =
-    tie.close
-    (tie.spec
+motion-ok-spec = tie.close (tie.spec
     (λ c. search needs) (λ c. search needs) (λ c κs. search needs) (λ c κs. search needs)  -- enum-told, enum-known-k, type-ok, fraction-ok
     (λ c κs. search needs) (λ c. search needs) (λ c κs. search needs) (λ c κs. search needs)  -- fraction-ok, enum-known-k, sixteenth-ok
     (λ c. search needs) (λ c κs. search needs) (λ c κs. search needs) returns returns-2 returns-3 returns-4)  -- enum-known-k, within

@@ -17,8 +17,6 @@ returns c =
     )
 
 pub order-numbers-spec : {M : Type 1} → Rattle.blocks.proofs.order.order_numbers.Statement.statement M
-order-numbers-spec =
-    tie.close
-    (tie.spec
+order-numbers-spec = tie.close (tie.spec
     (λ c κs. search needs) (λ c κs. search needs) (λ c κs. search needs) (λ c κs. search needs)  -- motion-ok, needed, places, frame-names-ok
     (λ c κs. search needs) (λ c κs. search needs) (λ c κs. search needs) returns)  -- needed

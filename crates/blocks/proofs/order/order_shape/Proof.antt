@@ -16,8 +16,6 @@ returns c =
     )
 
 pub order-shape-spec : {M : Type 1} → Rattle.blocks.proofs.order.order_shape.Statement.statement M
-order-shape-spec =
-    tie.close
-    (tie.spec
+order-shape-spec = tie.close (tie.spec
     (λ c κs. search needs) (λ c κs. search needs) (λ c κs. search needs) (λ c κs. search needs)  -- plane-w, stride, kind-size-ok
     (λ c κs. search needs) (λ c κs. search needs) (λ c κs. search needs) (λ c κs. search needs) returns)  -- needed, sizes, frame-sizes-ok

@@ -21,9 +21,7 @@ returns c plane long =
     ) refl
 
 pub check-row-spec : {M : Type 1} → Rattle.blocks.proofs.plane_row.check_row.Statement.statement M
-check-row-spec =
-    tie.close
-    (tie.spec
+check-row-spec = tie.close (tie.spec
     (λ c κs. search needs) (λ c κs. search needs) (λ c κs. search needs) (λ c κs. search needs)  -- plane-w, plane-h, held, frame-names-ok
     (λ c κs. search needs) (λ c κs. search needs) (λ c κs. search needs) (λ c κs. search needs)  -- row-ok, needed, frame-sizes-ok
     (λ c κs. search needs) (λ c κs. search needs) returns)  -- stride, needed

@@ -29,8 +29,5 @@ returns-2 c plane l =
     rw (row-is (c .before), c .plane-w .ensures) (sym (done _ _ _ (sym (is (e .before) plane l) ∙ e .if1 .left)))
 
 pub row-at-spec : {M : Type 1} → Rattle.blocks.proofs.plane_row.row_at.Statement.statement M
-row-at-spec =
-    tie.close
-    (tie.spec
-    (λ c κs. search needs) (λ c κs. search needs) returns (λ c κs. search needs) mul-place  -- check-row, no-part, up64
+row-at-spec = tie.close (tie.spec (λ c κs. search needs) (λ c κs. search needs) returns (λ c κs. search needs) mul-place  -- check-row, no-part, up64
     (λ c κs. search needs) returns-2)  -- plane-w

@@ -12,7 +12,4 @@ returns-2 c =
     ∙ from-none (s .args .row) (s .args .h) (rw (back (s .fits .row)) at (c .before .if1 .left))
 
 pub row-ok-spec : {M : Type 1} → Rattle.blocks.proofs.plane_row.row_ok.Statement.statement M
-row-ok-spec =
-    tie.close
-    (tie.spec
-    (λ c κs. search needs) returns returns-2)  -- up64
+row-ok-spec = tie.close (tie.spec (λ c κs. search needs) returns returns-2)  -- up64

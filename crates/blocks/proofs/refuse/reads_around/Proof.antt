@@ -30,10 +30,7 @@ returns-3 c =
     rw (le-leb (a .c * a .s + a .b) (a .o) (omega arith)) (moved ((a .h - 1 + a .d) * a .s) (a .w - 1 + a .e) (a .o) (a .sl) (omega arith))
 
 pub reads-around-spec : {M : Type 1} → Rattle.blocks.proofs.refuse.reads_around.Statement.statement M
-reads-around-spec =
-    tie.close
-    (tie.spec
-    (λ c. search needs) (λ c. search needs)  -- sub-last, add-last
+reads-around-spec = tie.close (tie.spec (λ c. search needs) (λ c. search needs)  -- sub-last, add-last
     (λ c. omega (arith, small c))  -- mul-last
     (λ c. search needs) (λ c. search needs)  -- sub-last-2, add-last-2
     (λ c. omega (arith, small c)) (λ c. omega (arith, small c)) (λ c. omega (arith, small c))  -- add-last-3, mul-if1, add-if1

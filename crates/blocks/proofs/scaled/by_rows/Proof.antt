@@ -10,9 +10,7 @@ abbrev μ-loop : tie.MeasureT-loop
 μ-loop first f g₀ k₀ g k = 8 - k
 
 pub by-rows-spec : {M : Type 1} → Rattle.blocks.proofs.scaled.by_rows.Statement.statement M
-by-rows-spec =
-    tie.close
-    (tie.spec Inv-loop μ-loop (λ c. upto-none _ _ _)
+by-rows-spec = tie.close (tie.spec Inv-loop μ-loop (λ c. upto-none _ _ _)
     (λ c. omega arith) (λ c. omega arith) (λ c. omega arith)  -- f[(k + 8 - first) % 8]
     (λ c. omega arith) (λ c. omega arith) (λ c. omega arith)  -- g[k] =, k += 1
     (λ c. upto-more (c .before .before .loop .inv) (omega arith) (back (fit w8 (c .g .given))))

@@ -22,10 +22,7 @@ returns-2 c =
     rw (c .needed4 .ensures, r .reads-scaled .ensures, c .before .held .ensures) (later (first (r .before .before)) _ (none (r .before)))
 
 pub check-scaled-spec : {M : Type 1} → Rattle.blocks.proofs.scaled.check_scaled.Statement.statement M
-check-scaled-spec =
-    tie.close
-    (tie.spec
-    (λ c κs. search needs) (λ c κs. search needs) (λ c κs. search needs) (λ c κs. search needs)  -- needed, scaled-motion
+check-scaled-spec = tie.close (tie.spec (λ c κs. search needs) (λ c κs. search needs) (λ c κs. search needs) (λ c κs. search needs)  -- needed, scaled-motion
     (λ c κs. search needs) (λ c κs. search needs) (λ c κs. search needs)  -- stride, sizes
     (λ c. shape (c .before) ∙ sooner (first (c .before)) _ (λ q. c .if1 .taken (shape (c .before) ∙ q)))  -- returns
     (λ c κs. omega (arith, numbers-met _ _ _ _ _ _ _ _ _ _ _ (none c)))  -- reads-scaled

@@ -21,9 +21,6 @@ unfolding columnRead
 returns-3 c = rw (c .reads-around2 .ensures, c .before .if2 .left)
 
 pub column-read-spec : {M : Type 1} → Rattle.blocks.proofs.scaled.column_read.Statement.statement M
-column-read-spec =
-    tie.close
-    (tie.spec
-    (λ c. search needs) returns (λ c. search needs)
+column-read-spec = tie.close (tie.spec (λ c. search needs) returns (λ c. search needs)
     (λ c. omega (arith, filtered (c .before))) (λ c. omega (arith, filtered (c .before))) (λ c κs. omega (arith, filtered (c .before)))
     returns-2 (λ c κs. search needs) returns-3)

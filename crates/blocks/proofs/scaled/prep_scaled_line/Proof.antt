@@ -27,10 +27,7 @@ returns-2 c =
     (rw (e .eight .ensures) at (r .by-rows .ensures)) (a .bias)
 
 pub prep-scaled-line-spec : {M : Type 1} → Rattle.blocks.proofs.scaled.prep_scaled_line.Statement.statement M
-prep-scaled-line-spec =
-    tie.close
-    (tie.spec
-    (λ c. search needs)  -- order[3]
+prep-scaled-line-spec = tie.close (tie.spec (λ c. search needs)  -- order[3]
     (λ c. omega (arith, third c))  -- order[3] * 64
     (λ c. search needs)  -- bias as i16
     (λ c κs. omega (arith, third c))  -- mid-bilin-prep-row

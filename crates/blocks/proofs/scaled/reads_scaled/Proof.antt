@@ -91,10 +91,7 @@ returns-3 c =
 
 pub reads-scaled-spec : {M : Type 1} → Rattle.blocks.proofs.scaled.reads_scaled.Statement.statement M
 unfolding each
-reads-scaled-spec =
-    tie.close
-    (tie.spec
-    Inv-loop μ-loop returns
+reads-scaled-spec = tie.close (tie.spec Inv-loop μ-loop returns
     (λ c κs. search needs) (λ c. search needs) (λ c. search needs) (λ c κs. search needs) (λ c. search needs)  -- above, cast-rows, sub-rows, above, cast-rows
     (λ c. omega (arith, last-row c)) (λ c. omega (arith, down c, last-row c)) (λ c. omega (arith, down c, last-row c))  -- mul-rows, add-rows, add-rows-2
     (λ c κs. search needs) (λ c. search needs) (λ c κs. search needs) (λ c. search needs)  -- above, cast-start, above, cast-step

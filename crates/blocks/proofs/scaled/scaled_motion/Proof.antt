@@ -12,8 +12,5 @@ returns c =
     (rw (told-back w32 g, told-back w32 (g .1), told-back w32 (g .1 .1), told-back w32 (g .1 .1 .1))))
 
 pub scaled-motion-spec : {M : Type 1} → Rattle.blocks.proofs.scaled.scaled_motion.Statement.statement M
-scaled-motion-spec =
-    tie.close
-    (tie.spec
-    (λ c κs. search needs) (λ c κs. search needs) (λ c κs. search needs) (λ c κs. search needs)  -- step-ok, needed
+scaled-motion-spec = tie.close (tie.spec (λ c κs. search needs) (λ c κs. search needs) (λ c κs. search needs) (λ c κs. search needs)  -- step-ok, needed
     (λ c κs. search needs) (λ c κs. search needs) (λ c κs. search needs) (λ c κs. search needs) returns)  -- start-ok, needed

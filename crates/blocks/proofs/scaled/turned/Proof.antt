@@ -6,9 +6,6 @@ unfolding rowOf rowFrom
 returns c = refl
 
 pub turned-spec : {M : Type 1} → Rattle.blocks.proofs.scaled.turned.Statement.statement M
-turned-spec =
-    tie.close
-    (tie.spec
-    (λ c. search needs) (λ c. search needs) (λ c. search needs) (λ c. search needs)  -- order[1] to order[4]
+turned-spec = tie.close (tie.spec (λ c. search needs) (λ c. search needs) (λ c. search needs) (λ c. search needs)  -- order[1] to order[4]
     (λ c. search needs) (λ c. search needs) (λ c. search needs) (λ c. search needs)  -- order[5] to order[7], order[0]
     returns)

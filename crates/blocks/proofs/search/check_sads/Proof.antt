@@ -11,10 +11,7 @@ returns-2 c =
     cc (sizes-pass (sizeOk 64 (a .w)) (sizeOk 64 (a .h)) (c .stride2 .result) (sym (e .before .sizes .ensures) ∙ e .if1 .left))
 
 pub check-sads-spec : {M : Type 1} → Rattle.blocks.proofs.search.check_sads.Statement.statement M
-check-sads-spec =
-    tie.close
-    (tie.spec
-    (λ c κs. search needs)  -- sizes-requires
+check-sads-spec = tie.close (tie.spec (λ c κs. search needs)  -- sizes-requires
     (λ c. c .before .sizes .ensures ∙ sizes-stop _ _ _ (λ e. c .if1 .taken (c .before .sizes .ensures ∙ e)))  -- returns
     (λ c. omega (arith, block c))  -- add-row
     (λ c. omega (arith, block c))  -- add-rows

@@ -8,8 +8,5 @@ returns c =
     rw (back (fit w32 (g .0 .1)), back (fit w32 (g .1 .0 .1))) (answer-found (t .before .args .b) (t .if1 .taken))
 
 pub offset-of-spec : {M : Type 1} → Rattle.blocks.proofs.search.offset_of.Statement.statement M
-offset-of-spec =
-    tie.close
-    (tie.spec
-    returns
+offset-of-spec = tie.close (tie.spec returns
     (λ c. answer-none (c .before .args .b) (c .if1 .left)))  -- returns-2

@@ -14,9 +14,6 @@ unfolding bestOf
 returns-3 c = let s = c .before in rw (back (s .fits .dx), back (s .fits .dy)) (better-first (s .args .b) (s .args .sum) _ (c .if1 .left))
 
 pub take-better-spec : {M : Type 1} → Rattle.blocks.proofs.search.take_better.Statement.statement M
-take-better-spec =
-    tie.close
-    (tie.spec
-    returns
+take-better-spec = tie.close (tie.spec returns
     (λ c. let s = c .before .before in better-stays (s .args .b) (s .args .sum) _ (c .before .if1 .taken) (c .if2 .left))  -- returns-2
     returns-3)

@@ -31,10 +31,7 @@ unfolding affineOf
 returns c = rw (flag _, one (c .before .before .before), two (c .before .before), three (c .before), four c)
 
 pub affine-flag-spec : {M : Type 1} → Rattle.blocks.proofs.shear.affine_flag.Statement.statement M
-affine-flag-spec =
-    tie.close
-    (tie.spec
-    (λ c. search reading)  -- cast-abs32
+affine-flag-spec = tie.close (tie.spec (λ c. search reading)  -- cast-abs32
     (λ c κs. search needs)  -- abs32-requires
     (λ c. omega (arith, one c, abs-mag (c .before .args .a)))  -- mul-first
     (λ c. search reading)  -- cast-abs32-2

@@ -9,8 +9,6 @@ returns c =
     (rw (t .before .before .lies .ensures, back (s .bw4), back (s .bh4), back (s .mv-x), back (s .mv-y), back (s .bx4), back (s .by4)))
 
 pub check-affine-mv-spec : {M : Type 1} → Rattle.blocks.proofs.shear.check_affine_mv.Statement.statement M
-check-affine-mv-spec =
-    tie.close
-    (tie.spec
+check-affine-mv-spec = tie.close (tie.spec
     (λ c κs. search needs) (λ c κs. search needs) (λ c κs. search needs) (λ c κs. search needs)  -- lies, entries-ok, needed
     (λ c κs. search needs) (λ c κs. search needs) (λ c κs. search needs) returns)  -- moves, needed

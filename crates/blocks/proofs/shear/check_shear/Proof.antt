@@ -15,8 +15,6 @@ returns c =
     )
 
 pub check-shear-spec : {M : Type 1} → Rattle.blocks.proofs.shear.check_shear.Statement.statement M
-check-shear-spec =
-    tie.close
-    (tie.spec
+check-shear-spec = tie.close (tie.spec
     (λ c κs. search needs) (λ c. search needs) (λ c κs. search needs) (λ c κs. search needs) (λ c κs. search needs)  -- entries-ok, matrix[2], needed
     returns)

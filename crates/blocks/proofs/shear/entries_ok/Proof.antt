@@ -18,8 +18,5 @@ returns c =
     )
 
 pub entries-ok-spec : {M : Type 1} → Rattle.blocks.proofs.shear.entries_ok.Statement.statement M
-entries-ok-spec =
-    tie.close
-    (tie.spec
-    (λ c. search needs) (λ c κs. search needs) (λ c. search needs) (λ c κs. search needs)  -- matrix[2], within, matrix[3]
+entries-ok-spec = tie.close (tie.spec (λ c. search needs) (λ c κs. search needs) (λ c. search needs) (λ c κs. search needs)  -- matrix[2], within, matrix[3]
     (λ c. search needs) (λ c κs. search needs) (λ c. search needs) (λ c κs. search needs) returns)  -- matrix[4], within, matrix[5]

@@ -46,9 +46,6 @@ returns c =
     )
 
 pub iclip-wmp-spec : {M : Type 1} → Rattle.blocks.proofs.shear.iclip_wmp.Statement.statement M
-iclip-wmp-spec =
-    tie.close
-    (tie.spec
-    (λ c. search reading)  -- cast-keep32
+iclip-wmp-spec = tie.close (tie.spec (λ c. search reading)  -- cast-keep32
     (λ c. rw (back32 (c .fits .v)) (sum c))  -- add-keep32
     (λ c. search needs) sub-keep32 (λ c κs. search needs) mul-clip-wmp (λ c κs. search needs) returns)  -- cast-keep32, keep32, clip-wmp

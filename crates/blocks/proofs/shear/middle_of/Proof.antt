@@ -33,10 +33,7 @@ unfolding middle
 returns c = simp (back (c .fits .b4), back (c .fits .size4), back (a c), back (b c), back (s c), back (d c)) (refl, omega (arith, last c))
 
 pub middle-of-spec : {M : Type 1} → Rattle.blocks.proofs.shear.middle_of.Statement.statement M
-middle-of-spec =
-    tie.close
-    (tie.spec
-    (λ c. simp (back (c .fits .b4)) (a c))  -- mul-result
+middle-of-spec = tie.close (tie.spec (λ c. simp (back (c .fits .b4)) (a c))  -- mul-result
     (λ c. simp (back (c .fits .size4)) (b c))  -- mul-result-2
     (λ c. simp (back (c .fits .b4), back (c .fits .size4), back (a c), back (b c)) (s c))  -- add-result
     (λ c. simp (back (c .fits .b4), back (c .fits .size4), back (a c), back (b c), back (s c)) (d c))  -- sub-result

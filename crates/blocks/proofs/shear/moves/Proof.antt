@@ -21,8 +21,6 @@ returns c =
     )
 
 pub moves-spec : {M : Type 1} → Rattle.blocks.proofs.shear.moves.Statement.statement M
-moves-spec =
-    tie.close
-    (tie.spec
+moves-spec = tie.close (tie.spec
     (λ c κs. search needs) (λ c κs. search needs) (λ c κs. search needs) (λ c κs. search needs) (λ c κs. search needs)  -- lies, within, needed
     (λ c κs. search needs) (λ c κs. search needs) (λ c κs. search needs) returns)  -- needed

@@ -73,10 +73,7 @@ returns c =
     )
 
 pub offset-of-spec : {M : Type 1} → Rattle.blocks.proofs.shear.offset_of.Statement.statement M
-offset-of-spec =
-    tie.close
-    (tie.spec
-    (λ c. search reading)  -- cast-clip-entry
+offset-of-spec = tie.close (tie.spec (λ c. search reading)  -- cast-clip-entry
     (λ c. simp (back32 (c .fits .mv)) (a c))  -- mul-clip-entry
     (λ c. search reading)  -- cast-clip-entry-2
     (λ c. search reading)  -- cast-clip-entry-3

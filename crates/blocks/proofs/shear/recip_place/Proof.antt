@@ -28,10 +28,7 @@ returns-2 c =
     rw (one s, eighth s) (rw (s .pre .1) (sym (place-many (s .args .d) (rw (← s .pre .1) (c .if1 .left)))), at-many c .last)
 
 pub recip-place-spec : {M : Type 1} → Rattle.blocks.proofs.shear.recip_place.Statement.statement M
-recip-place-spec =
-    tie.close
-    (tie.spec
-    (λ c. at-top c .small)  -- shl-e
+recip-place-spec = tie.close (tie.spec (λ c. at-top c .small)  -- shl-e
     (λ c. rw (one c) (at-top c .low))  -- sub-e
     (λ c. search needs) (λ c. search needs) (λ c. search needs)  -- shl-result, cast-result, sub-result
     (λ c. omega (arith, at-top (c .before)))  -- shl-result-2

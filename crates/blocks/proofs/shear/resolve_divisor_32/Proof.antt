@@ -32,10 +32,7 @@ returns-2 c =
     (sym (done _ _ _ (rw e at (c .before .before .before .if1 .left))))
 
 pub resolve-divisor-32-spec : {M : Type 1} → Rattle.blocks.proofs.shear.resolve_divisor_32.Statement.statement M
-resolve-divisor-32-spec =
-    tie.close
-    (tie.spec
-    (λ c κs. search needs) returns  -- check-divisor
+resolve-divisor-32-spec = tie.close (tie.spec (λ c κs. search needs) returns  -- check-divisor
     (λ c κs. omega (arith, ok c))  -- top-bit-requires
     (λ c κs. (omega (arith, ok (c .before)), c .top-bit .ensures))  -- recip-place-requires
     (λ c. search needs)  -- 2 * f

@@ -54,9 +54,7 @@ returns-2 c =
     rw (rw (back (s .fits .v)) at (c .if1 .left), back h, cut q)
 
 pub round-shift-spec : {M : Type 1} → Rattle.blocks.proofs.shear.round_shift.Statement.statement M
-round-shift-spec =
-    tie.close
-    (tie.spec
+round-shift-spec = tie.close (tie.spec
     (λ c κs. search needs) (λ c. search needs) (λ c. search needs) (λ c. search needs)  -- abs64, sub-keep32, cast-keep32, shl-keep32
     (λ c. let p = c .before .pre in omega (arith, sum (c .before .args .k) (c .abs64 .result) (p .2) (small c)))  -- add-keep32
     (λ c. search needs)  -- shr-keep32

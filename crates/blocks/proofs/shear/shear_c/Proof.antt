@@ -32,10 +32,7 @@ returns c =
     rw (back r, c .iclip-wmp .ensures, back q, c .before .round-shift .ensures, back32 (s .fits .m4), back32 (s .fits .y), back (first-fits s), back (v-fits s))
 
 pub shear-c-spec : {M : Type 1} → Rattle.blocks.proofs.shear.shear_c.Statement.statement M
-shear-c-spec =
-    tie.close
-    (tie.spec
-    (λ c. search reading)  -- cast-round-shift
+shear-c-spec = tie.close (tie.spec (λ c. search reading)  -- cast-round-shift
     (λ c. rw (back32 (c .fits .m4)) (first-fits c))  -- mul-round-shift
     (λ c. search reading)  -- cast-round-shift-2
     (λ c. rw (back32 (c .fits .m4), back32 (c .fits .y), back (first-fits c)) (v-fits c))  -- mul-round-shift-2

@@ -57,10 +57,7 @@ returns c =
     )
 
 pub shear-d-spec : {M : Type 1} → Rattle.blocks.proofs.shear.shear_d.Statement.statement M
-shear-d-spec =
-    tie.close
-    (tie.spec
-    (λ c. search reading)  -- cast-v
+shear-d-spec = tie.close (tie.spec (λ c. search reading)  -- cast-v
     (λ c. search reading)  -- cast-v-2
     (λ c. rw (back32 (c .fits .m3), back32 (c .fits .m4)) (first-fits c))  -- mul-v
     (λ c. search reading)  -- cast-v-3

@@ -84,9 +84,7 @@ returns c =
     )
 
 pub with-mv-spec : {M : Type 1} → Rattle.blocks.proofs.shear.with_mv.Statement.statement M
-with-mv-spec =
-    tie.close
-    (tie.spec
+with-mv-spec = tie.close (tie.spec
     (λ c κs. let s = c .before .before .before in rw (back (s .fits .bx4), back (s .fits .bw4)) (omega (arith, s .pre)))  -- middle-of-requires
     (λ c κs. let s = c .before .before .before .before in rw (back (s .fits .by4), back (s .fits .bh4)) (omega (arith, s .pre)))  -- middle-of-requires-2
     (λ c. search needs) (λ c. search needs) (λ c. search needs)  -- array-copy-out-m2, array-copy-out-m3, array-copy-out-m4

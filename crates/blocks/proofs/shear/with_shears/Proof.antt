@@ -95,9 +95,7 @@ returns c =
     )
 
 pub with-shears-spec : {M : Type 1} → Rattle.blocks.proofs.shear.with_shears.Statement.statement M
-with-shears-spec =
-    tie.close
-    (tie.spec
+with-shears-spec = tie.close (tie.spec
     (λ c. search needs) (λ c. search needs) (λ c. search needs) (λ c. search needs)  -- matrix[2], matrix[3], matrix[4], matrix[5]
     (λ c κs. search needs) (λ c κs. search needs)  -- abs32, resolve-divisor
     (λ c. let r = c .before .before .before in rw (k-is r) (tt, omega (arith, small-k (E r))))  -- cast-k

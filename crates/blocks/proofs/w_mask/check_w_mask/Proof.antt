@@ -20,9 +20,7 @@ returns c =
     )
 
 pub check-w-mask-spec : {M : Type 1} → Rattle.blocks.proofs.w_mask.check_w_mask.Statement.statement M
-check-w-mask-spec =
-    tie.close
-    (tie.spec
+check-w-mask-spec = tie.close (tie.spec
     (λ c κs. search needs) (λ c κs. search needs) (λ c κs. search needs) (λ c κs. search needs)  -- mask-side, mask-buffers, mask-numbers
     (λ c κs. search needs) (λ c κs. search needs) (λ c κs. search needs) (λ c κs. search needs) (λ c κs. search needs)  -- stride, even-ok, needed
     (λ c κs. search needs) (λ c κs. search needs) returns)  -- needed, sizes

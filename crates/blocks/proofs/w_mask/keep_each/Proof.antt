@@ -19,9 +19,7 @@ row c =
     (turn 0 (c .before .loop .inv) (p .mask) lt, row-in y (p .tmp1) lt, row-in y (p .tmp2) lt)
 
 pub keep-each-spec : {M : Type 1} → Rattle.blocks.proofs.w_mask.keep_each.Statement.statement M
-keep-each-spec =
-    tie.close
-    (tie.spec Inv-loop μ-loop
+keep-each-spec = tie.close (tie.spec Inv-loop μ-loop
     (λ c. filled-none 0 _ _ _ _ _ (omega (arith, c .before .pre)))  -- loop-holds
     (λ c. omega (arith, row c)) (λ c. omega (arith, row c))  -- y * mask_stride, k + w
     (λ c. omega (arith, row c)) (λ c. omega (arith, row c)) (λ c. omega (arith, row c))  -- mask[k..k + w]

@@ -77,9 +77,7 @@ loop-again c =
     )
 
 pub keep-fours-spec : {M : Type 1} → Rattle.blocks.proofs.w_mask.keep_fours.Statement.statement M
-keep-fours-spec =
-    tie.close
-    (tie.spec Inv-loop μ-loop
+keep-fours-spec = tie.close (tie.spec Inv-loop μ-loop
     (λ c. (filled-none 0 _ _ _ _ _ (omega (arith, c .before .pre)), refl, refl))  -- loop-holds
     (λ c. omega (arith, row c)) (λ c. omega (arith, row c))  -- y * mask_stride, 2 * y
     (λ c. omega (arith, entry c .pre .0 .block, c .before .loop .inv .1))  -- m[..w]

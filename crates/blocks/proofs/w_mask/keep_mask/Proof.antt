@@ -31,8 +31,6 @@ unfolding maskAt
 returns-3 c = let r = c .before .before in let i = r .before .before in rw (i .if2 .left, i .before .if1 .left) (r .keep-each .ensures)
 
 pub keep-mask-spec : {M : Type 1} → Rattle.blocks.proofs.w_mask.keep_mask.Statement.statement M
-keep-mask-spec =
-    tie.close
-    (tie.spec
+keep-mask-spec = tie.close (tie.spec
     keep-fours-requires keep-pairs-requires keep-each-requires (λ c. search needs) returns (λ c. search needs) returns-2  -- same-length
     (λ c. search needs) returns-3)  -- same-length

@@ -48,9 +48,7 @@ loop-again c =
     )
 
 pub keep-pairs-spec : {M : Type 1} → Rattle.blocks.proofs.w_mask.keep_pairs.Statement.statement M
-keep-pairs-spec =
-    tie.close
-    (tie.spec Inv-loop μ-loop
+keep-pairs-spec = tie.close (tie.spec Inv-loop μ-loop
     (λ c. (filled-none 0 _ _ _ _ _ (omega (arith, c .before .pre)), refl))  -- loop-holds
     (λ c. omega (arith, row c))  -- y * mask_stride
     (λ c. omega (arith, entry c .pre .0 .block, c .before .loop .inv .1))  -- m[..w]

@@ -11,8 +11,5 @@ returns c =
     )
 
 pub mask-buffers-spec : {M : Type 1} → Rattle.blocks.proofs.w_mask.mask_buffers.Statement.statement M
-mask-buffers-spec =
-    tie.close
-    (tie.spec
-    (λ c κs. search needs) (λ c κs. search needs) (λ c κs. search needs) (λ c κs. search needs)  -- held
+mask-buffers-spec = tie.close (tie.spec (λ c κs. search needs) (λ c κs. search needs) (λ c κs. search needs) (λ c κs. search needs)  -- held
     returns)

@@ -15,8 +15,6 @@ returns c =
     )
 
 pub check-buffers-spec : {M : Type 1} → Rattle.blocks.proofs.warp.check_buffers.Statement.statement M
-check-buffers-spec =
-    tie.close
-    (tie.spec
+check-buffers-spec = tie.close (tie.spec
     (λ c κs. search needs) (λ c κs. search needs) (λ c κs. search needs) (λ c κs. search needs)  -- filters-there, margins-held, held, needed
     (λ c κs. search needs) (λ c κs. search needs) returns)  -- needed

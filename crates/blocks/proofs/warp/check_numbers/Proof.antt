@@ -20,8 +20,6 @@ returns c =
     )
 
 pub check-numbers-spec : {M : Type 1} → Rattle.blocks.proofs.warp.check_numbers.Statement.statement M
-check-numbers-spec =
-    tie.close
-    (tie.spec
+check-numbers-spec = tie.close (tie.spec
     (λ c κs. search needs) (λ c κs. search needs) (λ c κs. search needs) (λ c κs. search needs) (λ c κs. search needs)  -- within, needed
     (λ c κs. search needs) (λ c κs. search needs) returns)  -- stride

@@ -16,7 +16,4 @@ returns-2 : tie.Need-returns-2
 returns-2 c = c .check-buffers .ensures ∙ sym (warp-go _ _ _ _ _ _ _ _ _ _ _ _ _ (sym (is (c .before .before)) ∙ c .before .if1 .left))
 
 pub check-warp-spec : {M : Type 1} → Rattle.blocks.proofs.warp.check_warp.Statement.statement M
-check-warp-spec =
-    tie.close
-    (tie.spec
-    (λ c κs. search needs) returns check-buffers-requires returns-2)  -- check-numbers
+check-warp-spec = tie.close (tie.spec (λ c κs. search needs) returns check-buffers-requires returns-2)  -- check-numbers

@@ -16,8 +16,6 @@ returns-2 c =
     rw (le-ltb (a .o + 11 * a .s + 11) (a .sl) (omega arith)) (sym (and-false (leb (3 * a .s + 3) (a .o))))
 
 pub margins-held-spec : {M : Type 1} → Rattle.blocks.proofs.warp.margins_held.Statement.statement M
-margins-held-spec =
-    tie.close
-    (tie.spec
+margins-held-spec = tie.close (tie.spec
     (λ c. search needs) (λ c. search needs) (λ c. search needs) (λ c. search needs) (λ c. search needs)  -- 3 s, 3 s + 3, 11 s, 11 s + 11, sl - o
     returns returns-2)

@@ -33,9 +33,7 @@ loop-again c =
     filled-row (pos 0) _ (t .before .loop .inv) (omega arith) (s .pre .0) (t .loop-test .taken) e
 
 pub warp-prep-rows-spec : {M : Type 1} → Rattle.blocks.proofs.warp.warp_prep_rows.Statement.statement M
-warp-prep-rows-spec =
-    tie.close
-    (tie.spec Inv-loop μ-loop
+warp-prep-rows-spec = tie.close (tie.spec Inv-loop μ-loop
     (λ c. filled-none (pos 0) _ _ _ _ _ (omega (arith, c .pre .0)))  -- loop-holds
     (λ c. omega (arith, row c)) (λ c. omega (arith, row c))  -- y * tmp_stride, d + 8
     (λ c. omega (arith, row c)) (λ c. omega (arith, row c)) (λ c. omega (arith, row c)) (λ c. omega (arith, row c))  -- tmp[d..d + 8]

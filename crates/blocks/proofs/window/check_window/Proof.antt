@@ -25,8 +25,5 @@ window-held-requires c κs =
     sizes-small (lentOf (s .args .lent) []) (want s) (sym (c .before .window-sizes .ensures) ∙ c .if1 .left)
 
 pub check-window-spec : {M : Type 1} → Rattle.blocks.proofs.window.check_window.Statement.statement M
-check-window-spec =
-    tie.close
-    (tie.spec
-    (λ c κs. search needs) returns window-held-requires  -- window-sizes
+check-window-spec = tie.close (tie.spec (λ c κs. search needs) returns window-held-requires  -- window-sizes
     (λ c κs. search needs) returns-2)  -- window-numbers

@@ -37,7 +37,5 @@ returns-2 : tie.Need-returns-2
 returns-2 c plane l = let p = c .before in accepted-part (accepted (p .before) plane l) (area-is p plane) (c .locate .ensures)
 
 pub find-window-spec : {M : Type 1} → Rattle.blocks.proofs.window.find_window.Statement.statement M
-find-window-spec =
-    tie.close
-    (tie.spec
+find-window-spec = tie.close (tie.spec
     (λ c κs. search needs) (λ c κs. search needs) returns area-of-requires locate-requires returns-2)  -- check-window, no-part

@@ -15,10 +15,7 @@ unfolding inside
 returns c = rw (is c, back (fits c), back (c .fits .x), backn w64 (c .args .side) (omega arith)) refl
 
 pub inside-spec : {M : Type 1} → Rattle.blocks.proofs.window.inside.Statement.statement M
-inside-spec =
-    tie.close
-    (tie.spec
-    (λ c. fit w64 (omega arith))  -- cast-result
+inside-spec = tie.close (tie.spec (λ c. fit w64 (omega arith))  -- cast-result
     (λ c. rw (is c) (fits c))  -- add-result
     (λ c. fit w64 (omega arith))  -- cast-result-2
     returns)

@@ -34,10 +34,7 @@ unfolding windowAt
 returns-2 c = rw (sym (c .before .before .is-planes .ensures) ∙ c .before .if1 .left, c .part-len2 .ensures) refl
 
 pub locate-spec : {M : Type 1} → Rattle.blocks.proofs.window.locate.Statement.statement M
-locate-spec =
-    tie.close
-    (tie.spec
-    (λ c κs. c .pre .0)  -- is-planes-requires
+locate-spec = tie.close (tie.spec (λ c κs. c .pre .0)  -- is-planes-requires
     (λ c κs. search needs)  -- up64-requires
     (λ c. omega (arith, small c, entry c .pre .1))  -- mul-place
     (λ c κs. search needs) add-place  -- up64

@@ -1,8 +1,6 @@
 -- A part of an array, written from its front by stores into the whole. Assumes nothing.
-use Rattle.rows.proofs.Usual.{List, _⊎_, _≡_, _∙_, refl, ap, sym, subst, _-_, _+_, _≤_, _<_, ℕ, add-zero, arith, length, getD, set, splice, rowOf, by-lt}
+use Rattle.rows.proofs.Usual.{List, _≡_, _∙_, refl, ap, sym, subst, _-_, _+_, _≤_, _<_, ℕ, add-zero, arith, length, getD, set, splice, rowOf, by-lt}
 use Rattle.rows.proofs.Usual.{Upto}
-use mathlib.Core.Logic.{inl, inr}
-use native.Mathlib.Nat.{ne-of-lt}
 use lib.ListN.{length-set}
 use lib.Seq.{ext-getD, getD-set-same, getD-set-other}
 use Rattle.rows.proofs.Laws.Blocks.Places.{length-rowOf, getD-rowOf, splice-length, splice-before, splice-in, splice-after}

@@ -15,10 +15,7 @@ returns c =
     between-is (b .before .before .args .f) (mid-widened _ (first (b .before))) (mid-widened _ (second b)) (omega arith) (c .bilin-weighed .ensures)
 
 pub between-i16-spec : {M : Type 1} → Rattle.rows.proofs.bilinear.between_i16.Statement.statement M
-between-i16-spec =
-    tie.close
-    (tie.spec
-    (λ c. search needs)  -- mid[p], two bytes
+between-i16-spec = tie.close (tie.spec (λ c. search needs)  -- mid[p], two bytes
     (λ c. search needs)  -- mid[p]
     (λ c. rw (back (first c)) (wide16 (first c)))  -- as i32
     (λ c. search needs)  -- p + step

@@ -6,10 +6,7 @@ small : (c : tie.Start) → (16 - c .args .f) * c .args .a + c .args .f * c .arg
 small c = bytes-le (c .pre .0) (c .pre .1) (omega arith)
 
 pub bilin-bytes-spec : {M : Type 1} → Rattle.rows.proofs.bilinear.bilin_bytes.Statement.statement M
-bilin-bytes-spec =
-    tie.close
-    (tie.spec
-    (λ c. search needs)  -- f as u16
+bilin-bytes-spec = tie.close (tie.spec (λ c. search needs)  -- f as u16
     (λ c. search needs)  -- 16 - f
     (λ c. omega (arith, small c))  -- (16 - f) * a
     (λ c. omega (arith, small c))  -- f * b

@@ -10,9 +10,6 @@ returns c =
     rw (back fv, c .kept .ensures, back (s .fits .s), k .half-power .ensures .0, back (s .fits .bias))
 
 pub bilin-kept-spec : {M : Type 1} → Rattle.rows.proofs.bilinear.bilin_kept.Statement.statement M
-bilin-kept-spec =
-    tie.close
-    (tie.spec
-    (λ c κs. search needs)  -- half-power-requires
+bilin-kept-spec = tie.close (tie.spec (λ c κs. search needs)  -- half-power-requires
     (λ c κs. omega (arith, rd (c .before .fits .s)))  -- kept-requires
     returns)

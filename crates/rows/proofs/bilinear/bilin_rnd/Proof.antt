@@ -14,9 +14,6 @@ returns c =
     (refl, omega (arith, mag-shr v (2 ^ s .args .n), mag-add (s .args .s) (pos (half (s .args .n)))))
 
 pub bilin-rnd-spec : {M : Type 1} → Rattle.rows.proofs.bilinear.bilin_rnd.Statement.statement M
-bilin-rnd-spec =
-    tie.close
-    (tie.spec
-    (λ c κs. search needs)  -- half-power-requires
+bilin-rnd-spec = tie.close (tie.spec (λ c κs. search needs)  -- half-power-requires
     (λ c κs. omega (arith, rd (c .before .fits .s)))  -- rounded-requires
     returns)

@@ -50,10 +50,7 @@ returns c =
     (refl, omega (arith, l-le c, r-le c, mag-add (l c) (r c)))
 
 pub bilin-sum-spec : {M : Type 1} → Rattle.rows.proofs.bilinear.bilin_sum.Statement.statement M
-bilin-sum-spec =
-    tie.close
-    (tie.spec
-    (λ c. search needs)  -- f as u8
+bilin-sum-spec = tie.close (tie.spec (λ c. search needs)  -- f as u8
     (λ c. simp (back (c .fits .a)) (l-fits c))  -- 16 * a
     (λ c. search needs)  -- f as i32
     (λ c. simp (back (c .fits .a), back (c .fits .b)) (d-fits c))  -- b - a

@@ -42,10 +42,7 @@ returns c =
     (weighed (c .args .f) (c .args .a) (c .args .b) (omega arith), omega (arith, l-le c, r-le c, mag-add (l c) (r c)))
 
 pub bilin-weighed-spec : {M : Type 1} → Rattle.rows.proofs.bilinear.bilin_weighed.Statement.statement M
-bilin-weighed-spec =
-    tie.close
-    (tie.spec
-    (λ c. search needs)  -- f as u8
+bilin-weighed-spec = tie.close (tie.spec (λ c. search needs)  -- f as u8
     (λ c. search needs)  -- 16 - f
     (λ c. search needs)  -- as i32
     mul-result

@@ -18,9 +18,7 @@ loop-again c =
     upto-kept (b .before .before .loop .inv) (omega arith) (omega arith) (rw (back fb, b .between-i16 .ensures .0) at (c .bilin-kept .ensures))
 
 pub mid-bilin-prep-row-spec : {M : Type 1} → Rattle.rows.proofs.bilinear.mid_bilin_prep_row.Statement.statement M
-mid-bilin-prep-row-spec =
-    tie.close
-    (tie.spec Inv-loop μ-loop (λ c. upto-none _ _ _)  -- while i < w
+mid-bilin-prep-row-spec = tie.close (tie.spec Inv-loop μ-loop (λ c. upto-none _ _ _)  -- while i < w
     (λ c. omega arith) (λ c κs. omega arith)  -- between_i16(.., o + i, ..)
     (λ c κs. search needs)  -- bilin-kept-requires
     (λ c. omega arith) (λ c. omega arith)  -- tmp[i] =

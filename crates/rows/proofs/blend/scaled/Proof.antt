@@ -18,9 +18,6 @@ shifted : (c : tie.Start) → SFits w32 (shrZ (P c +ℤ c .args .beta) 256)
 shifted c = omega (arith, sum c, mag-shr (P c +ℤ c .args .beta) 256)
 
 pub scaled-spec : {M : Type 1} → Rattle.rows.proofs.blend.scaled.Statement.statement M
-scaled-spec =
-    tie.close
-    (tie.spec
-    (λ c. simp (back (c .fits .alpha), back (c .fits .d)) (product c))  -- mul-result
+scaled-spec = tie.close (tie.spec (λ c. simp (back (c .fits .alpha), back (c .fits .d)) (product c))  -- mul-result
     (λ c. simp (back (c .fits .alpha), back (c .fits .beta), back (c .fits .d), back (product c)) (sum c))  -- add-result
     (λ c. simp (back (c .fits .alpha), back (c .fits .beta), back (c .fits .d), back (product c), back (sum c), back (shifted c))))  -- returns

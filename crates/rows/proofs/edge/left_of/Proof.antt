@@ -20,10 +20,7 @@ module _ (s : tie.Start) where
   at-most = rw is (clip-up (s .args .n) E)
 
 pub left-of-spec : {M : Type 1} → Rattle.rows.proofs.edge.left_of.Statement.statement M
-left-of-spec =
-    tie.close
-    (tie.spec
-    (λ c. rw (back (c .fits .m), back (c .fits .x)) (fits c))  -- m - x
+left-of-spec = tie.close (tie.spec (λ c. rw (back (c .fits .m), back (c .fits .x)) (fits c))  -- m - x
     (λ c. search needs)  -- n as i64
     (λ c. let s = c .before .before in omega (signed, rdn w64 (s .args .n) (omega arith), one-part (e s), abs-parts (e s)))  -- e as usize
     (λ c. let s = c .before in omega (signed, one-part (e s), at-most s))  -- returns

@@ -15,9 +15,7 @@ loop-again c =
     added-more (h .loop .inv) (omega arith) (rw e at (c .tap-size .ensures .0)) (omega arith)
 
 pub is-near-spec : {M : Type 1} → Rattle.rows.proofs.near.is_near.Statement.statement M
-is-near-spec =
-    tie.close
-    (tie.spec Inv-loop μ-loop (λ c. added-none _ _ _)  -- while j < 8
+is-near-spec = tie.close (tie.spec Inv-loop μ-loop (λ c. added-none _ _ _)  -- while j < 8
     (λ c. omega arith)  -- f[j]
     (λ c κs. search needs)  -- tap-size-requires
     (λ c. omega arith)  -- s +=

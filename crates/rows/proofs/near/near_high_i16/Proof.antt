@@ -12,8 +12,6 @@ returns c =
     rw (back fr) (rw (back (s .fits .acc), back (s .fits .f), back (s .fits .x), back (high s)) at (c .near-tap .ensures))
 
 pub near-high-i16-spec : {M : Type 1} → Rattle.rows.proofs.near.near_high_i16.Statement.statement M
-near-high-i16-spec =
-    tie.close
-    (tie.spec
+near-high-i16-spec = tie.close (tie.spec
     (λ c κs. rw (back (c .fits .acc), back (c .fits .f), back (c .fits .x), back (high c)) (c .pre, omega (arith, high-byte (c .args .x) (c .fits .x))))  -- near-tap-requires
     returns)

@@ -19,10 +19,7 @@ sum s =
     (omega (arith, small s, s .fits .part, abs-mag (s .args .part), abs-add (s .args .high *ℤ pos (256 / 2 ^ s .args .n)) (s .args .part)))
 
 pub near-join-spec : {M : Type 1} → Rattle.rows.proofs.near.near_join.Statement.statement M
-near-join-spec =
-    tie.close
-    (tie.spec
-    (λ c. search needs)  -- 256 >> n
+near-join-spec = tie.close (tie.spec (λ c. search needs)  -- 256 >> n
     (λ c. search reading)  -- high as i32
     (λ c. omega (arith, less c))  -- up as i32
     (λ c. rw (back16 (c .fits .high), backn w32 (256 / 2 ^ c .args .n) (omega (arith, less c))) (product c))  -- mul

@@ -25,10 +25,7 @@ returns c =
     )
 
 pub near-kept-spec : {M : Type 1} → Rattle.rows.proofs.near.near_kept.Statement.statement M
-near-kept-spec =
-    tie.close
-    (tie.spec
-    (λ c κs. rw (back (c .fits .low)) (c .pre .1, c .pre .2, omega arith))  -- near-rounded-requires
+near-kept-spec = tie.close (tie.spec (λ c κs. rw (back (c .fits .low)) (c .pre .1, c .pre .2, omega arith))  -- near-rounded-requires
     (λ c κs. rw (back (c .before .fits .high)) (c .before .pre .0, c .before .pre .3))  -- near-join-requires
     (λ c κs. search needs)  -- keep16-requires
     (λ c κs. search needs)  -- wrapping-sub16-requires

@@ -19,10 +19,7 @@ returns c =
     (rw (back (s .fits .acc), back (s .fits .f), back (s .fits .x), back (high s), back (up s), low-is (s .args .x), back (low s)) at (c .near-tap .ensures))
 
 pub near-low-i16-spec : {M : Type 1} → Rattle.rows.proofs.near.near_low_i16.Statement.statement M
-near-low-i16-spec =
-    tie.close
-    (tie.spec
-    (λ c. rw (back (c .fits .x), back (high c)) (up c))  -- (x >> 8) * 256
+near-low-i16-spec = tie.close (tie.spec (λ c. rw (back (c .fits .x), back (high c)) (up c))  -- (x >> 8) * 256
     (λ c. rw (back (c .fits .x), back (high c), back (up c), low-is (c .args .x)) (low c))  -- x -
     (λ c κs. rw (back (c .fits .acc), back (c .fits .f), back (c .fits .x), back (high c), back (up c), low-is (c .args .x), back (low c)) (c .pre, low-byte (c .args .x)))  -- near-tap-requires
     returns)

@@ -20,9 +20,7 @@ loop-again c =
     near-more (h .loop .inv) (omega arith) (h .before .pre .1) (fit w8 (c .before .before .near-low-i16-arg .given)) e (c .near-low-i16 .ensures)
 
 pub near-lows-i16-spec : {M : Type 1} → Rattle.rows.proofs.near.near_lows_i16.Statement.statement M
-near-lows-i16-spec =
-    tie.close
-    (tie.spec Inv-loop μ-loop (λ c. near-none _ _)  -- while j < 8
+near-lows-i16-spec = tie.close (tie.spec Inv-loop μ-loop (λ c. near-none _ _)  -- while j < 8
     (λ c. omega arith)  -- f[j]
     (λ c. omega (arith, place (c .before))) (λ c. omega (arith, place (c .before)))  -- o + j * step
     (λ c. omega (arith, place (c .before))) (λ c. omega (arith, place (c .before)))  -- src[..]

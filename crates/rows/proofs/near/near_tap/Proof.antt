@@ -17,10 +17,7 @@ returns : tie.Need-returns
 returns c = (simp (back8-16 (c .fits .f), back (c .fits .x), back (c .fits .acc), back (product c), back (sum c)), small c)
 
 pub near-tap-spec : {M : Type 1} → Rattle.rows.proofs.near.near_tap.Statement.statement M
-near-tap-spec =
-    tie.close
-    (tie.spec
-    (λ c. search (reading, wide8-16))  -- cast-result
+near-tap-spec = tie.close (tie.spec (λ c. search (reading, wide8-16))  -- cast-result
     (λ c. simp (back8-16 (c .fits .f), back (c .fits .x)) (product c))  -- mul-result
     (λ c. simp (back8-16 (c .fits .f), back (c .fits .x), back (c .fits .acc), back (product c)) (sum c))  -- add-result
     returns)

@@ -8,9 +8,6 @@ returns c =
     rw (back fr) (rw (back (s .fits .acc), back (s .fits .f), backn w16 (s .args .x) (omega arith)) at (c .near-tap .ensures))
 
 pub near-tap-u8-spec : {M : Type 1} → Rattle.rows.proofs.near.near_tap_u8.Statement.statement M
-near-tap-u8-spec =
-    tie.close
-    (tie.spec
-    (λ c. search needs)  -- cast-near-tap
+near-tap-u8-spec = tie.close (tie.spec (λ c. search needs)  -- cast-near-tap
     (λ c κs. simp (back (c .fits .acc), back (c .fits .f), backn w16 (c .args .x) (omega arith)) (omega arith))  -- near-tap-requires
     returns)

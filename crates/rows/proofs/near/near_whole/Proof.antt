@@ -19,10 +19,7 @@ returns c =
     (refl, omega (arith, small c, mag-abs (c .args .high *ℤ pos 256 +ℤ c .args .low)))
 
 pub near-whole-spec : {M : Type 1} → Rattle.rows.proofs.near.near_whole.Statement.statement M
-near-whole-spec =
-    tie.close
-    (tie.spec
-    (λ c. search reading)  -- cast
+near-whole-spec = tie.close (tie.spec (λ c. search reading)  -- cast
     (λ c. rw (back16 (c .fits .high)) (product c))  -- mul
     (λ c. search reading)  -- cast
     (λ c. rw (back16 (c .fits .high), back16 (c .fits .low), back (product c)) (sum c))  -- add

@@ -1,6 +1,5 @@
 use Rattle.rows.proofs.Usual.{refl, _-_, _≤_, _<_, _^_, arith, length, Upto, upto-none, upto-more}
 use Rattle.rows.specs.Scaled.{position, pixelOf, sixteenth}
-use Rattle.rows.specs.inner.Scaled.{Tabled}
 use Rattle.rows.proofs.Laws.Filters.Scaled.{position-small}
 use Rattle.rows.proofs.scaled.tabulate_columns.Tie as tie
 
@@ -28,9 +27,7 @@ returns c =
     record { pixel = λ x h. i .1 .0 .same x (omega arith); fraction = λ x h. i .1 .1 .same x (omega arith) }
 
 pub tabulate-columns-spec : {M : Type 1} → Rattle.rows.proofs.scaled.tabulate_columns.Statement.statement M
-tabulate-columns-spec =
-    tie.close
-    (tie.spec Inv-loop μ-loop
+tabulate-columns-spec = tie.close (tie.spec Inv-loop μ-loop
     (λ c. omega arith) (λ c. omega arith)  -- start and step as u32
     (λ c. (omega arith, (upto-none _ _ _, upto-none _ _ _)))  -- while i < w
     (λ c. omega arith)  -- i as u32

@@ -14,9 +14,7 @@ unfolding filter
 returns c = upto-all (c .before .loop .inv) (omega arith)
 
 pub eight-spec : {M : Type 1} → Rattle.rows.proofs.subpel.eight.Statement.statement M
-eight-spec =
-    tie.close
-    (tie.spec Inv-loop μ-loop (λ c. upto-none (pos 0) _ _)  -- while t < 8
+eight-spec = tie.close (tie.spec Inv-loop μ-loop (λ c. upto-none (pos 0) _ _)  -- while t < 8
     (λ c. omega arith)  -- 8 * n
     (λ c. omega arith)  -- 8 * n + t
     (λ c. omega arith)  -- table[8 * n + t]

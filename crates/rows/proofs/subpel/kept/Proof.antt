@@ -10,10 +10,7 @@ returns c =
     rw (back fv, c .wrapping-sub16 .ensures, back fk, k .keep16 .ensures, back fr, r .rounded .ensures, back (s .fits .s), back (s .fits .bias))
 
 pub kept-spec : {M : Type 1} → Rattle.rows.proofs.subpel.kept.Statement.statement M
-kept-spec =
-    tie.close
-    (tie.spec
-    (λ c κs. search needs)  -- rounded-requires
+kept-spec = tie.close (tie.spec (λ c κs. search needs)  -- rounded-requires
     (λ c κs. search needs)  -- keep16-requires
     (λ c κs. search needs)  -- wrapping-sub16-requires
     returns)

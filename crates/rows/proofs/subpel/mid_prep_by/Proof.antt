@@ -12,9 +12,7 @@ abbrev μ-loop : tie.MeasureT-loop
 μ-loop tmp₀ mid o f near by bias w i₀ tmp i = w - i
 
 pub mid-prep-by-spec : {M : Type 1} → Rattle.rows.proofs.subpel.mid_prep_by.Statement.statement M
-mid-prep-by-spec =
-    tie.close
-    (tie.spec Inv-loop μ-loop (λ c. upto-none _ _ _)  -- while i < w
+mid-prep-by-spec = tie.close (tie.spec Inv-loop μ-loop (λ c. upto-none _ _ _)  -- while i < w
     (λ c. omega arith) (λ c κs. (omega arith, omega arith, c .before .before .pre .2))  -- mid_prep_px(.., o + i, ..)
     (λ c. omega arith) (λ c. omega arith)  -- tmp[i] =
     (λ c. omega arith) (λ c. omega arith) (λ c. upto-kept (c .before .before .loop .inv) (omega arith) (omega arith) (c .mid-prep-px .ensures))  -- i += 1

@@ -19,10 +19,7 @@ returns-2 c =
     kept-is _ _ _ _ (omega arith) (t .before .before .before .fits .bias) (omega arith) (t .taps-i16 .ensures .0) (c .kept .ensures)
 
 pub mid-prep-px-spec : {M : Type 1} → Rattle.rows.proofs.subpel.mid_prep_px.Statement.statement M
-mid-prep-px-spec =
-    tie.close
-    (tie.spec
-    (λ c κs. (omega arith, c .before .pre .2 (c .if1 .taken) .0))  -- the sum of high bytes
+mid-prep-px-spec = tie.close (tie.spec (λ c κs. (omega arith, c .before .pre .2 (c .if1 .taken) .0))  -- the sum of high bytes
     (λ c κs. (omega arith, c .before .before .pre .2 (c .before .if1 .taken) .0))  -- the sum of low bytes
     near-kept-requires
     (λ c κs. search needs) (λ c κs. search needs)  -- kept(taps_i16(..), ..)

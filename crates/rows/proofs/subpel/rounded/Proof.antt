@@ -9,9 +9,6 @@ shifted : (c : tie.Start) → SFits w32 (shrZ (c .args .s +ℤ pos (c .args .r))
 shifted c = omega (arith, sum c, mag-shr (c .args .s +ℤ pos (c .args .r)) (2 ^ c .args .n))
 
 pub rounded-spec : {M : Type 1} → Rattle.rows.proofs.subpel.rounded.Statement.statement M
-rounded-spec =
-    tie.close
-    (tie.spec
-    (λ c. search needs) (λ c. simp (back (c .fits .s), backn w32 (c .args .r) (omega arith)) (sum c))  -- s + r
+rounded-spec = tie.close (tie.spec (λ c. search needs) (λ c. simp (back (c .fits .s), backn w32 (c .args .r) (omega arith)) (sum c))  -- s + r
     (λ c. search needs) (λ c. search needs)  -- >> n
     (λ c. simp (back (c .fits .s), backn w32 (c .args .r) (omega arith), back (sum c), back (shifted c))))  -- returns

@@ -15,10 +15,7 @@ returns : tie.Need-returns
 returns c = (simp (back8 (c .fits .f), back (c .fits .x), back (c .fits .acc), back (product c), back (sum c)), small c)
 
 pub tap-spec : {M : Type 1} → Rattle.rows.proofs.subpel.tap.Statement.statement M
-tap-spec =
-    tie.close
-    (tie.spec
-    (λ c. search reading)  -- cast-result
+tap-spec = tie.close (tie.spec (λ c. search reading)  -- cast-result
     (λ c. simp (back8 (c .fits .f), back (c .fits .x)) (product c))  -- mul-result
     (λ c. simp (back8 (c .fits .f), back (c .fits .x), back (c .fits .acc), back (product c)) (sum c))  -- add-result
     returns)

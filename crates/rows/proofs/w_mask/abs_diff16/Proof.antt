@@ -32,10 +32,7 @@ returns : tie.Need-returns
 returns c = let s = c .before in simp (back16 (s .fits .a), back16 (s .fits .b), back (fits s), under c, back (size s)) (omega (arith, within s))
 
 pub abs-diff16-spec : {M : Type 1} → Rattle.rows.proofs.w_mask.abs_diff16.Statement.statement M
-abs-diff16-spec =
-    tie.close
-    (tie.spec
-    (λ c. search reading)  -- cast-d
+abs-diff16-spec = tie.close (tie.spec (λ c. search reading)  -- cast-d
     (λ c. search reading)  -- cast-d-2
     (λ c. simp (back16 (c .fits .a), back16 (c .fits .b)) (fits c))  -- sub-d
     (λ c. let s = c .before in simp (back16 (s .fits .a), back16 (s .fits .b), back (fits s), under c) (size s))  -- sub-result

@@ -10,10 +10,7 @@ abbrev μ-loop : tie.MeasureT-loop
 μ-loop mask₀ m n sign l i₀ mask i = length mask₀ - i
 
 pub four-row-spec : {M : Type 1} → Rattle.rows.proofs.w_mask.four_row.Statement.statement M
-four-row-spec =
-    tie.close
-    (tie.spec
-    Inv-loop
+four-row-spec = tie.close (tie.spec Inv-loop
     μ-loop
     (λ c. upto-none _ _ _)  -- loop-holds
     (λ c. omega arith) (λ c. omega arith)  -- m[2 * i]

@@ -9,10 +9,7 @@ abbrev μ-loop : tie.MeasureT-loop
 μ-loop mask₀ m sign n i₀ mask i = length mask₀ - i
 
 pub pair-row-spec : {M : Type 1} → Rattle.rows.proofs.w_mask.pair_row.Statement.statement M
-pair-row-spec =
-    tie.close
-    (tie.spec
-    Inv-loop
+pair-row-spec = tie.close (tie.spec Inv-loop
     μ-loop
     (λ c. upto-none _ _ _)  -- loop-holds
     (λ c. omega arith) (λ c. omega arith)  -- m[2 * i]

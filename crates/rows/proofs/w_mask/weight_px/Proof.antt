@@ -32,10 +32,7 @@ below c =
     shr-lt 15 k (omega (arith, m))
 
 pub weight-px-spec : {M : Type 1} → Rattle.rows.proofs.w_mask.weight_px.Statement.statement M
-weight-px-spec =
-    tie.close
-    (tie.spec
-    (λ c. search needs)  -- add-t
+weight-px-spec = tie.close (tie.spec (λ c. search needs)  -- add-t
     (λ c. search needs)  -- sub-t
     (λ c κs. search needs)  -- abs-diff16-requires
     (λ c. search needs)  -- cast-d

@@ -16,10 +16,7 @@ loop-again c =
     (c .weight-px .ensures .0 ∙ read-both (weightOf _ _) (c .before .before .weight-px-arg .given) (c .before .weight-px-arg2 .given))
 
 pub weight-row-spec : {M : Type 1} → Rattle.rows.proofs.w_mask.weight_row.Statement.statement M
-weight-row-spec =
-    tie.close
-    (tie.spec
-    Inv-loop
+weight-row-spec = tie.close (tie.spec Inv-loop
     μ-loop
     (λ c. upto-none _ _ _)  -- loop-holds
     (λ c. omega arith) (λ c. omega arith) (λ c. omega arith)  -- tmp1[q + i]

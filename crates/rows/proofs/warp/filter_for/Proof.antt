@@ -1,4 +1,4 @@
-use Rattle.rows.proofs.Usual.{_≡_, _∙_, _<_, _/_, arith, needs, T, ℤ, natAbs, length, w32, w16, SFits, toZ, ofZ, back, fit}
+use Rattle.rows.proofs.Usual.{_≡_, _∙_, _<_, _/_, arith, T, ℤ, natAbs, length, w32, w16, SFits, toZ, ofZ, back, fit}
 use lib.Signed.{nonNeg}
 use Rattle.rows.specs.Warp.{filterNo}
 use Rattle.rows.proofs.Laws.Filters.Warp.{in-place, lent-filter}
@@ -24,9 +24,7 @@ module _ (c : tie.After-filter-no) where
   inside = in-place _ Z (entry c .pre .3)
 
 pub filter-for-spec : {M : Type 1} → Rattle.rows.proofs.warp.filter_for.Statement.statement M
-filter-for-spec =
-    tie.close
-    (tie.spec
+filter-for-spec = tie.close (tie.spec
     (λ c κs. let p = c .before .before .before .pre in (rw (back (fit w32 (c .struct-told3 .given .0 .1))) (p .0), p .1, p .2))  -- filter-no-requires
     (λ c. rw (is c) (inside c .0, omega (arith, inside c .1)))  -- as usize
     (λ c. rw (is c) (omega (arith, inside c .1)))  -- 8 *

@@ -77,10 +77,7 @@ returns c =
     (rc c, rr c, back16 (c .fits .a), back16 (c .fits .b), fm c, back (a c), back (b c), back (f1 c), back (f2 c), back (f3 c), back (f4 c), back (f5 c))
 
 pub filter-no-spec : {M : Type 1} → Rattle.rows.proofs.warp.filter_no.Statement.statement M
-filter-no-spec =
-    tie.close
-    (tie.spec
-    (λ c. search needs)  -- c as i32
+filter-no-spec = tie.close (tie.spec (λ c. search needs)  -- c as i32
     (λ c. search reading)  -- a as i32
     (λ c. simp (rc c, back16 (c .fits .a)) (a c))  -- c a
     (λ c. simp (rc c, back16 (c .fits .a), fm c, back (a c)) (f1 c))  -- m +

@@ -9,10 +9,7 @@ returns c =
     rw (back fv, c .keep16 .ensures, back fr, r .rounded .ensures, h .half-power .ensures .0, back (h .before .fits .s))
 
 pub warp-kept-spec : {M : Type 1} → Rattle.rows.proofs.warp.warp_kept.Statement.statement M
-warp-kept-spec =
-    tie.close
-    (tie.spec
-    (λ c κs. search needs)  -- half-power-requires
+warp-kept-spec = tie.close (tie.spec (λ c κs. search needs)  -- half-power-requires
     (λ c κs. search needs)  -- rounded-requires
     (λ c κs. search needs)  -- keep16-requires
     returns)

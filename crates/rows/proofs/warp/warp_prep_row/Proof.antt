@@ -35,9 +35,7 @@ returns : tie.Need-returns Inv-loop μ-loop
 returns c = rw (← back (begin (c .before) .fits .bias)) (upto-all (c .before .loop .inv) (omega arith))
 
 pub warp-prep-row-spec : {M : Type 1} → Rattle.rows.proofs.warp.warp_prep_row.Statement.statement M
-warp-prep-row-spec =
-    tie.close
-    (tie.spec Inv-loop μ-loop (λ c. upto-start (omega arith))  -- while c < 8
+warp-prep-row-spec = tie.close (tie.spec Inv-loop μ-loop (λ c. upto-start (omega arith))  -- while c < 8
     (λ c. omega arith) filter-for-requires  -- filter_for(.., c as u32)
     (λ c. omega arith) (λ c. omega arith)  -- o + c * 15
     (λ c κs. omega (arith, length-filter _ _ _ (c .filter-for .ensures)))  -- taps_i16(..)

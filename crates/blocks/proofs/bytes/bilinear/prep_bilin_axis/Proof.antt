@@ -22,9 +22,7 @@ row : (c : tie.In-loop Inv-loop μ-loop) → let a = entry c .args in
 row c = turn (pos 0) (entry c .pre .0) (c .before .loop .inv) (c .loop-test .taken)
 
 pub prep-bilin-axis-spec : {M : Type 1} → Rattle.blocks.proofs.bytes.bilinear.prep_bilin_axis.Statement.statement M
-prep-bilin-axis-spec =
-    tie.close
-    (tie.spec Inv-loop μ-loop
+prep-bilin-axis-spec = tie.close (tie.spec Inv-loop μ-loop
     (λ c. filled-none (pos 0) _ _ _ _ _ (omega (arith, c .before .pre)))  -- loop-holds
     (λ c. omega (arith, row c)) (λ c. omega (arith, row c))  -- y * ts, d + w
     (λ c. omega (arith, row c)) (λ c. omega (arith, row c)) (λ c. omega (arith, row c)) (λ c. omega (arith, row c))  -- tmp[d..d + w]

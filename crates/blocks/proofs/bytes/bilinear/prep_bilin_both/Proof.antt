@@ -33,9 +33,7 @@ returns c =
     ∙ prep-twice (a .d .bits) (a .d .bias) (a .src .now) (a .tmp .now) (s .pre .0) (s .pre .1) (s .pre .2) _ (omega arith)
 
 pub prep-bilin-both-spec : {M : Type 1} → Rattle.blocks.proofs.bytes.bilinear.prep_bilin_both.Statement.statement M
-prep-bilin-both-spec =
-    tie.close
-    (tie.spec
+prep-bilin-both-spec = tie.close (tie.spec
     (λ c κs. search needs) (λ c κs. search needs) (λ c. search needs) (λ c. search needs)  -- bits-of, bias-of, 4 - b, slice-aggregate-prep-bilin-axis
     (λ c. omega (arith, entry c .pre .0 .block))  -- add-prep-bilin-axis
     first-requires (λ c. search needs)  -- slice-aggregate-mid-bilin-prep-rows

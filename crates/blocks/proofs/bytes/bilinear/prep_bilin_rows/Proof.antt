@@ -55,10 +55,7 @@ returns-4 c =
     ∙ prep-copied (a .d .bits) (a .d .bias) (a .src .now) (a .tmp .now) (s .pre .0) (t .before .if1 .left) (t .if3 .left)
 
 pub prep-bilin-rows-spec : {M : Type 1} → Rattle.blocks.proofs.bytes.bilinear.prep_bilin_rows.Statement.statement M
-prep-bilin-rows-spec =
-    tie.close
-    (tie.spec
-    (λ c κs. search needs) (λ c κs. search needs) both-requires (λ c. search needs)  -- bits-of, bias-of, 4 - b
+prep-bilin-rows-spec = tie.close (tie.spec (λ c κs. search needs) (λ c κs. search needs) both-requires (λ c. search needs)  -- bits-of, bias-of, 4 - b
     (λ c. search needs) across-requires (λ c. search needs) (λ c. search needs) downward-requires  -- cast-prep-bilin-axis, 4 - b
     copied-requires (λ c. search needs)  -- same-length
     (λ c. c .before .prep-bilin-both .ensures)  -- returns

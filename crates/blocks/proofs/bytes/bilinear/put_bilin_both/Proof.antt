@@ -29,10 +29,7 @@ returns c =
     ∙ put-twice (a .d .max) (a .d .bits) (a .src .now) (a .dst .now) (s .pre .0) (s .pre .1) (s .pre .2) _ (omega arith)
 
 pub put-bilin-both-spec : {M : Type 1} → Rattle.blocks.proofs.bytes.bilinear.put_bilin_both.Statement.statement M
-put-bilin-both-spec =
-    tie.close
-    (tie.spec
-    (λ c κs. search needs) (λ c. search needs) (λ c. search needs)  -- bits-of, 4 - b, slice-aggregate-prep-bilin-axis
+put-bilin-both-spec = tie.close (tie.spec (λ c κs. search needs) (λ c. search needs) (λ c. search needs)  -- bits-of, 4 - b, slice-aggregate-prep-bilin-axis
     (λ c. omega (arith, entry c .pre .0 .block))  -- add-prep-bilin-axis
     first-requires (λ c. search needs)  -- slice-aggregate-mid-bilin-rows
     (λ c. search needs) second-requires (λ c. search needs) returns)  -- add-mid-bilin-rows, same-length

@@ -53,9 +53,7 @@ returns-4 c =
     ∙ put-copied (a .d .max) (a .d .bits) (a .src .now) (a .dst .now) (s .pre .0) (t .before .if1 .left) (t .if3 .left)
 
 pub put-bilin-rows-spec : {M : Type 1} → Rattle.blocks.proofs.bytes.bilinear.put_bilin_rows.Statement.statement M
-put-bilin-rows-spec =
-    tie.close
-    (tie.spec
+put-bilin-rows-spec = tie.close (tie.spec
     (λ c κs. search needs) both-requires (λ c. search needs) (λ c κs. search needs) across-requires  -- bits-of, 4 - b, half-power
     downward-requires copied-requires (λ c. search needs)  -- same-length
     (λ c. c .before .before .put-bilin-both .ensures)  -- returns

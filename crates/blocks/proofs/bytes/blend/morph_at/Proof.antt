@@ -36,9 +36,6 @@ returns c =
     )
 
 pub morph-at-spec : {M : Type 1} → Rattle.blocks.proofs.bytes.blend.morph_at.Statement.statement M
-morph-at-spec =
-    tie.close
-    (tie.spec
-    (λ c κs. search needs) (λ c κs. search needs) depth-numbers-requires morph-rows-requires  -- depth-ok, check-morph
+morph-at-spec = tie.close (tie.spec (λ c κs. search needs) (λ c κs. search needs) depth-numbers-requires morph-rows-requires  -- depth-ok, check-morph
     (λ c. search needs) returns  -- same-length
     (λ c. (number (c .before), sym (refused _ _ _ (c .if1 .left)))))  -- returns-2

@@ -32,9 +32,6 @@ returns c =
     (number (n .before .before), rw (depth n) at (c .before .before .avg-rows .ensures) ∙ sym (done _ _ _ (n .before .if1 .taken)))
 
 pub avg-at-spec : {M : Type 1} → Rattle.blocks.proofs.bytes.combine.avg_at.Statement.statement M
-avg-at-spec =
-    tie.close
-    (tie.spec
-    (λ c κs. search needs) (λ c κs. search needs) depth-numbers-requires avg-rows-requires  -- depth-ok, check-combine
+avg-at-spec = tie.close (tie.spec (λ c κs. search needs) (λ c κs. search needs) depth-numbers-requires avg-rows-requires  -- depth-ok, check-combine
     (λ c. search needs) returns  -- same-length
     (λ c. (number (c .before), sym (refused _ _ _ (c .if1 .left)))))  -- returns-2

@@ -22,9 +22,7 @@ row c =
     (turn 0 (c .before .loop .inv) (p .1) lt, row-in y (p .2) lt, row-in y (p .3) lt, row-fits _ _ _ _ y (p .4) lt)
 
 pub mask-rows-spec : {M : Type 1} → Rattle.blocks.proofs.bytes.combine.mask_rows.Statement.statement M
-mask-rows-spec =
-    tie.close
-    (tie.spec Inv-loop μ-loop
+mask-rows-spec = tie.close (tie.spec Inv-loop μ-loop
     (λ c. filled-none 0 _ _ _ _ _ (omega (arith, c .before .before .pre)))  -- loop-holds
     (λ c. omega (arith, row c)) (λ c. omega (arith, row c))  -- y * dst_stride, p + w
     (λ c. omega (arith, row c)) (λ c. omega (arith, row c)) (λ c. omega (arith, row c))  -- dst[p..p + w]

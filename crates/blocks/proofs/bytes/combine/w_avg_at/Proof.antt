@@ -35,9 +35,7 @@ returns c =
     (number (n .before .before), rw (depth n, e) at (c .before .before .w-avg-rows .ensures) ∙ sym (done _ _ _ (n .before .if1 .taken)))
 
 pub w-avg-at-spec : {M : Type 1} → Rattle.blocks.proofs.bytes.combine.w_avg_at.Statement.statement M
-w-avg-at-spec =
-    tie.close
-    (tie.spec
+w-avg-at-spec = tie.close (tie.spec
     (λ c κs. search needs) (λ c κs. search needs) (λ c κs. search needs) depth-numbers-requires  -- depth-ok, weight-ok, check-combine
     w-avg-rows-requires (λ c. search needs) returns  -- same-length
     (λ c. (number (c .before), sym (refused _ _ _ (c .if1 .left)))))  -- returns-2

@@ -33,10 +33,7 @@ returns-2 c =
     r .mask-rows2 .ensures ∙ above-fill _ _ _ _ _ _ _ _ (s .args .tmp1 .now) (s .args .tmp2 .now) (s .args .weight) (omega (arith, s .pre)) (s .pre .0 .w64) v (above (m .before) .0)
 
 pub w-avg-rows-spec : {M : Type 1} → Rattle.blocks.proofs.bytes.combine.w_avg_rows.Statement.statement M
-w-avg-rows-spec =
-    tie.close
-    (tie.spec
-    (λ c. let s = c .before .before in simp (back (s .fits .weight)) (fits s))  -- sub-mask-of
+w-avg-rows-spec = tie.close (tie.spec (λ c. let s = c .before .before in simp (back (s .fits .weight)) (fits s))  -- sub-mask-of
     (λ c κs. let s = c .before .before in simp (back (s .fits .weight), back (fits s)) (below c))  -- mask-of-requires
     (λ c. search needs) (λ c κs. search needs)  -- slice-aggregate-mask-rows, mask-rows
     (λ c κs. let s = c .before .before in simp (back (s .fits .weight)) (above c))  -- mask-of-requires-2

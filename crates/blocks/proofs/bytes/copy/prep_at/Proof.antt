@@ -31,9 +31,7 @@ returns c =
     (number (n .before .before), rw (depth n) at (c .before .prep-rows .ensures) ∙ sym (done _ _ _ (n .before .if1 .taken)))
 
 pub prep-at-spec : {M : Type 1} → Rattle.blocks.proofs.bytes.copy.prep_at.Statement.statement M
-prep-at-spec =
-    tie.close
-    (tie.spec
+prep-at-spec = tie.close (tie.spec
     (λ c κs. search needs) (λ c κs. search needs) depth-numbers-requires prep-rows-requires (λ c. search needs)  -- depth-ok, check-prep, same-length
     returns
     (λ c. (number (c .before), sym (refused _ _ _ (c .if1 .left)))))  -- returns-2

@@ -51,9 +51,7 @@ returns : tie.Need-returns Inv-loop μ-loop
 returns c = filled-all (c .before .before .loop .inv) (c .if1 .left)
 
 pub edge-rows-spec : {M : Type 1} → Rattle.blocks.proofs.bytes.edge.edge_rows.Statement.statement M
-edge-rows-spec =
-    tie.close
-    (tie.spec Inv-loop μ-loop
+edge-rows-spec = tie.close (tie.spec Inv-loop μ-loop
     (λ c. filled-none 0 _ _ _ _ _ (omega (arith, c .before .before .pre .dst)))  -- loop-holds
     (λ c. omega (arith, row-in (c .before .before .loop .j) (entry c .pre .dst) (c .if1 .taken)))  -- j * dst_stride
     nearest-row-requires

@@ -62,9 +62,6 @@ returns-2 c =
     (prep-refused _ _ _ _ _ _ (ordered-number (depth w) (tables w) refl (w .order-window .ensures)) (w .order-window .ensures .full) (c .if1 .left))
 
 pub order-prep-at-spec : {M : Type 1} → Rattle.blocks.proofs.bytes.order.order_prep_at.Statement.statement M
-order-prep-at-spec =
-    tie.close
-    (tie.spec
-    (λ c κs. search needs) (λ c κs. search needs) (λ c κs. search needs)  -- kind-of, depth-ok, order-window
+order-prep-at-spec = tie.close (tie.spec (λ c κs. search needs) (λ c κs. search needs) (λ c κs. search needs)  -- kind-of, depth-ok, order-window
     (λ c κs. deep c) pick-requires prep-kind-requires  -- depth-numbers-requires
     (λ c. search needs) (λ c. search needs) returns (λ c. search needs) returns-2)  -- same-length

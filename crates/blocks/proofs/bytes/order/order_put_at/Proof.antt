@@ -62,9 +62,6 @@ returns-2 c =
     (put-refused _ _ _ _ _ _ (ordered-number (depth w) (tables w) refl (w .order-window .ensures)) (w .order-window .ensures .full) (c .if1 .left))
 
 pub order-put-at-spec : {M : Type 1} → Rattle.blocks.proofs.bytes.order.order_put_at.Statement.statement M
-order-put-at-spec =
-    tie.close
-    (tie.spec
-    (λ c κs. search needs) (λ c κs. search needs) (λ c κs. search needs)  -- kind-of, depth-ok, order-window
+order-put-at-spec = tie.close (tie.spec (λ c κs. search needs) (λ c κs. search needs) (λ c κs. search needs)  -- kind-of, depth-ok, order-window
     (λ c κs. deep c) pick-requires put-kind-requires  -- depth-numbers-requires
     (λ c. search needs) (λ c. search needs) returns (λ c. search needs) returns-2)  -- same-length

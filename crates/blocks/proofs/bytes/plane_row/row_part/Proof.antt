@@ -14,9 +14,7 @@ returns c =
     c .pick .ensures ∙ ap (λ (p : Part). partOf p (g .before .before .args .plane .now) []) (answer g)
 
 pub row-part-spec : {M : Type 1} → Rattle.blocks.proofs.bytes.plane_row.row_part.Statement.statement M
-row-part-spec =
-    tie.close
-    (tie.spec
+row-part-spec = tie.close (tie.spec
     (λ c κs. search needs) (λ c. search needs) (λ c. search needs) (λ c. search needs)  -- row-at, sub-pick, part-pick-start, part-pick-end
     (λ c κs. rw (answer (c .before)) (row-in-plane _ _ _))  -- pick-requires
     returns)

@@ -48,9 +48,7 @@ returns c =
     rw e at (c .before .loop .inv .1 .1)
 
 pub next-pairs-spec : {M : Type 1} → Rattle.blocks.proofs.bytes.scaled.next_pairs.Statement.statement M
-next-pairs-spec =
-    tie.close
-    (tie.spec Inv-loop μ-loop
+next-pairs-spec = tie.close (tie.spec Inv-loop μ-loop
     (λ c. search needs) (λ c. search needs)  -- loop-holds, k % 2 * 64
     (λ c. omega (arith, entry c .pre .3)) (λ c. search needs) (λ c. search needs) (λ c. search needs) (λ c. search needs)  -- rows[q..q + w]
     (λ c. omega (arith, begins (c .before .before))) (λ c. omega (arith, begins (c .before .before .before)))  -- k * stride, start + it

@@ -47,9 +47,7 @@ returns c =
     subst (λ (n : ℕ). LastEight (a .w) (lineOf (a .src .now) (a .subpel .now) (a .p)) n (l .rows) (l .order)) (omega (arith, l .inv .0)) (l .inv .1)
 
 pub next-rows-spec : {M : Type 1} → Rattle.blocks.proofs.bytes.scaled.next_rows.Statement.statement M
-next-rows-spec =
-    tie.close
-    (tie.spec Inv-loop μ-loop (λ c. (c .before .pre .1, c .before .pre .0))
+next-rows-spec = tie.close (tie.spec Inv-loop μ-loop (λ c. (c .before .pre .1, c .before .pre .0))
     (λ c κs. search needs)  -- turned
     (λ c. search needs)  -- order[7]
     (λ c. omega (arith, newest c))  -- * 64

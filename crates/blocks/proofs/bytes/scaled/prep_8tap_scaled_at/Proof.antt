@@ -61,9 +61,8 @@ prep-8tap-scaled-rows-requires c κs =
     (m .block, m .rows, taps-met _ _ m _ .1, depth-bits _ (m .deep), depth-bias _ (m .deep))
 
 pub prep-8tap-scaled-at-spec : {M : Type 1} → Rattle.blocks.proofs.bytes.scaled.prep_8tap_scaled_at.Statement.statement M
-prep-8tap-scaled-at-spec =
-    tie.close
-    (tie.spec (λ c κs. search needs) (λ c κs. search needs) (λ c κs. search needs)  -- depth-ok, scaled-type-ok, check-scaled
+prep-8tap-scaled-at-spec = tie.close (tie.spec
+    (λ c κs. search needs) (λ c κs. search needs) (λ c κs. search needs)  -- depth-ok, scaled-type-ok, check-scaled
     (λ c κs. rw (back (begin (c .before) .fits .depth)) (met c .deep))  -- depth-numbers
     (λ c. omega (arith, met (c .before) .most)) (λ c. taps-met _ _ (met (c .before)) 0 .0)  -- src_off - 3 * src_stride
     (λ c κs. search needs)  -- scaled-plan

@@ -1,5 +1,5 @@
 -- Made from crates/blocks/proofs/words/scaled/prep_8tap_scaled_rows/Proof.antt by tools/sets: change that.
-use Rattle.blocks.proofs.Usual.{_≡_, _∙_, refl, _≤_, _*_, _+_, _-_, _<_, _^_, arith, needs, pos, length, row-same, Filled, filled-none, filled-more}
+use Rattle.blocks.proofs.Usual.{_∙_, refl, _≤_, _+_, _-_, _<_, _^_, arith, needs, pos, row-same, Filled, filled-none, filled-more}
 use Rattle.blocks.proofs.Usual.{Turn, turn, filled-all}
 use Rattle.rows.specs.Scaled.{position, pixelOf, sixteenth, inFamily, prepDown}
 use Rattle.rows.proofs.Laws.Filters.Scaled.{position-lt}
@@ -62,9 +62,7 @@ loop-again c =
     )
 
 pub prep-8tap-scaled-rows-spec : {M : Type 1} → Rattle.blocks.proofs.bytes.scaled.prep_8tap_scaled_rows.Statement.statement M
-prep-8tap-scaled-rows-spec =
-    tie.close
-    (tie.spec Inv-loop μ-loop
+prep-8tap-scaled-rows-spec = tie.close (tie.spec Inv-loop μ-loop
     (λ c κs. search needs) (λ c κs. search needs)  -- bias-of, no-rows
     (λ c. let s = c .before .before .before in
     (filled-none (pos 0) _ _ _ _ _ (omega (arith, s .pre .1)), eight-none _ _ _ _ (c .no-rows .ensures .0) (c .no-rows .ensures .1), omega arith))  -- loop-holds

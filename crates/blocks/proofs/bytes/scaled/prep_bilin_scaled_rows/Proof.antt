@@ -54,9 +54,7 @@ loop-again c =
     (rw (b .by-parity .ensures, less t) at (m .mid-bilin-prep-row .ensures))
 
 pub prep-bilin-scaled-rows-spec : {M : Type 1} → Rattle.blocks.proofs.bytes.scaled.prep_bilin_scaled_rows.Statement.statement M
-prep-bilin-scaled-rows-spec =
-    tie.close
-    (tie.spec Inv-loop μ-loop
+prep-bilin-scaled-rows-spec = tie.close (tie.spec Inv-loop μ-loop
     (λ c κs. search needs) (λ c. search needs)  -- bias-of, as i16
     tabulate-columns-requires
     (λ c. let p = begin (c .before) .pre in pair-none (pos 0) (p .0) (p .1) refl)  -- loop-holds

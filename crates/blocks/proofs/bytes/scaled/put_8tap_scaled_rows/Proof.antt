@@ -1,5 +1,5 @@
 -- Made from crates/blocks/proofs/words/scaled/put_8tap_scaled_rows/Proof.antt by tools/sets: change that.
-use Rattle.blocks.proofs.Usual.{_≡_, _∙_, refl, _≤_, _*_, _+_, _-_, _<_, _^_, arith, needs, length, row-same, Filled, filled-none, filled-more, Turn}
+use Rattle.blocks.proofs.Usual.{_∙_, refl, _≤_, _+_, _-_, _<_, _^_, arith, needs, row-same, Filled, filled-none, filled-more, Turn}
 use Rattle.blocks.proofs.Usual.{turn, filled-all}
 use Rattle.rows.specs.Scaled.{position, pixelOf, sixteenth, inFamily, putDown}
 use Rattle.rows.proofs.Laws.Filters.Scaled.{position-lt}
@@ -61,9 +61,7 @@ loop-again c =
     )
 
 pub put-8tap-scaled-rows-spec : {M : Type 1} → Rattle.blocks.proofs.bytes.scaled.put_8tap_scaled_rows.Statement.statement M
-put-8tap-scaled-rows-spec =
-    tie.close
-    (tie.spec Inv-loop μ-loop
+put-8tap-scaled-rows-spec = tie.close (tie.spec Inv-loop μ-loop
     (λ c κs. search needs)  -- no-rows
     (λ c. let s = c .before .before .before in
     (filled-none 0 _ _ _ _ _ (omega (arith, s .pre .1)), eight-none _ _ _ _ (c .no-rows .ensures .0) (c .no-rows .ensures .1), omega arith))  -- loop-holds

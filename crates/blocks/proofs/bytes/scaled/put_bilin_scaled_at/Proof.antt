@@ -40,9 +40,7 @@ put-bilin-scaled-rows-requires c κs =
     (m .block, m .rows, pairs-met m (pos 0) _ (even-bits (up (begin (t .before) .args .depth))), depth-bits _ (m .deep), depth-max _ (m .deep))
 
 pub put-bilin-scaled-at-spec : {M : Type 1} → Rattle.blocks.proofs.bytes.scaled.put_bilin_scaled_at.Statement.statement M
-put-bilin-scaled-at-spec =
-    tie.close
-    (tie.spec (λ c κs. search needs) (λ c κs. search needs)  -- depth-ok, check-scaled
+put-bilin-scaled-at-spec = tie.close (tie.spec (λ c κs. search needs) (λ c κs. search needs)  -- depth-ok, check-scaled
     (λ c κs. rw (back (begin (c .before) .fits .depth)) (met c .deep))  -- depth-numbers
     (λ c κs. search needs)  -- scaled-plan
     put-bilin-scaled-rows-requires (λ c. search needs) returns (λ c. (number (c .before), sym (refused _ _ _ (c .if1 .left)))))

@@ -53,9 +53,7 @@ loop-again c =
     (rw (b .by-parity .ensures, bits t) at (m .mid-bilin-row .ensures))
 
 pub put-bilin-scaled-rows-spec : {M : Type 1} → Rattle.blocks.proofs.bytes.scaled.put_bilin_scaled_rows.Statement.statement M
-put-bilin-scaled-rows-spec =
-    tie.close
-    (tie.spec Inv-loop μ-loop
+put-bilin-scaled-rows-spec = tie.close (tie.spec Inv-loop μ-loop
     (λ c κs. search needs) (λ c. search needs)  -- bits-of, 4 + B
     tabulate-columns-requires
     (λ c. let p = begin (c .before) .pre in pair-none 0 (p .0) (p .1) refl)  -- loop-holds

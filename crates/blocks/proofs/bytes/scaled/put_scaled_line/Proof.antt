@@ -44,10 +44,7 @@ mid-by-requires c κs =
     (omega (arith, begin b .pre), omega (arith, few b, h .half-power .ensures), λ e. absurd (subst T (sym e) tt), begin b .pre .6)
 
 pub put-scaled-line-spec : {M : Type 1} → Rattle.blocks.proofs.bytes.scaled.put_scaled_line.Statement.statement M
-put-scaled-line-spec =
-    tie.close
-    (tie.spec
-    (λ c κs. search needs)  -- bits-of
+put-scaled-line-spec = tie.close (tie.spec (λ c κs. search needs)  -- bits-of
     (λ c. search needs)  -- order[3]
     (λ c. omega (arith, third c))  -- order[3] * 64
     (λ c. omega (arith, few (c .before .before)))  -- 4 + b

@@ -12,9 +12,6 @@ returns-2 c =
     (c .offset-of2 .ensures ∙ refine-explicit (a .n .depth) (pixel (a .p0 .now) (a .n .s0)) (pixel (a .p1 .now) (a .n .s1)) (a .n .w) (a .n .h) (t .search .ensures))
 
 pub refine-spec : {M : Type 1} → Rattle.blocks.proofs.bytes.search.refine.Statement.statement M
-refine-spec =
-    tie.close
-    (tie.spec
-    (λ c κs. search needs) (λ c κs. search needs)  -- implicit, offset-of
+refine-spec = tie.close (tie.spec (λ c κs. search needs) (λ c κs. search needs)  -- implicit, offset-of
     (λ c. rw (c .before .before .if1 .taken) (c .offset-of .ensures ∙ c .before .implicit .ensures))  -- returns
     (λ c κs. search needs) (λ c κs. search needs) returns-2)  -- search, offset-of

@@ -27,8 +27,6 @@ returns-2 c =
     (rw (k .before .depth-ok .ensures, d) at (k .check-sads .ensures), sym (refused _ _ _ (c .if1 .left)))
 
 pub sad-nxn-at-spec : {M : Type 1} → Rattle.blocks.proofs.bytes.search.sad_nxn_at.Statement.statement M
-sad-nxn-at-spec =
-    tie.close
-    (tie.spec
+sad-nxn-at-spec = tie.close (tie.spec
     (λ c κs. search needs) (λ c κs. search needs) (λ c κs. search needs) sad-sum-requires  -- depth-ok, check-sads, above
     (λ c. search needs) returns returns-2)  -- cast-sum

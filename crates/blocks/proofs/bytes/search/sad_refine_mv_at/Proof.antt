@@ -26,7 +26,5 @@ returns-2 c =
     (rw (k .before .depth-ok .ensures, d) at (k .check-sads .ensures), sym (refused _ _ _ (c .if1 .left)))
 
 pub sad-refine-mv-at-spec : {M : Type 1} → Rattle.blocks.proofs.bytes.search.sad_refine_mv_at.Statement.statement M
-sad-refine-mv-at-spec =
-    tie.close
-    (tie.spec
+sad-refine-mv-at-spec = tie.close (tie.spec
     (λ c κs. search needs) (λ c κs. search needs) (λ c κs. search needs) refine-requires returns returns-2)  -- depth-ok, check-sads, above

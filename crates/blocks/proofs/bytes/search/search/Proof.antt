@@ -15,7 +15,5 @@ returns c =
     (g .visit-row .ensures) (f .visit-row2 .ensures) (e .visit-row3 .ensures) (d .visit-row4 .ensures) (c .visit-row5 .ensures)
 
 pub search-spec : {M : Type 1} → Rattle.blocks.proofs.bytes.search.search.Statement.statement M
-search-spec =
-    tie.close
-    (tie.spec
+search-spec = tie.close (tie.spec
     (λ c κs. search needs) (λ c κs. search needs) (λ c κs. search needs) (λ c κs. search needs) (λ c κs. search needs) returns)  -- visit-row

@@ -43,8 +43,6 @@ returns-2 c =
     ∙ prep-block (planned d) (s .pre .0) (s .pre .2) (s .args .src .now) (t .if1 .left) _ _ (omega (arith, s .pre .0, s .pre .1)) _
 
 pub prep-8tap-rows-spec : {M : Type 1} → Rattle.blocks.proofs.bytes.subpel.prep_8tap_rows.Statement.statement M
-prep-8tap-rows-spec =
-    tie.close
-    (tie.spec
+prep-8tap-rows-spec = tie.close (tie.spec
     plan-8tap-requires (λ c. search needs) (λ c. search needs) prep-lines-requires (λ c. search needs)  -- &mut mid, h + 7, &mid
     mid-prep-lines-requires (λ c. search needs) returns prep-lines-requires-last (λ c. search needs) returns-2)  -- same-length

@@ -29,8 +29,6 @@ put-8tap-rows-requires c κs =
     rw (d .depth-numbers .ensures) (r .1, r .2, r .3, depth-bits _ p, depth-bias _ p, depth-max _ p)
 
 pub put-8tap-at-spec : {M : Type 1} → Rattle.blocks.proofs.bytes.subpel.put_8tap_at.Statement.statement M
-put-8tap-at-spec =
-    tie.close
-    (tie.spec (λ c κs. search needs) (λ c κs. search needs)  -- depth-ok, check-8tap
+put-8tap-at-spec = tie.close (tie.spec (λ c κs. search needs) (λ c κs. search needs)  -- depth-ok, check-8tap
     (λ c κs. let k = c .before in sym (k .before .depth-ok .ensures) ∙ subpel-ready _ _ _ _ _ _ _ _ _ _ _ _ _ (sym (k .check-8tap .ensures) ∙ c .if1 .taken) .0)
     put-8tap-rows-requires (λ c. search needs) returns (λ c. (number (c .before), sym (refused _ _ _ (c .if1 .left)))))  -- same-length, refused

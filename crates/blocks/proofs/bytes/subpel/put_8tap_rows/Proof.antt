@@ -43,9 +43,7 @@ returns-2 c =
     ∙ put-block (planned d) (s .pre .0) (s .pre .2) (s .args .src .now) (t .if1 .left) _ _ (omega (arith, s .pre .0, s .pre .1)) _
 
 pub put-8tap-rows-spec : {M : Type 1} → Rattle.blocks.proofs.bytes.subpel.put_8tap_rows.Statement.statement M
-put-8tap-rows-spec =
-    tie.close
-    (tie.spec
+put-8tap-rows-spec = tie.close (tie.spec
     plan-8tap-requires (λ c. search needs) (λ c. search needs) prep-lines-requires (λ c. search needs)  -- &mut mid, h + 7, &mid
     (λ c. let d = c .before .before .before .before .before .before .before .before in omega (arith, bits-in (planned d), begin d .pre .3))  -- n + bits
     mid-lines-requires (λ c. search needs) returns put-lines-requires-last (λ c. search needs) returns-2)  -- same-length

@@ -30,8 +30,6 @@ warp-put-requires c κs =
     let p = sym (k .before .depth-ok .ensures) ∙ r .0 in rw (c .before .depth-numbers .ensures) (r .1, depth-bits _ p, depth-max _ p)
 
 pub warp-affine-8x8-at-spec : {M : Type 1} → Rattle.blocks.proofs.bytes.warp.warp_affine_8x8_at.Statement.statement M
-warp-affine-8x8-at-spec =
-    tie.close
-    (tie.spec (λ c κs. search needs) (λ c κs. search needs)  -- depth-ok, check-warp
+warp-affine-8x8-at-spec = tie.close (tie.spec (λ c κs. search needs) (λ c κs. search needs)  -- depth-ok, check-warp
     (λ c κs. let k = c .before in sym (k .before .depth-ok .ensures) ∙ warp-ready _ _ _ _ _ _ _ _ _ _ _ _ _ (sym (k .check-warp .ensures) ∙ c .if1 .taken) .0)
     warp-put-requires (λ c. search needs) returns (λ c. (number (c .before), sym (refused _ _ _ (c .if1 .left)))))  -- same-length, refused

@@ -24,8 +24,6 @@ returns c =
     ∙ prep-second _ _ _ _ _ _ _ _ (s .pre .0 .src .before) _ _ refl first _ _ _ _ _ _ (omega (arith, s .pre .0 .dst))
 
 pub warp-prep-spec : {M : Type 1} → Rattle.blocks.proofs.bytes.warp.warp_prep.Statement.statement M
-warp-prep-spec =
-    tie.close
-    (tie.spec
+warp-prep-spec = tie.close (tie.spec
     (λ c. search needs) (λ c. search needs) (λ c. search needs) (λ c. search needs)  -- 3 * src_stride, 3 * src_stride + 3, src_off - .., mid's length
     warp-mid-requires (λ c. search needs) warp-prep-rows-requires (λ c. search needs) returns)  -- mid's length again, same-length

@@ -24,8 +24,6 @@ returns c =
     ∙ put-second _ _ _ _ _ _ _ _ (s .pre .0 .src .before) _ _ refl first _ _ _ _ _ _ (omega (arith, s .pre .0 .dst))
 
 pub warp-put-spec : {M : Type 1} → Rattle.blocks.proofs.bytes.warp.warp_put.Statement.statement M
-warp-put-spec =
-    tie.close
-    (tie.spec
+warp-put-spec = tie.close (tie.spec
     (λ c. search needs) (λ c. search needs) (λ c. search needs) (λ c. search needs)  -- 3 * src_stride, 3 * src_stride + 3, src_off - .., mid's length
     warp-mid-requires (λ c. search needs) warp-put-rows-requires (λ c. search needs) returns)  -- mid's length again, same-length

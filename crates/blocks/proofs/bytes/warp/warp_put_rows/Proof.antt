@@ -31,9 +31,7 @@ loop-again c =
     filled-row 0 _ (t .before .loop .inv) (omega arith) (entry t .pre .0) (t .loop-test .taken) (c .before .before .warp-put-row .ensures)
 
 pub warp-put-rows-spec : {M : Type 1} → Rattle.blocks.proofs.bytes.warp.warp_put_rows.Statement.statement M
-warp-put-rows-spec =
-    tie.close
-    (tie.spec Inv-loop μ-loop
+warp-put-rows-spec = tie.close (tie.spec Inv-loop μ-loop
     (λ c. filled-none 0 _ _ _ _ _ (omega (arith, c .before .pre .0)))  -- loop-holds
     (λ c. omega (arith, row c)) (λ c. omega (arith, row c))  -- y * dst_stride, d + 8
     (λ c. omega (arith, row c)) (λ c. omega (arith, row c)) (λ c. omega (arith, row c))  -- dst[d..d + 8]

@@ -9,7 +9,4 @@ returns c =
     let e = rw (back (f .x), back (f .y)) at (g .window .ensures) in (part-answer (e .0), e .1)
 
 pub hv-window-8bpc-spec : {M : Type 1} → Rattle.blocks.proofs.bytes.window.hv_window_8bpc.Statement.statement M
-hv-window-8bpc-spec =
-    tie.close
-    (tie.spec
-    (λ c κs. search needs) (λ c. search needs) returns)  -- window, same-length
+hv-window-8bpc-spec = tie.close (tie.spec (λ c κs. search needs) (λ c. search needs) returns)  -- window, same-length

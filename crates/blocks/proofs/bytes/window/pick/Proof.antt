@@ -16,10 +16,7 @@ unfolding partOf
 returns-3 c = rw (ne-eqb _ 1 (c .before .before .if1 .left), ne-eqb _ 2 (c .before .if2 .left)) refl
 
 pub pick-spec : {M : Type 1} → Rattle.blocks.proofs.bytes.window.pick.Statement.statement M
-pick-spec =
-    tie.close
-    (tie.spec
-    (λ c. omega (arith, c .before .pre .plane (c .if1 .taken)))  -- add-result
+pick-spec = tie.close (tie.spec (λ c. omega (arith, c .before .pre .plane (c .if1 .taken)))  -- add-result
     (λ c. search needs) (λ c. search needs)  -- sub-result, part-result-start
     (λ c. omega (arith, c .before .pre .plane (c .if1 .taken)))  -- part-result-end
     returns

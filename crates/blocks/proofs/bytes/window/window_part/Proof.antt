@@ -18,9 +18,6 @@ returns c =
     c .pick .ensures ∙ ap (λ (p : Part). partOf p (a .plane .now) (a .scratch .now)) (answer g)
 
 pub window-part-spec : {M : Type 1} → Rattle.blocks.proofs.bytes.window.window_part.Statement.statement M
-window-part-spec =
-    tie.close
-    (tie.spec
-    (λ c κs. search needs)  -- find-window-requires
+window-part-spec = tie.close (tie.spec (λ c κs. search needs)  -- find-window-requires
     (λ c κs. rw (answer c) (window-in _ _ _))  -- pick-requires
     returns)

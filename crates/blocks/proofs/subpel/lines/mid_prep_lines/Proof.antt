@@ -37,9 +37,7 @@ mid-prep-row-requires c κs =
     (omega (arith, row t), half-short (t .before .before .before .half-power .ensures .0) (p .1), omega (arith, p), near t)
 
 pub mid-prep-lines-spec : {M : Type 1} → Rattle.blocks.proofs.subpel.lines.mid_prep_lines.Statement.statement M
-mid-prep-lines-spec =
-    tie.close
-    (tie.spec Inv-loop μ-loop
+mid-prep-lines-spec = tie.close (tie.spec Inv-loop μ-loop
     (λ c κs. search needs) (λ c. search needs)  -- half-power, bias as i16
     (λ c κs. search needs)  -- is-near
     (λ c. filled-none (pos 0) _ _ _ _ _ (omega (arith, c .before .before .pre .0 .dst)))  -- loop-holds

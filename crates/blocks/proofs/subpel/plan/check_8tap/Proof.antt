@@ -35,10 +35,7 @@ returns-2 c =
     (later (shapeTests _ _ _ _) _ (none (t .before .before .before)))
 
 pub check-8tap-spec : {M : Type 1} → Rattle.blocks.proofs.subpel.plan.check_8tap.Statement.statement M
-check-8tap-spec =
-    tie.close
-    (tie.spec
-    (λ c κs. search needs) (λ c κs. search needs) (λ c κs. search needs)  -- stride, sizes
+check-8tap-spec = tie.close (tie.spec (λ c κs. search needs) (λ c κs. search needs) (λ c κs. search needs)  -- stride, sizes
     (λ c. shape (c .before) ∙ sooner (shapeTests _ _ _ _) _ (λ q. c .if1 .taken (shape (c .before) ∙ q)))  -- returns
     (λ c κs. search needs) (λ c κs. search needs) reads-taps-requires (λ c κs. search needs) (λ c κs. search needs)  -- on-axis, held, needed
     (λ c κs. search needs) (λ c κs. search needs) (λ c κs. search needs) returns-2)  -- tables, motion, needed

@@ -7,7 +7,4 @@ unfolding fractionOk sixteenthOk
 returns c = rw (back (c .fits .filter-type), back (c .fits .f))
 
 pub fraction-ok-spec : {M : Type 1} → Rattle.blocks.proofs.subpel.plan.fraction_ok.Statement.statement M
-fraction-ok-spec =
-    tie.close
-    (tie.spec
-    returns)
+fraction-ok-spec = tie.close (tie.spec returns)

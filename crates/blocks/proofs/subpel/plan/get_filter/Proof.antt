@@ -37,10 +37,7 @@ returns-4 : tie.Need-returns-4
 returns-4 c = let b = c .before in number b _ (t-is b .0 ∙ family-high _ _ (c .if3 .left))
 
 pub get-filter-spec : {M : Type 1} → Rattle.blocks.proofs.subpel.plan.get_filter.Statement.statement M
-get-filter-spec =
-    tie.close
-    (tie.spec
-    (λ c κs. search needs) (λ c. search needs)  -- above, cast-n
+get-filter-spec = tie.close (tie.spec (λ c κs. search needs) (λ c. search needs)  -- above, cast-n
     (λ c. filter-off _ _ _ (omega (arith, n-is (c .before))))  -- returns
     (λ c. search needs) returns-2 (λ c κs. search needs) (λ c. search needs) (λ c. search needs)  -- sub-t8, above, cast-t, add-t10
     (λ c. search needs) (λ c. search needs) (λ c. search needs) returns-3  -- mul-t11, sub-t12, add-t13

@@ -8,7 +8,5 @@ returns c =
     (rw (f .fraction-ok2 .ensures, f .before .before .fraction-ok .ensures, told-back w32 (g .1 .1), told-back w32 g, told-back w32 (g .1)))
 
 pub motion-spec : {M : Type 1} → Rattle.blocks.proofs.subpel.plan.motion.Statement.statement M
-motion-spec =
-    tie.close
-    (tie.spec
+motion-spec = tie.close (tie.spec
     (λ c κs. search needs) (λ c κs. search needs) (λ c κs. search needs) (λ c κs. search needs) (λ c κs. search needs) (λ c κs. search needs) returns)

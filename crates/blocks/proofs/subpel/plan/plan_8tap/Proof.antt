@@ -90,10 +90,7 @@ returns-4 c =
     plan-both _ _ _ _ _ _ _ _ _ (up (a .m .mx)) (up (a .m .my)) (k .n) (k .r) q (k .f) (k .g) (omega arith) (omega arith)
 
 pub plan-8tap-spec : {M : Type 1} → Rattle.blocks.proofs.subpel.plan.plan_8tap.Statement.statement M
-plan-8tap-spec =
-    tie.close
-    (tie.spec
-    (λ c κs. search needs) (λ c κs. search needs)  -- filter-bits, get-filter
+plan-8tap-spec = tie.close (tie.spec (λ c κs. search needs) (λ c κs. search needs)  -- filter-bits, get-filter
     (λ c κs. rw (across c) (c .before .before .before .before .pre .2))  -- taps-requires
     (λ c κs. search needs)  -- get-filter-requires-2
     (λ c κs. rw (down c) (c .before .before .before .before .before .before .before .pre .3))  -- taps-requires-2

@@ -10,7 +10,5 @@ returns c =
     (rw (f .filter-in2 .ensures, f .before .before .filter-in .ensures, told-back w32 (g .1 .1), told-back w32 g, told-back w32 (g .1)))
 
 pub tables-spec : {M : Type 1} → Rattle.blocks.proofs.subpel.plan.tables.Statement.statement M
-tables-spec =
-    tie.close
-    (tie.spec
+tables-spec = tie.close (tie.spec
     (λ c κs. search needs) (λ c κs. search needs) (λ c κs. search needs) (λ c κs. search needs) (λ c κs. search needs) (λ c κs. search needs) returns)

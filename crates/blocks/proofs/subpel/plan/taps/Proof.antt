@@ -15,10 +15,7 @@ unfolding tapsOf axisOf
 returns-3 c = rw (c .before .before .k2 .given .1) (c .eight2 .ensures)
 
 pub taps-spec : {M : Type 1} → Rattle.blocks.proofs.subpel.plan.taps.Statement.statement M
-taps-spec =
-    tie.close
-    (tie.spec
-    (λ c. search needs) (λ c. search needs)  -- enum-told, enum-known-k
+taps-spec = tie.close (tie.spec (λ c. search needs) (λ c. search needs)  -- enum-told, enum-known-k
     (λ c κs. rw (c .before .k .given .1) at (c .before .before .before .pre))  -- eight-requires
     (λ c. search needs)  -- enum-known-k-2
     (λ c κs. rw (c .before .k2 .given .1) at (c .before .before .before .pre))  -- eight-requires-2

@@ -7,7 +7,4 @@ unfolding typeOk
 returns c = rw (back (c .fits .filter-type))
 
 pub type-ok-spec : {M : Type 1} → Rattle.blocks.proofs.subpel.plan.type_ok.Statement.statement M
-type-ok-spec =
-    tie.close
-    (tie.spec
-    returns)
+type-ok-spec = tie.close (tie.spec returns)

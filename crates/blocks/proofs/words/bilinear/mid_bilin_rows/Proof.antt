@@ -20,9 +20,7 @@ row : (c : tie.In-loop Inv-loop μ-loop) → let a = entry c .args in
 row c = turn 0 (entry c .pre .0) (c .before .loop .inv) (c .loop-test .taken)
 
 pub mid-bilin-rows-spec : {M : Type 1} → Rattle.blocks.proofs.words.bilinear.mid_bilin_rows.Statement.statement M
-mid-bilin-rows-spec =
-    tie.close
-    (tie.spec Inv-loop μ-loop
+mid-bilin-rows-spec = tie.close (tie.spec Inv-loop μ-loop
     (λ c. filled-none 0 _ _ _ _ _ (omega (arith, c .before .pre)))  -- loop-holds
     (λ c. omega (arith, row c)) (λ c. omega (arith, row c))  -- y * ds, d + w
     (λ c. omega (arith, row c))  -- words: 2 * d

@@ -20,9 +20,7 @@ row : (c : tie.In-loop Inv-loop μ-loop) → let a = entry c .args in
 row c = turn 0 (entry c .pre .0) (c .before .loop .inv) (c .loop-test .taken)
 
 pub put-bilin-axis-spec : {M : Type 1} → Rattle.blocks.proofs.words.bilinear.put_bilin_axis.Statement.statement M
-put-bilin-axis-spec =
-    tie.close
-    (tie.spec Inv-loop μ-loop
+put-bilin-axis-spec = tie.close (tie.spec Inv-loop μ-loop
     (λ c. filled-none 0 _ _ _ _ _ (omega (arith, c .before .before .pre)))  -- loop-holds
     (λ c. omega (arith, row c)) (λ c. omega (arith, row c))  -- y * ds, d + w
     (λ c. omega (arith, row c))  -- words: 2 * d

@@ -38,9 +38,7 @@ loop-again c =
     (c .before .before .blend-row .ensures)
 
 pub blend-rows-spec : {M : Type 1} → Rattle.blocks.proofs.words.blend.blend_rows.Statement.statement M
-blend-rows-spec =
-    tie.close
-    (tie.spec Inv-loop μ-loop
+blend-rows-spec = tie.close (tie.spec Inv-loop μ-loop
     (λ c. filled-none 0 _ _ _ _ _ (omega (arith, c .before .before .before .pre)))  -- loop-holds
     (λ c. omega (arith, row c)) (λ c. omega (arith, row c))  -- y * dst_stride, d + w
     (λ c. omega (arith, row c, entry c .good .0 .1, c .before .loop .inv .len))  -- words: 2 * d

@@ -22,10 +22,7 @@ returns-3 : tie.Need-returns-3
 returns-3 c = let r = c .before .before in let s = r .before .before in blend-done (searched (s .before .before)) (s .if2 .left) _ (r .blend-rows .ensures)
 
 pub hv-blend-16bpc-spec : {M : Type 1} → Rattle.blocks.proofs.words.blend.hv_blend_16bpc.Statement.statement M
-hv-blend-16bpc-spec =
-    tie.close
-    (tie.spec
-    (λ c κs. search needs)  -- check-blend-requires
+hv-blend-16bpc-spec = tie.close (tie.spec (λ c κs. search needs)  -- check-blend-requires
     (λ c. blend-refused _ _ (entry (c .before) .args .tmp .now) _ _ _ _ (c .before .check-blend .ensures) (c .if1 .taken))  -- returns
     first-above-requires
     (λ c. blend-above (searched (c .before .before)) (c .if2 .taken))  -- returns-2

@@ -35,9 +35,6 @@ returns c =
     )
 
 pub hv-morph-16bpc-spec : {M : Type 1} → Rattle.blocks.proofs.words.blend.hv_morph_16bpc.Statement.statement M
-hv-morph-16bpc-spec =
-    tie.close
-    (tie.spec
-    (λ c κs. search needs) (λ c κs. search needs) depth-numbers-requires morph-rows-requires  -- depth-ok, check-morph
+hv-morph-16bpc-spec = tie.close (tie.spec (λ c κs. search needs) (λ c κs. search needs) depth-numbers-requires morph-rows-requires  -- depth-ok, check-morph
     (λ c. search needs) returns  -- same-length
     (λ c. (number (c .before), sym (refused _ _ _ (c .if1 .left)))))  -- returns-2

@@ -26,9 +26,7 @@ loop-again c =
     (t .before .loop .inv) (p .0 .w1) (p .1) (t .loop-test .taken) (c .before .before .morph-row .ensures)
 
 pub morph-rows-spec : {M : Type 1} → Rattle.blocks.proofs.words.blend.morph_rows.Statement.statement M
-morph-rows-spec =
-    tie.close
-    (tie.spec Inv-loop μ-loop
+morph-rows-spec = tie.close (tie.spec Inv-loop μ-loop
     (λ c. filled-none 0 _ _ _ _ _ (omega (arith, c .before .pre)))  -- loop-holds
     (λ c. omega (arith, row c)) (λ c. omega (arith, row c))  -- y * dst_stride, d + w
     (λ c. omega (arith, row c, entry c .good .0 .1, c .before .loop .inv .len))  -- words: 2 * d

@@ -31,9 +31,6 @@ returns c =
     (number (n .before .before), rw (depth n) at (c .before .before .avg-rows .ensures) ∙ sym (done _ _ _ (n .before .if1 .taken)))
 
 pub hv-avg-16bpc-spec : {M : Type 1} → Rattle.blocks.proofs.words.combine.hv_avg_16bpc.Statement.statement M
-hv-avg-16bpc-spec =
-    tie.close
-    (tie.spec
-    (λ c κs. search needs) (λ c κs. search needs) depth-numbers-requires avg-rows-requires  -- depth-ok, check-combine
+hv-avg-16bpc-spec = tie.close (tie.spec (λ c κs. search needs) (λ c κs. search needs) depth-numbers-requires avg-rows-requires  -- depth-ok, check-combine
     (λ c. search needs) returns  -- same-length
     (λ c. (number (c .before), sym (refused _ _ _ (c .if1 .left)))))  -- returns-2

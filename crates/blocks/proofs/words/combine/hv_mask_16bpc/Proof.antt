@@ -31,9 +31,7 @@ returns c =
     (number (n .before .before), rw (depth n) at (c .before .before .mask-rows .ensures) ∙ sym (done _ _ _ (n .before .if1 .taken)))
 
 pub hv-mask-16bpc-spec : {M : Type 1} → Rattle.blocks.proofs.words.combine.hv_mask_16bpc.Statement.statement M
-hv-mask-16bpc-spec =
-    tie.close
-    (tie.spec
+hv-mask-16bpc-spec = tie.close (tie.spec
     (λ c κs. search needs) (λ c κs. search needs) (λ c κs. search needs) depth-numbers-requires  -- depth-ok, holds-rows, check-combine
     mask-rows-requires (λ c. search needs) returns  -- same-length
     (λ c. (number (c .before), sym (refused _ _ _ (c .if1 .left)))))  -- returns-2

@@ -25,9 +25,7 @@ loop-again c =
     filled-more (pos 0) _ (t .before .loop .inv) (p .0 .w1) (p .1) (t .loop-test .taken) (c .before .prep-row .ensures)
 
 pub prep-rows-spec : {M : Type 1} → Rattle.blocks.proofs.words.copy.prep_rows.Statement.statement M
-prep-rows-spec =
-    tie.close
-    (tie.spec Inv-loop μ-loop
+prep-rows-spec = tie.close (tie.spec Inv-loop μ-loop
     (λ c. filled-none (pos 0) _ _ _ _ _ (omega (arith, c .before .pre)))  -- loop-holds
     (λ c. omega (arith, row c)) (λ c. omega (arith, row c))  -- y * tmp_stride, p + w
     (λ c. omega (arith, row c)) (λ c. omega (arith, row c)) (λ c. omega (arith, row c)) (λ c. omega (arith, row c))  -- tmp[p..p + w]

@@ -19,9 +19,7 @@ row c =
     (turn 0 (c .before .loop .inv) (p .1) lt, row-in y (p .2) lt)
 
 pub put-rows-spec : {M : Type 1} → Rattle.blocks.proofs.words.copy.put_rows.Statement.statement M
-put-rows-spec =
-    tie.close
-    (tie.spec Inv-loop μ-loop
+put-rows-spec = tie.close (tie.spec Inv-loop μ-loop
     (λ c. filled-none 0 _ _ _ _ _ (omega (arith, c .before .before .pre)))  -- loop-holds
     (λ c. omega (arith, row c)) (λ c. omega (arith, row c))  -- y * dst_stride, d + w
     (λ c. omega (arith, row c))  -- words: 2 * d

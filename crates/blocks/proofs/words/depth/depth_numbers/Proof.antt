@@ -10,9 +10,6 @@ returns c =
     rw (c .before .before .intermediate-bits .ensures, c .before .prep-bias .ensures, c .bitdepth-max .ensures, above-is (c .before .before .before))
 
 pub depth-numbers-spec : {M : Type 1} → Rattle.blocks.proofs.words.depth.depth_numbers.Statement.statement M
-depth-numbers-spec =
-    tie.close
-    (tie.spec
-    (λ c κs. search needs) (λ c κs. search needs) (λ c κs. search needs)  -- above, intermediate-bits, prep-bias
+depth-numbers-spec = tie.close (tie.spec (λ c κs. search needs) (λ c κs. search needs) (λ c κs. search needs)  -- above, intermediate-bits, prep-bias
     (λ c κs. rw (above-is (c .before .before)) (depth-high (c .before .before .before .args .depth) (c .before .before .before .pre)))  -- bitdepth-max-requires
     returns)

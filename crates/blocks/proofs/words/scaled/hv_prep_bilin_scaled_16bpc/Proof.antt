@@ -39,9 +39,7 @@ prep-bilin-scaled-rows-requires c κs =
     (m .block, m .rows, pairs-met m (pos 0) _ (even-bits (up (begin (t .before) .args .depth))), depth-bits _ (m .deep), depth-bias _ (m .deep))
 
 pub hv-prep-bilin-scaled-16bpc-spec : {M : Type 1} → Rattle.blocks.proofs.words.scaled.hv_prep_bilin_scaled_16bpc.Statement.statement M
-hv-prep-bilin-scaled-16bpc-spec =
-    tie.close
-    (tie.spec (λ c κs. search needs) (λ c κs. search needs)  -- depth-ok, check-scaled
+hv-prep-bilin-scaled-16bpc-spec = tie.close (tie.spec (λ c κs. search needs) (λ c κs. search needs)  -- depth-ok, check-scaled
     (λ c κs. rw (back (begin (c .before) .fits .depth)) (met c .deep))  -- depth-numbers
     (λ c κs. search needs)  -- scaled-plan
     prep-bilin-scaled-rows-requires (λ c. search needs) returns (λ c. (number (c .before), sym (refused _ _ _ (c .if1 .left)))))

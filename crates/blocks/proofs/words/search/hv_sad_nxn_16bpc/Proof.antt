@@ -26,8 +26,6 @@ returns-2 c =
     (rw (k .before .depth-ok .ensures, d) at (k .check-sads .ensures), sym (refused _ _ _ (c .if1 .left)))
 
 pub hv-sad-nxn-16bpc-spec : {M : Type 1} → Rattle.blocks.proofs.words.search.hv_sad_nxn_16bpc.Statement.statement M
-hv-sad-nxn-16bpc-spec =
-    tie.close
-    (tie.spec
+hv-sad-nxn-16bpc-spec = tie.close (tie.spec
     (λ c κs. search needs) (λ c κs. search needs) (λ c κs. search needs) sad-sum-requires  -- depth-ok, check-sads, above
     (λ c. search needs) returns returns-2)  -- cast-sum

@@ -25,7 +25,5 @@ returns-2 c =
     (rw (k .before .depth-ok .ensures, d) at (k .check-sads .ensures), sym (refused _ _ _ (c .if1 .left)))
 
 pub hv-sad-refine-mv-16bpc-spec : {M : Type 1} → Rattle.blocks.proofs.words.search.hv_sad_refine_mv_16bpc.Statement.statement M
-hv-sad-refine-mv-16bpc-spec =
-    tie.close
-    (tie.spec
+hv-sad-refine-mv-16bpc-spec = tie.close (tie.spec
     (λ c κs. search needs) (λ c κs. search needs) (λ c κs. search needs) refine-requires returns returns-2)  -- depth-ok, check-sads, above

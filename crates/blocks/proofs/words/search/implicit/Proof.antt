@@ -19,8 +19,6 @@ returns-2 c =
     (sym (e .is-enough .ensures) ∙ t .if1 .left) (c .search .ensures)
 
 pub implicit-spec : {M : Type 1} → Rattle.blocks.proofs.words.search.implicit.Statement.statement M
-implicit-spec =
-    tie.close
-    (tie.spec
+implicit-spec = tie.close (tie.spec
     (λ c κs. search needs) (λ c κs. search needs) (λ c κs. search needs) returns (λ c κs. search needs)  -- sad-at, kept-of, is-enough, search
     returns-2)

@@ -22,8 +22,6 @@ returns c =
     )
 
 pub sad-at-spec : {M : Type 1} → Rattle.blocks.proofs.words.search.sad_at.Statement.statement M
-sad-at-spec =
-    tie.close
-    (tie.spec
+sad-at-spec = tie.close (tie.spec
     (λ c κs. search needs) (λ c κs. search needs) (λ c. search needs) (λ c. search needs) sad-sum-requires  -- first-place, second-place, add-sad-sum
     returns)

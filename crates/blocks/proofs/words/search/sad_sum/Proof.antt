@@ -31,9 +31,7 @@ returns c =
     sad-shifted (s .args .depth) _ _ _ _ (e .0, omega (arith, e .1, s .pre .0))
 
 pub sad-sum-spec : {M : Type 1} → Rattle.blocks.proofs.words.search.sad_sum.Statement.statement M
-sad-sum-spec =
-    tie.close
-    (tie.spec Inv-loop μ-loop
+sad-sum-spec = tie.close (tie.spec Inv-loop μ-loop
     (λ c. omega (arith, c .before .before .pre .0))  -- h + 1
     (λ c. added-none _ _ _)  -- loop-holds
     (λ c. omega (arith, entry c .pre .0))  -- 2 * r

@@ -19,7 +19,4 @@ returns-2 c =
     (rw (x, y) at (c .take-better .ensures))
 
 pub visit-spec : {M : Type 1} → Rattle.blocks.proofs.words.search.visit.Statement.statement M
-visit-spec =
-    tie.close
-    (tie.spec
-    (λ c κs. search needs) returns (λ c κs. search needs) (λ c κs. search needs) returns-2)  -- is-centre, sad-at, take-better
+visit-spec = tie.close (tie.spec (λ c κs. search needs) returns (λ c κs. search needs) (λ c κs. search needs) returns-2)  -- is-centre, sad-at, take-better

@@ -13,7 +13,5 @@ returns c =
     (g .visit .ensures) (f .visit2 .ensures) (e .visit3 .ensures) (d .visit4 .ensures) (c .visit5 .ensures))
 
 pub visit-row-spec : {M : Type 1} → Rattle.blocks.proofs.words.search.visit_row.Statement.statement M
-visit-row-spec =
-    tie.close
-    (tie.spec
+visit-row-spec = tie.close (tie.spec
     (λ c κs. search needs) (λ c κs. search needs) (λ c κs. search needs) (λ c κs. search needs) (λ c κs. search needs) returns)  -- visit

@@ -53,9 +53,7 @@ returns c =
     (number (i .before), simp (deep (from a), depth a) at (e .0) ∙ sym (done _ _ _ o), simp (deep (from a), depth a, sign a) at (e .1) ∙ sym (done _ _ _ o))
 
 pub hv-w-mask-16bpc-spec : {M : Type 1} → Rattle.blocks.proofs.words.w_mask.hv_w_mask_16bpc.Statement.statement M
-hv-w-mask-16bpc-spec =
-    tie.close
-    (tie.spec
+hv-w-mask-16bpc-spec = tie.close (tie.spec
     (λ c κs. search needs) (λ c κs. search needs) depth-numbers-requires (λ c κs. search needs)  -- depth-ok, check-w-mask, above
     (λ c κs. search needs) w-mask-rows-requires (λ c. search needs) (λ c. search needs) returns  -- above, same-length
     (λ c. (number (c .before), sym (refused _ _ _ (c .if1 .left)), sym (refused _ _ _ (c .if1 .left)))))  -- returns-2

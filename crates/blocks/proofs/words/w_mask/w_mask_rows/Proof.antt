@@ -40,10 +40,7 @@ returns-2 c =
     )
 
 pub w-mask-rows-spec : {M : Type 1} → Rattle.blocks.proofs.words.w_mask.w_mask_rows.Statement.statement M
-w-mask-rows-spec =
-    tie.close
-    (tie.spec
-    keep-mask-requires weighed-rows-requires mask-rows-requires
+w-mask-rows-spec = tie.close (tie.spec keep-mask-requires weighed-rows-requires mask-rows-requires
     (λ c. search needs) (λ c. search needs)  -- same-length
     returns
     (λ c. search needs) (λ c. search needs)  -- same-length

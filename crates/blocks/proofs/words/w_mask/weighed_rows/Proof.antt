@@ -45,9 +45,7 @@ loop-again c =
     )
 
 pub weighed-rows-spec : {M : Type 1} → Rattle.blocks.proofs.words.w_mask.weighed_rows.Statement.statement M
-weighed-rows-spec =
-    tie.close
-    (tie.spec Inv-loop μ-loop
+weighed-rows-spec = tie.close (tie.spec Inv-loop μ-loop
     (λ c. (filled-none 0 _ _ _ _ _ (omega (arith, c .before .pre)), refl))  -- loop-holds
     (λ c. omega (arith, row c)) (λ c. omega (arith, row c))  -- y * dst_stride, y * w
     (λ c. omega (arith, entry c .pre .0, c .before .loop .inv .1))  -- m[..w]

@@ -29,8 +29,6 @@ warp-prep-requires c κs =
     let p = sym (k .before .depth-ok .ensures) ∙ r .0 in rw (c .before .depth-numbers .ensures) (r .1, depth-bits _ p, depth-bias _ p)
 
 pub hv-warp-affine-8x8t-16bpc-spec : {M : Type 1} → Rattle.blocks.proofs.words.warp.hv_warp_affine_8x8t_16bpc.Statement.statement M
-hv-warp-affine-8x8t-16bpc-spec =
-    tie.close
-    (tie.spec (λ c κs. search needs) (λ c κs. search needs)  -- depth-ok, check-warp
+hv-warp-affine-8x8t-16bpc-spec = tie.close (tie.spec (λ c κs. search needs) (λ c κs. search needs)  -- depth-ok, check-warp
     (λ c κs. let k = c .before in sym (k .before .depth-ok .ensures) ∙ warp-ready _ _ _ _ _ _ _ _ _ _ _ _ _ (sym (k .check-warp .ensures) ∙ c .if1 .taken) .0)
     warp-prep-requires (λ c. search needs) returns (λ c. (number (c .before), sym (refused _ _ _ (c .if1 .left)))))  -- same-length, refused

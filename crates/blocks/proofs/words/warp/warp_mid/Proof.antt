@@ -28,9 +28,7 @@ loop-again c =
     column-more (t .before .loop .inv) (entry t .pre .0) (t .loop-test .taken) _ (c .before .warp-column .ensures)
 
 pub warp-mid-spec : {M : Type 1} → Rattle.blocks.proofs.words.warp.warp_mid.Statement.statement M
-warp-mid-spec =
-    tie.close
-    (tie.spec Inv-loop μ-loop
+warp-mid-spec = tie.close (tie.spec Inv-loop μ-loop
     (λ c. filled-none (pos 0) _ _ _ _ _ (omega arith))  -- loop-holds
     (λ c. omega (arith, part c)) (λ c. omega (arith, part c))  -- x * 15, d + 15
     (λ c. omega (arith, part c)) (λ c. omega (arith, part c)) (λ c. omega (arith, part c)) (λ c. omega (arith, part c))  -- mid[d..d + 15]

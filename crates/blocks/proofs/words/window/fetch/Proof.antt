@@ -11,9 +11,6 @@ returns-2 : tie.Need-returns-2
 returns-2 c = let l = c .before .before in (l .locate .ensures, area-kept _ _ _ (l .locate .ensures) _ _ (c .if1 .left))
 
 pub fetch-spec : {M : Type 1} → Rattle.blocks.proofs.words.window.fetch.Statement.statement M
-fetch-spec =
-    tie.close
-    (tie.spec
-    (λ c κs. let p = c .before .before .pre in (p .area, p .plane .most))  -- locate-requires
+fetch-spec = tie.close (tie.spec (λ c κs. let p = c .before .before .pre in (p .area, p .plane .most))  -- locate-requires
     (λ c κs. c .before .before .before .before .before .before .pre)  -- edge-rows-requires
     (λ c. search needs) returns returns-2)  -- same-length

@@ -41,9 +41,6 @@ returns-2 c =
     (accepted-part (accepted (r .before)) (area-is r) (e .0), accepted-scratch (accepted (r .before)) (area-is r) _ (e .0) (e .1))
 
 pub window-spec : {M : Type 1} → Rattle.blocks.proofs.words.window.window.Statement.statement M
-window-spec =
-    tie.close
-    (tie.spec
-    (λ c κs. search needs) (λ c κs. search needs) returns area-of-requires  -- check-window, no-part
+window-spec = tie.close (tie.spec (λ c κs. search needs) (λ c κs. search needs) returns area-of-requires  -- check-window, no-part
     (λ c κs. let r = c .before in accepted-ready (accepted (r .before)) (area-is r))  -- fetch-requires
     (λ c. search needs) returns-2)  -- same-length

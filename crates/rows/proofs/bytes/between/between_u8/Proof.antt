@@ -16,10 +16,7 @@ returns c =
     between-is (a .f) (pixel s (a .p)) (pixel s (a .p + a .step)) (omega arith) (c .bilin-sum .ensures)
 
 pub between-u8-spec : {M : Type 1} → Rattle.rows.proofs.bytes.between.between_u8.Statement.statement M
-between-u8-spec =
-    tie.close
-    (tie.spec
-    (λ c. search needs)  -- src[p]
+between-u8-spec = tie.close (tie.spec (λ c. search needs)  -- src[p]
     (λ c. omega (arith, c .shared-slice-known2 .given (c .before .before .args .p)))  -- as i32
     (λ c. search needs)  -- p + step
     (λ c. search needs)  -- src[p + step]

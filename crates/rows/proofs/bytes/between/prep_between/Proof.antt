@@ -17,9 +17,6 @@ returns c =
     rw (back fv, c .kept .ensures, back fb, b .between-u8 .ensures .0, s .pre .2, back (s .fits .bias))
 
 pub prep-between-spec : {M : Type 1} → Rattle.rows.proofs.bytes.between.prep_between.Statement.statement M
-prep-between-spec =
-    tie.close
-    (tie.spec
-    (λ c κs. search needs)  -- between-u8-requires
+prep-between-spec = tie.close (tie.spec (λ c κs. search needs)  -- between-u8-requires
     kept-requires
     returns)

@@ -9,9 +9,6 @@ returns c =
     rw (c .clip .ensures, back fb, b .bilin-rnd .ensures .0, back (b .before .fits .s))
 
 pub bilin-px-spec : {M : Type 1} → Rattle.rows.proofs.bytes.bilinear.bilin_px.Statement.statement M
-bilin-px-spec =
-    tie.close
-    (tie.spec
-    (λ c κs. search needs)  -- bilin-rnd-requires
+bilin-px-spec = tie.close (tie.spec (λ c κs. search needs)  -- bilin-rnd-requires
     (λ c κs. search needs)  -- clip-requires
     returns)

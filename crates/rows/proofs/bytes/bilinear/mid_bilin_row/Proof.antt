@@ -18,9 +18,7 @@ loop-again c =
     upto-more (b .before .before .loop .inv) (omega arith) (rw (back fb, b .between-i16 .ensures .0) at (c .bilin-px .ensures))
 
 pub mid-bilin-row-spec : {M : Type 1} → Rattle.rows.proofs.bytes.bilinear.mid_bilin_row.Statement.statement M
-mid-bilin-row-spec =
-    tie.close
-    (tie.spec Inv-loop μ-loop (λ c. upto-none _ _ _)  -- while i < w
+mid-bilin-row-spec = tie.close (tie.spec Inv-loop μ-loop (λ c. upto-none _ _ _)  -- while i < w
     (λ c. omega arith) (λ c κs. omega arith)  -- between_i16(.., o + i, ..)
     (λ c κs. search needs)  -- bilin-px-requires
     (λ c. omega arith)  -- dst[i] =

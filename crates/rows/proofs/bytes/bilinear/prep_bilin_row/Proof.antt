@@ -16,9 +16,7 @@ loop-again : tie.Need-loop-again Inv-loop μ-loop
 loop-again c = upto-kept (c .before .before .loop .inv) (omega arith) (omega arith) (c .prep-between .ensures)
 
 pub prep-bilin-row-spec : {M : Type 1} → Rattle.rows.proofs.bytes.bilinear.prep_bilin_row.Statement.statement M
-prep-bilin-row-spec =
-    tie.close
-    (tie.spec Inv-loop μ-loop
+prep-bilin-row-spec = tie.close (tie.spec Inv-loop μ-loop
     (λ c κs. omega arith)  -- half_power(n)
     (λ c. upto-none _ _ _)  -- while i < w
     (λ c. omega arith) (λ c κs. omega arith)  -- prep_between(src, o + i, ..)

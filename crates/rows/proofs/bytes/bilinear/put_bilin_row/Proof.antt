@@ -19,9 +19,7 @@ loop-again c =
     upto-more (t .loop .inv) (omega arith) (rw (s .both-halves .ensures, e) at (c .put-between .ensures))
 
 pub put-bilin-row-spec : {M : Type 1} → Rattle.rows.proofs.bytes.bilinear.put_bilin_row.Statement.statement M
-put-bilin-row-spec =
-    tie.close
-    (tie.spec Inv-loop μ-loop
+put-bilin-row-spec = tie.close (tie.spec Inv-loop μ-loop
     (λ c κs. omega arith)  -- both_halves(n, r)
     (λ c. upto-none _ _ _)  -- while i < w
     (λ c. omega arith) (λ c κs. omega arith)  -- put_between(src, o + i, ..)

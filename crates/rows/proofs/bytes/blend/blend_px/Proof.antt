@@ -19,10 +19,7 @@ unfolding blend
 returns c = search needs
 
 pub blend-px-spec : {M : Type 1} → Rattle.rows.proofs.bytes.blend.blend_px.Statement.statement M
-blend-px-spec =
-    tie.close
-    (tie.spec
-    (λ c. search needs)  -- sub-result
+blend-px-spec = tie.close (tie.spec (λ c. search needs)  -- sub-result
     (λ c. omega (arith, parts c))  -- mul-result
     (λ c. omega (arith, parts c))  -- mul-result-2
     (λ c. omega (arith, parts c))  -- add-result

@@ -17,10 +17,7 @@ loop-again c =
     (c .avg-px .ensures ∙ read-both (avg _ _ _) (c .before .before .avg-px-arg .given) (c .before .avg-px-arg2 .given))
 
 pub avg-row-spec : {M : Type 1} → Rattle.rows.proofs.bytes.combine.avg_row.Statement.statement M
-avg-row-spec =
-    tie.close
-    (tie.spec
-    Inv-loop
+avg-row-spec = tie.close (tie.spec Inv-loop
     μ-loop
     (λ c. search row-loop)  -- loop-holds
     (λ c. search row-loop) (λ c. search row-loop) (λ c. search row-loop)  -- tmp1[q + i]

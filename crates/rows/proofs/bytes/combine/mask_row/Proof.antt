@@ -16,10 +16,7 @@ loop-again c =
     (c .mask-px .ensures ∙ read-both (masked _ _ _ _) (c .before .before .before .mask-px-arg .given) (c .before .before .mask-px-arg2 .given))
 
 pub mask-row-spec : {M : Type 1} → Rattle.rows.proofs.bytes.combine.mask_row.Statement.statement M
-mask-row-spec =
-    tie.close
-    (tie.spec
-    Inv-loop
+mask-row-spec = tie.close (tie.spec Inv-loop
     μ-loop
     (λ c. upto-none _ _ _)  -- loop-holds
     (λ c. omega arith) (λ c. omega arith) (λ c. omega arith)  -- tmp1[q + i]

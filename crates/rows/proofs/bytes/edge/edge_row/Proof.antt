@@ -32,10 +32,7 @@ returns c =
     edge-row (know (at-fill f)) (f .fill-row .ensures) (k .copy-row .ensures) (g .fill-row2 .ensures)
 
 pub edge-row-spec : {M : Type 1} → Rattle.rows.proofs.bytes.edge.edge_row.Statement.statement M
-edge-row-spec =
-    tie.close
-    (tie.spec
-    (λ c κs. search needs)  -- left-of-requires
+edge-row-spec = tie.close (tie.spec (λ c κs. search needs)  -- left-of-requires
     (λ c. search needs)  -- iw as i64
     (λ c κs. let s = c .before .before .before in rw (back (s .fits .x), backn w64 (s .args .iw) (omega arith)) (omega arith))  -- left-of-requires-2
     (λ c κs. search needs)  -- left-of-requires-3

@@ -25,10 +25,7 @@ returns c =
     (back (omega arith) ∙ c .scaled-bilin-px8 .ensures)
 
 pub scaled-bilin-eight-spec : {M : Type 1} → Rattle.rows.proofs.bytes.pairs.scaled_bilin_eight.Statement.statement M
-scaled-bilin-eight-spec =
-    tie.close
-    (tie.spec
-    (λ c κs. fetched (c .before) _ (omega arith))  -- column i
+scaled-bilin-eight-spec = tie.close (tie.spec (λ c κs. fetched (c .before) _ (omega arith))  -- column i
     (λ c. search needs) (λ c κs. fetched (c .before .before) _ (omega arith))  -- column i + 1
     (λ c. search needs) (λ c κs. fetched (c .before .before .before) _ (omega arith))  -- column i + 2
     (λ c. search needs) (λ c κs. fetched (c .before .before .before .before) _ (omega arith))  -- column i + 3

@@ -10,9 +10,7 @@ abbrev μ-loop : tie.MeasureT-loop
 μ-loop mid₀ src pixels fractions w i₀ mid i = w - i
 
 pub scaled-bilin-eights-spec : {M : Type 1} → Rattle.rows.proofs.bytes.pairs.scaled_bilin_eights.Statement.statement M
-scaled-bilin-eights-spec =
-    tie.close
-    (tie.spec Inv-loop μ-loop (λ c. upto-none _ _ _)  -- while i < w
+scaled-bilin-eights-spec = tie.close (tie.spec Inv-loop μ-loop (λ c. upto-none _ _ _)  -- while i < w
     (λ c κs. omega arith)  -- eight-from
     (λ c κs. let i = c .before .before .before .loop .inv in (omega arith, omega arith, rw (i .len) (c .before .before .before .before .before .pre .2)))  -- scaled-bilin-eight
     (λ c. omega arith)  -- at + 8

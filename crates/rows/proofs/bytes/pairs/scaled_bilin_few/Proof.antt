@@ -19,9 +19,7 @@ loop-again c =
     upto-more (c .before .before .loop .inv) (omega arith) (back f ∙ c .scaled-bilin-px .ensures)
 
 pub scaled-bilin-few-spec : {M : Type 1} → Rattle.rows.proofs.bytes.pairs.scaled_bilin_few.Statement.statement M
-scaled-bilin-few-spec =
-    tie.close
-    (tie.spec Inv-loop μ-loop (λ c. upto-none _ _ _)  -- while i < w
+scaled-bilin-few-spec = tie.close (tie.spec Inv-loop μ-loop (λ c. upto-none _ _ _)  -- while i < w
     scaled-bilin-px-requires
     (λ c. omega arith) (λ c. omega arith)  -- mid[i] =
     (λ c. omega arith) (λ c. omega arith) loop-again  -- i += 1

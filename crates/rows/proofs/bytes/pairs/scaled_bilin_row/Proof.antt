@@ -1,4 +1,4 @@
-use Rattle.rows.proofs.Usual.{_≡_, _∙_, arith, needs, length, span, span-length}
+use Rattle.rows.proofs.Usual.{_∙_, arith, needs, length, span, span-length}
 use Rattle.rows.specs.inner.Scaled.{PairsFetched}
 use Rattle.rows.proofs.Laws.Filters.Scaled.{part-row}
 use Rattle.rows.proofs.bytes.pairs.scaled_bilin_row.Tie as tie
@@ -22,10 +22,7 @@ returns-2 c =
     rw (s .pre .3) (c .before .scaled-bilin-eights .ensures ∙ part-row (s .args .src .now) _ _ _ _ _ (s .pre .2))
 
 pub scaled-bilin-row-spec : {M : Type 1} → Rattle.rows.proofs.bytes.pairs.scaled_bilin_row.Statement.statement M
-scaled-bilin-row-spec =
-    tie.close
-    (tie.spec
-    (λ c. omega arith) (λ c. omega arith) (λ c. omega arith)  -- &src[o..]
+scaled-bilin-row-spec = tie.close (tie.spec (λ c. omega arith) (λ c. omega arith) (λ c. omega arith)  -- &src[o..]
     (λ c κs. let s = c .before .before .before .before in (omega arith, held s))  -- fewer than eight
     (λ c κs. let s = c .before .before .before .before in (omega arith, omega arith, held s))  -- eight or more
     (λ c. search needs) returns

@@ -1,5 +1,5 @@
 -- Made from crates/rows/proofs/words/scaled/scaled_row/Proof.antt by tools/sets: change that.
-use Rattle.rows.proofs.Usual.{_∙_, _-_, _<_, _^_, arith, pos, length, getD, w16, SFits, back}
+use Rattle.rows.proofs.Usual.{_∙_, _-_, _<_, _^_, arith, pos, getD, w16, SFits, back}
 use Rattle.rows.specs.Scaled.{position, sixteenth, inFamily, scaledMid}
 use Rattle.rows.specs.inner.Scaled.{eightAt}
 use Rattle.rows.proofs.Laws.Blocks.Part.{PartUpto, part-none, part-more, part-all}
@@ -30,9 +30,7 @@ loop-again c =
     part-more (c .before .before .before .before .loop .inv) (omega arith) (omega arith) (back f ∙ c .scaled-px .ensures)
 
 pub scaled-row-spec : {M : Type 1} → Rattle.rows.proofs.bytes.scaled.scaled_row.Statement.statement M
-scaled-row-spec =
-    tie.close
-    (tie.spec Inv-loop μ-loop (λ c. part-none _ _ _ _ _)  -- while i < w
+scaled-row-spec = tie.close (tie.spec Inv-loop μ-loop (λ c. part-none _ _ _ _ _)  -- while i < w
     (λ c. omega (arith, bounded (c .before)))  -- i * by.step
     (λ c. omega (arith, bounded (c .before .before)))  -- by.start +
     scaled-px-requires

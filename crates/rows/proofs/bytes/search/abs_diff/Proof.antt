@@ -33,10 +33,7 @@ returns : tie.Need-returns
 returns c = let s = c .before in simp (a-is s, b-is s, back (fits s), under c, back (size s)) (omega (arith, within s))
 
 pub abs-diff-spec : {M : Type 1} → Rattle.rows.proofs.bytes.search.abs_diff.Statement.statement M
-abs-diff-spec =
-    tie.close
-    (tie.spec
-    (λ c. search needs)  -- cast-d
+abs-diff-spec = tie.close (tie.spec (λ c. search needs)  -- cast-d
     (λ c. search needs)  -- cast-d-2
     (λ c. simp (a-is c, b-is c) (fits c))  -- sub-d
     (λ c. let s = c .before in simp (a-is s, b-is s, back (fits s), under c) (size s))  -- sub-result

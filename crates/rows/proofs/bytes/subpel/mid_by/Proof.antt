@@ -19,9 +19,7 @@ loop-again c =
     upto-more (s .before .before .loop .inv) (omega arith) (rw (c .clip .ensures, back fr, r .rounded .ensures, back ft, s .sum-i16 .ensures .0))
 
 pub mid-by-spec : {M : Type 1} → Rattle.rows.proofs.bytes.subpel.mid_by.Statement.statement M
-mid-by-spec =
-    tie.close
-    (tie.spec Inv-loop μ-loop (λ c. upto-none _ _ _)  -- while i < w
+mid-by-spec = tie.close (tie.spec Inv-loop μ-loop (λ c. upto-none _ _ _)  -- while i < w
     (λ c. omega arith)  -- o + i
     (λ c κs. (omega arith, c .before .before .before .pre .2))  -- sum_i16(..)
     (λ c κs. search needs)  -- rounded(..)

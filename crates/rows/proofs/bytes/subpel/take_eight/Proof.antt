@@ -9,9 +9,7 @@ abbrev μ-loop : tie.MeasureT-loop
 μ-loop dst₀ line i₀ dst i = 8 - i
 
 pub take-eight-spec : {M : Type 1} → Rattle.rows.proofs.bytes.subpel.take_eight.Statement.statement M
-take-eight-spec =
-    tie.close
-    (tie.spec Inv-loop μ-loop (λ c. upto-none _ _ _)  -- while i < 8
+take-eight-spec = tie.close (tie.spec Inv-loop μ-loop (λ c. upto-none _ _ _)  -- while i < 8
     (λ c. omega arith)  -- line[i]
     (λ c. omega arith)  -- dst[i] =
     (λ c. omega arith) (λ c. omega arith) (λ c. upto-more (c .before .before .loop .inv) (omega arith) refl)  -- i += 1

@@ -17,9 +17,7 @@ loop-again c =
     upto-more (p .before .before .loop .inv) (omega arith) (rw (c .clip .ensures, back fr, p .rounded-taps .ensures))
 
 pub tap-by-spec : {M : Type 1} → Rattle.rows.proofs.bytes.subpel.tap_by.Statement.statement M
-tap-by-spec =
-    tie.close
-    (tie.spec Inv-loop μ-loop (λ c. upto-none _ _ _)  -- while i < w
+tap-by-spec = tie.close (tie.spec Inv-loop μ-loop (λ c. upto-none _ _ _)  -- while i < w
     (λ c. omega arith)  -- o + i
     (λ c κs. (omega arith, omega arith, c .before .before .before .before .pre .2))  -- rounded_taps(..)
     (λ c κs. omega arith)  -- clip(..)

@@ -13,9 +13,7 @@ abbrev μ-loop : tie.MeasureT-loop
 μ-loop tmp₀ src o f near by bias w i₀ tmp i = w - i
 
 pub tap-mid-by-spec : {M : Type 1} → Rattle.rows.proofs.bytes.subpel.tap_mid_by.Statement.statement M
-tap-mid-by-spec =
-    tie.close
-    (tie.spec Inv-loop μ-loop (λ c. upto-none _ _ _)  -- while i < w
+tap-mid-by-spec = tie.close (tie.spec Inv-loop μ-loop (λ c. upto-none _ _ _)  -- while i < w
     (λ c. omega arith) (λ c κs. (omega arith, omega arith, c .before .before .before .pre .2))  -- tap_mid_px(.., o + i, ..)
     (λ c. omega arith) (λ c. omega arith)  -- tmp[i] =
     (λ c. omega arith) (λ c. omega arith) (λ c. upto-kept (c .before .before .loop .inv) (omega arith) (omega arith) (c .tap-mid-px .ensures))  -- i += 1

@@ -19,9 +19,7 @@ loop-again c =
     near-more (h .loop .inv) (omega arith) (h .before .before .pre .1) (fit w8 (c .before .before .near-tap-u8-arg .given)) refl (c .near-tap-u8 .ensures)
 
 pub near-sum-spec : {M : Type 1} → Rattle.rows.proofs.bytes.sums.near_sum.Statement.statement M
-near-sum-spec =
-    tie.close
-    (tie.spec Inv-loop μ-loop (λ c. near-none _ _)  -- while j < 8
+near-sum-spec = tie.close (tie.spec Inv-loop μ-loop (λ c. near-none _ _)  -- while j < 8
     (λ c. omega arith)  -- f[j]
     (λ c. omega (arith, place (c .before))) (λ c. omega (arith, place (c .before)))  -- o + j * step
     (λ c. omega (arith, place (c .before .before)))  -- src[..]

@@ -17,10 +17,7 @@ returns c =
     rw (back16 fr, c .near-rounded .ensures, back ft, c .before .near-sum .ensures .0)
 
 pub rounded-taps-spec : {M : Type 1} → Rattle.rows.proofs.bytes.sums.rounded_taps.Statement.statement M
-rounded-taps-spec =
-    tie.close
-    (tie.spec
-    (λ c κs. (omega arith, c .before .before .pre .2 (c .if1 .taken) .0))  -- near-sum-requires
+rounded-taps-spec = tie.close (tie.spec (λ c κs. (omega arith, c .before .before .pre .2 (c .if1 .taken) .0))  -- near-sum-requires
     near-rounded-requires
     (λ c. search reading)  -- cast-result
     (λ c κs. search needs)  -- taps-requires

@@ -10,10 +10,7 @@ returns c =
     rw (back fv, c .wrapping-sub16 .ensures, back fk, k .keep16 .ensures, back fr, r .rounded-taps .ensures, back (r .before .before .fits .bias))
 
 pub tap-mid-px-spec : {M : Type 1} → Rattle.rows.proofs.bytes.sums.tap_mid_px.Statement.statement M
-tap-mid-px-spec =
-    tie.close
-    (tie.spec
-    (λ c κs. search needs)  -- rounded-taps-requires
+tap-mid-px-spec = tie.close (tie.spec (λ c κs. search needs)  -- rounded-taps-requires
     (λ c κs. search needs)  -- keep16-requires
     (λ c κs. search needs)  -- wrapping-sub16-requires
     returns)

@@ -7,10 +7,7 @@ requires c κs =
     omega (arith, x (a .p), x (a .p + a .step))
 
 pub high-between-spec : {M : Type 1} → Rattle.rows.proofs.words.between.high_between.Statement.statement M
-high-between-spec =
-    tie.close
-    (tie.spec
-    (λ c. search needs) (λ c. search needs)  -- src[p]
+high-between-spec = tie.close (tie.spec (λ c. search needs) (λ c. search needs)  -- src[p]
     (λ c. search needs)  -- p + step
     (λ c. search needs) (λ c. search needs)  -- src[p + step]
     requires

@@ -20,10 +20,7 @@ returns c =
     rw (back fv, e) v
 
 pub prep-between-spec : {M : Type 1} → Rattle.rows.proofs.words.between.prep_between.Statement.statement M
-prep-between-spec =
-    tie.close
-    (tie.spec
-    (λ c κs. search needs)  -- high-between-requires
+prep-between-spec = tie.close (tie.spec (λ c κs. search needs)  -- high-between-requires
     (λ c κs. search needs)  -- low-between-requires
     (λ c. omega arith)  -- high as i16
     (λ c. omega arith)  -- low as i16

@@ -8,10 +8,7 @@ returns c =
     rw (sum-joined (a .src .now) (a .p) (a .step) (a .f) (omega arith) (h .high-between .ensures .0) (l .low-between .ensures .0)) (c .bilin-joined .ensures)
 
 pub put-between-spec : {M : Type 1} → Rattle.rows.proofs.words.between.put_between.Statement.statement M
-put-between-spec =
-    tie.close
-    (tie.spec
-    (λ c κs. search needs)  -- high-between-requires
+put-between-spec = tie.close (tie.spec (λ c κs. search needs)  -- high-between-requires
     (λ c κs. search needs)  -- low-between-requires
     (λ c κs. search needs)  -- bilin-joined-requires
     returns)

@@ -18,10 +18,7 @@ loop-again c =
     over-more p (omega arith) (rw (← over-here p) (c .blend-px .ensures))
 
 pub blend-row-spec : {M : Type 1} → Rattle.rows.proofs.words.blend.blend_row.Statement.statement M
-blend-row-spec =
-    tie.close
-    (tie.spec
-    Inv-loop
+blend-row-spec = tie.close (tie.spec Inv-loop
     μ-loop
     (λ c. over-none _ _ _)  -- loop-holds
     (λ c. omega arith) (λ c. omega arith)  -- mask[q + i]

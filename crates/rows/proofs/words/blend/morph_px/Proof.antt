@@ -13,10 +13,7 @@ returns c =
     rw (c .clip .ensures, back f, c .before .scaled .ensures, back (s .fits .alpha), back (s .fits .beta), backn w32 (s .args .d) (omega arith))
 
 pub morph-px-spec : {M : Type 1} → Rattle.rows.proofs.words.blend.morph_px.Statement.statement M
-morph-px-spec =
-    tie.close
-    (tie.spec
-    (λ c. search needs)  -- cast-scaled
+morph-px-spec = tie.close (tie.spec (λ c. search needs)  -- cast-scaled
     scaled-requires
     (λ c κs. search needs)  -- clip-requires
     returns)

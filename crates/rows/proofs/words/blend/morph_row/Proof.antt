@@ -15,10 +15,7 @@ returns c =
     rw (← back (s .fits .alpha), ← back (s .fits .beta)) (over-all (c .before .loop .inv) (omega arith))
 
 pub morph-row-spec : {M : Type 1} → Rattle.rows.proofs.words.blend.morph_row.Statement.statement M
-morph-row-spec =
-    tie.close
-    (tie.spec
-    Inv-loop
+morph-row-spec = tie.close (tie.spec Inv-loop
     μ-loop
     (λ c. over-none _ _ _)  -- loop-holds
     (λ c. omega arith)  -- words: 2 * i

@@ -9,9 +9,7 @@ abbrev μ-loop : tie.MeasureT-loop
 μ-loop dst₀ src o n i₀ dst i = n - i
 
 pub copy-each-spec : {M : Type 1} → Rattle.rows.proofs.words.copy.copy_each.Statement.statement M
-copy-each-spec =
-    tie.close
-    (tie.spec Inv-loop μ-loop (λ c. search row-loop)  -- while i < n
+copy-each-spec = tie.close (tie.spec Inv-loop μ-loop (λ c. search row-loop)  -- while i < n
     (λ c. search row-loop)  -- o + i
     (λ c. search row-loop)  -- words: 2 * (o + i)
     (λ c. search row-loop)  -- src[o + i]

@@ -17,10 +17,7 @@ abbrev μ-loop2 : tie.MeasureT-loop2
 μ-loop2 dst₀ src o n line i j₀ dst j = n - j
 
 pub copy-whole-spec : {M : Type 1} → Rattle.rows.proofs.words.copy.copy_whole.Statement.statement M
-copy-whole-spec =
-    tie.close
-    (tie.spec
-    Inv-loop
+copy-whole-spec = tie.close (tie.spec Inv-loop
     μ-loop
     Inv-loop2
     μ-loop2

@@ -14,9 +14,7 @@ loop-again c =
     upto-more (c .before .before .before .loop .inv) (omega arith) (back f ∙ c .prep-px .ensures)
 
 pub prep-row-spec : {M : Type 1} → Rattle.rows.proofs.words.copy.prep_row.Statement.statement M
-prep-row-spec =
-    tie.close
-    (tie.spec Inv-loop μ-loop (λ c. upto-none _ _ _)  -- while i < n
+prep-row-spec = tie.close (tie.spec Inv-loop μ-loop (λ c. upto-none _ _ _)  -- while i < n
     (λ c. omega arith)  -- o + i
     (λ c. omega arith)  -- words: 2 * (o + i)
     (λ c. omega arith)  -- src[o + i]

@@ -20,9 +20,7 @@ loop-again c =
     upto-kept (c .before .before .before .before .loop .inv) (omega arith) (omega arith) (c .scaled-bilin-px .ensures)
 
 pub scaled-bilin-by-spec : {M : Type 1} → Rattle.rows.proofs.words.pairs.scaled_bilin_by.Statement.statement M
-scaled-bilin-by-spec =
-    tie.close
-    (tie.spec Inv-loop μ-loop (λ c. upto-none _ _ _)  -- while i < w
+scaled-bilin-by-spec = tie.close (tie.spec Inv-loop μ-loop (λ c. upto-none _ _ _)  -- while i < w
     (λ c. omega arith) (λ c. omega (arith, c .before .before .before .before .pre .1 .held (c .before .before .loop .i) (omega arith)))  -- pixels[i] as usize
     (λ c. omega arith)  -- fractions[i]
     scaled-bilin-px-requires

@@ -26,9 +26,7 @@ returns c =
     rw (back fv, c .kept .ensures, e .0, s .before .pre .2) (low16-again _)
 
 pub scaled-bilin-px-spec : {M : Type 1} → Rattle.rows.proofs.words.pairs.scaled_bilin_px.Statement.statement M
-scaled-bilin-px-spec =
-    tie.close
-    (tie.spec
+scaled-bilin-px-spec = tie.close (tie.spec
     (λ c. search needs)  -- words: 2 * c
     (λ c. search needs)  -- src[c]
     (λ c. omega (arith, c .shared-slice-known2 .given (c .before .before .args .c)))  -- as i32

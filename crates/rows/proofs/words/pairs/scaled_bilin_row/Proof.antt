@@ -23,9 +23,7 @@ returns-2 c =
     rw two (c .before .scaled-bilin-by2 .ensures ∙ part-row (s .args .src .now) _ _ _ _ _ (s .pre .2))
 
 pub scaled-bilin-row-spec : {M : Type 1} → Rattle.rows.proofs.words.pairs.scaled_bilin_row.Statement.statement M
-scaled-bilin-row-spec =
-    tie.close
-    (tie.spec
+scaled-bilin-row-spec = tie.close (tie.spec
     (λ c. omega arith)  -- words: 2 * src.len()
     (λ c. omega arith) (λ c. omega arith) (λ c. omega arith)  -- &src[o..]
     (λ c κs. let s = c .before .before .before .before in (omega arith, held s, omega arith, omega arith))  -- scaled-bilin-by-requires

@@ -18,10 +18,7 @@ returns-2 c =
     ∙ mid-by _ _ _ (a .src .now) (a .o) (a .p) (omega arith) (omega arith)
 
 pub scaled-px-spec : {M : Type 1} → Rattle.rows.proofs.words.scaled.scaled_px.Statement.statement M
-scaled-px-spec =
-    tie.close
-    (tie.spec
-    (λ c. search needs)  -- o + p / 1024
+scaled-px-spec = tie.close (tie.spec (λ c. search needs)  -- o + p / 1024
     (λ c. search needs)  -- words: 2 * c
     (λ c. search needs)  -- src[c]
     (λ c κs. search needs)  -- prep-px-requires

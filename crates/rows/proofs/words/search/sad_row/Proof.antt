@@ -13,9 +13,7 @@ loop-again : tie.Need-loop-again Inv-loop μ-loop
 loop-again c = added-more (c .before .before .before .before .loop .inv) (omega arith) (c .abs-diff .ensures .0) (omega arith)
 
 pub sad-row-spec : {M : Type 1} → Rattle.rows.proofs.words.search.sad_row.Statement.statement M
-sad-row-spec =
-    tie.close
-    (tie.spec Inv-loop μ-loop (λ c. added-none _ _ _)  -- while i < w
+sad-row-spec = tie.close (tie.spec Inv-loop μ-loop (λ c. added-none _ _ _)  -- while i < w
     (λ c. omega arith)  -- o + i
     (λ c. omega arith)  -- words: 2 * (o + i)
     (λ c. omega arith)  -- p[o + i]

@@ -16,9 +16,7 @@ loop-again c =
     upto-more (p .before .before .loop .inv) (omega arith) (rw (c .clip .ensures, back fr, p .rounded-taps .ensures))
 
 pub near-eight-spec : {M : Type 1} → Rattle.rows.proofs.words.subpel.near_eight.Statement.statement M
-near-eight-spec =
-    tie.close
-    (tie.spec Inv-loop μ-loop (λ c. upto-none 0 _ _)  -- while i < 8
+near-eight-spec = tie.close (tie.spec Inv-loop μ-loop (λ c. upto-none 0 _ _)  -- while i < 8
     (λ c. omega arith)  -- o + i
     (λ c κs. (omega arith, omega arith, λ e. c .before .before .before .pre .1))  -- rounded_taps(..)
     (λ c κs. omega arith)  -- clip(..)

@@ -12,9 +12,7 @@ abbrev μ-loop : tie.MeasureT-loop
 μ-loop src o f by bias line₀ i₀ line i = 8 - i
 
 pub near-eight-mid-spec : {M : Type 1} → Rattle.rows.proofs.words.subpel.near_eight_mid.Statement.statement M
-near-eight-mid-spec =
-    tie.close
-    (tie.spec Inv-loop μ-loop (λ c. upto-none (pos 0) _ _)  -- while i < 8
+near-eight-mid-spec = tie.close (tie.spec Inv-loop μ-loop (λ c. upto-none (pos 0) _ _)  -- while i < 8
     (λ c. omega arith) (λ c κs. (omega arith, omega arith, λ e. c .before .before .before .pre .1))  -- tap_mid_px(.., o + i, ..)
     (λ c. omega arith) (λ c. omega arith)  -- line[i] =
     (λ c. omega arith) (λ c. omega arith) (λ c. upto-kept (c .before .before .loop .inv) (omega arith) (omega arith) (c .tap-mid-px .ensures))  -- i += 1

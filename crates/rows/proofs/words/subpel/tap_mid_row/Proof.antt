@@ -22,10 +22,7 @@ returns-2 c =
     (rw (back (begin (t .before .before) .fits .bias)) at (e .near-eight-mid .ensures))
 
 pub tap-mid-row-spec : {M : Type 1} → Rattle.rows.proofs.words.subpel.tap_mid_row.Statement.statement M
-tap-mid-row-spec =
-    tie.close
-    (tie.spec
-    (λ c κs. search needs)  -- few_mids(..)
+tap-mid-row-spec = tie.close (tie.spec (λ c κs. search needs)  -- few_mids(..)
     (λ c κs. (omega arith, omega arith, λ e. absurd (subst T (sym e) tt)))  -- tap_mid_by(..), of few
     (λ c κs. search needs) near-eight-mid-requires  -- by_eight(..)
     (λ c κs. let t = c .before .before .before in t .before .by-eight .ensures (t .if3 .taken))  -- take_eight_mid(..)

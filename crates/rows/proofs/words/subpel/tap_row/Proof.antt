@@ -23,10 +23,7 @@ returns-2 c =
     row-copied 0 _ (t .before .by-eight .ensures (t .if3 .taken)) (c .before .before .take-eight .ensures) (e .near-eight .ensures)
 
 pub tap-row-spec : {M : Type 1} → Rattle.rows.proofs.words.subpel.tap_row.Statement.statement M
-tap-row-spec =
-    tie.close
-    (tie.spec
-    (λ c κs. search needs)  -- few(..)
+tap-row-spec = tie.close (tie.spec (λ c κs. search needs)  -- few(..)
     (λ c κs. (omega arith, omega arith, λ e. absurd (subst T (sym e) tt), omega arith))  -- tap_by(..), of few
     (λ c κs. search needs) near-eight-requires  -- by_eight(..)
     (λ c κs. let t = c .before .before .before in t .before .by-eight .ensures (t .if3 .taken))  -- take_eight(..)

@@ -25,9 +25,7 @@ unfolding S
 returns c = let h = c .before .loop in summed-eight (h .inv .0) (omega arith) (h .inv .1)
 
 pub far-taps-spec : {M : Type 1} → Rattle.rows.proofs.words.sums.far_taps.Statement.statement M
-far-taps-spec =
-    tie.close
-    (tie.spec Inv-loop μ-loop (λ c. (omega arith, summed-none _ _))  -- while j < 8
+far-taps-spec = tie.close (tie.spec Inv-loop μ-loop (λ c. (omega arith, summed-none _ _))  -- while j < 8
     (λ c. omega arith)  -- f[j]
     (λ c. omega (arith, place (c .before)))  -- j * step
     (λ c. omega (arith, place (c .before)))  -- o + j * step

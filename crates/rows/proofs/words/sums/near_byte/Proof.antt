@@ -20,10 +20,7 @@ returns-2 c =
     rw (back fr, c .before .if1 .left) (rw (back (s .fits .acc), back (s .fits .f)) at (c .near-tap-u82 .ensures))
 
 pub near-byte-spec : {M : Type 1} → Rattle.rows.proofs.words.sums.near_byte.Statement.statement M
-near-byte-spec =
-    tie.close
-    (tie.spec
-    (λ c. omega arith) near-tap-u8-requires  -- high
+near-byte-spec = tie.close (tie.spec (λ c. omega arith) near-tap-u8-requires  -- high
     (λ c. omega arith) near-tap-u8-requires-2  -- low
     returns
     returns-2)

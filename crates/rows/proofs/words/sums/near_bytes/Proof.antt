@@ -20,9 +20,7 @@ loop-again c =
     near-more (h .loop .inv) (omega arith) (h .before .before .pre .1) (fit w8 (c .before .before .near-byte-arg .given)) refl (c .near-byte .ensures)
 
 pub near-bytes-spec : {M : Type 1} → Rattle.rows.proofs.words.sums.near_bytes.Statement.statement M
-near-bytes-spec =
-    tie.close
-    (tie.spec Inv-loop μ-loop (λ c. near-none _ _)  -- while j < 8
+near-bytes-spec = tie.close (tie.spec Inv-loop μ-loop (λ c. near-none _ _)  -- while j < 8
     (λ c. omega arith)  -- f[j]
     (λ c. omega (arith, place (c .before))) (λ c. omega (arith, place (c .before)))  -- o + j * step
     (λ c. omega (arith, place (c .before))) (λ c. omega (arith, place (c .before .before)))  -- src[..]

@@ -9,9 +9,6 @@ returns c =
     rw (back fr) (c .near-whole .ensures .0 ∙ whole-is _ _ (l .before .near-bytes .ensures) (l .near-bytes2 .ensures), c .near-whole .ensures .1)
 
 pub near-sum-spec : {M : Type 1} → Rattle.rows.proofs.words.sums.near_sum.Statement.statement M
-near-sum-spec =
-    tie.close
-    (tie.spec
-    (λ c κs. search needs) (λ c κs. search needs)  -- the sums of both bytes
+near-sum-spec = tie.close (tie.spec (λ c κs. search needs) (λ c κs. search needs)  -- the sums of both bytes
     (λ c κs. parts-fit (c .before .near-bytes .ensures) (c .near-bytes2 .ensures))  -- near_whole(..)
     returns)

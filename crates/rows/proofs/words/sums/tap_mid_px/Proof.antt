@@ -19,10 +19,7 @@ returns-2 c =
     kept-is _ _ _ _ (omega arith) (t .before .before .before .fits .bias) (omega arith) (t .far-taps .ensures .0) (c .kept .ensures)
 
 pub tap-mid-px-spec : {M : Type 1} → Rattle.rows.proofs.words.sums.tap_mid_px.Statement.statement M
-tap-mid-px-spec =
-    tie.close
-    (tie.spec
-    (λ c κs. (omega arith, c .before .before .pre .2 (c .if1 .taken) .0))  -- the sum of high bytes
+tap-mid-px-spec = tie.close (tie.spec (λ c κs. (omega arith, c .before .before .pre .2 (c .if1 .taken) .0))  -- the sum of high bytes
     (λ c κs. (omega arith, c .before .before .before .pre .2 (c .before .if1 .taken) .0))  -- the sum of low bytes
     near-kept-requires
     (λ c κs. search needs) (λ c κs. search needs)  -- kept(far_taps(..), ..)

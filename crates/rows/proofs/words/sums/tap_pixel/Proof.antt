@@ -9,9 +9,6 @@ returns c =
     rw (back fr) (rw (back (s .fits .acc), back (s .fits .f), backn w32 (s .args .x) (omega arith)) at (c .tap .ensures))
 
 pub tap-pixel-spec : {M : Type 1} → Rattle.rows.proofs.words.sums.tap_pixel.Statement.statement M
-tap-pixel-spec =
-    tie.close
-    (tie.spec
-    (λ c. search needs)  -- cast-tap
+tap-pixel-spec = tie.close (tie.spec (λ c. search needs)  -- cast-tap
     (λ c κs. omega (arith, rd (c .fits .acc), rdn w32 (c .args .x) (omega arith)))  -- tap-requires
     returns)

@@ -14,10 +14,7 @@ returns c =
     (rw (back (s .fits .acc), back (s .fits .f), backn w32 (s .args .x) (omega arith), back (wide16 (short s)), back (short s)) at (c .tap-i16 .ensures))
 
 pub tap-centred-spec : {M : Type 1} → Rattle.rows.proofs.words.taps.tap_centred.Statement.statement M
-tap-centred-spec =
-    tie.close
-    (tie.spec
-    (λ c. search needs)  -- x as i32
+tap-centred-spec = tie.close (tie.spec (λ c. search needs)  -- x as i32
     (λ c. rw (backn w32 (c .args .x) (omega arith)) (wide16 (short c)))  -- - 32768
     (λ c. rw (backn w32 (c .args .x) (omega arith), back (wide16 (short c))) (short c))  -- as i16
     (λ c κs. search reading)  -- tap_i16(..)

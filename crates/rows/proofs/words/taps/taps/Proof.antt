@@ -27,9 +27,7 @@ returns c =
     centred-whole (a .f .now) (λ t. px (a .src .now) (a .o + t * a .step)) (c .taps-alone .result) (h .loop .inv .0) (omega arith) (h .loop .inv .1) (c .taps-alone .ensures)
 
 pub taps-spec : {M : Type 1} → Rattle.rows.proofs.words.taps.taps.Statement.statement M
-taps-spec =
-    tie.close
-    (tie.spec Inv-loop μ-loop (λ c. (omega arith, summed-none _ _))  -- while j < 8
+taps-spec = tie.close (tie.spec Inv-loop μ-loop (λ c. (omega arith, summed-none _ _))  -- while j < 8
     (λ c. omega arith)  -- f[j]
     (λ c. omega (arith, place (c .before)))  -- j * step
     (λ c. omega (arith, place (c .before)))  -- o + j * step

@@ -26,9 +26,7 @@ returns c =
     (summed-is p (omega arith), omega (arith, summed-mag p (omega arith)))
 
 pub taps-alone-spec : {M : Type 1} → Rattle.rows.proofs.words.taps.taps_alone.Statement.statement M
-taps-alone-spec =
-    tie.close
-    (tie.spec Inv-loop μ-loop (λ c. (omega arith, summed-none _ _))  -- while j < 8
+taps-alone-spec = tie.close (tie.spec Inv-loop μ-loop (λ c. (omega arith, summed-none _ _))  -- while j < 8
     (λ c. omega arith)  -- f[j]
     (λ c. search reading)  -- as i32
     (λ c. rw (back8 (fits c)) (fit w32 (omega (

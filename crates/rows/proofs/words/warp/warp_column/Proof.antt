@@ -35,9 +35,7 @@ loop-again c =
     (warp-kept-is (px src) _ _ (f .filter-for .ensures) (t .taps .ensures .0) (rw (back ft) at (c .warp-kept .ensures)))
 
 pub warp-column-spec : {M : Type 1} → Rattle.rows.proofs.words.warp.warp_column.Statement.statement M
-warp-column-spec =
-    tie.close
-    (tie.spec Inv-loop μ-loop (λ c. upto-start (omega arith))  -- while r < 15
+warp-column-spec = tie.close (tie.spec Inv-loop μ-loop (λ c. upto-start (omega arith))  -- while r < 15
     (λ c. omega arith) filter-for-requires  -- filter_for(.., r as u32, c)
     (λ c. omega (arith, place (c .before))) (λ c. omega (arith, place (c .before)))  -- o + r * s
     (λ c κs. omega (arith, place (c .before), length-filter _ _ _ (c .filter-for .ensures)))  -- taps(..)

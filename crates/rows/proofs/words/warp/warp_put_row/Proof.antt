@@ -30,9 +30,7 @@ loop-again c =
     upto-more (f .before .before .loop .inv) (omega arith) (rw (c .clip .ensures, back16 fk, e))
 
 pub warp-put-row-spec : {M : Type 1} → Rattle.rows.proofs.words.warp.warp_put_row.Statement.statement M
-warp-put-row-spec =
-    tie.close
-    (tie.spec Inv-loop μ-loop (λ c. upto-start (omega arith))  -- while c < 8
+warp-put-row-spec = tie.close (tie.spec Inv-loop μ-loop (λ c. upto-start (omega arith))  -- while c < 8
     (λ c. omega arith) filter-for-requires  -- filter_for(.., c as u32)
     (λ c. omega arith) (λ c. omega arith)  -- o + c * 15
     (λ c κs. omega (arith, length-filter _ _ _ (c .filter-for .ensures)))  -- taps_i16(..)

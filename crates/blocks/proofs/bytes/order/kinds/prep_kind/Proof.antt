@@ -63,10 +63,7 @@ warp-returns c =
     rw (z .0, z .1, e) (c .before .warp-prep .ensures)
 
 pub prep-kind-spec : {M : Type 1} → Rattle.blocks.proofs.bytes.order.kinds.prep_kind.Statement.statement M
-prep-kind-spec =
-    tie.close
-    (tie.spec
-    (λ c. omega (arith, c .before .pre .0 .src .most)) (λ c. omega (arith, c .before .pre .0 .src .most))  -- first
+prep-kind-spec = tie.close (tie.spec (λ c. omega (arith, c .before .pre .0 .src .most)) (λ c. omega (arith, c .before .pre .0 .src .most))  -- first
     (λ c. search needs) copy-requires (λ c. search needs) subpel-requires (λ c. search needs)  -- enum-told, enum-known-k
     (λ c κs. search needs) (λ c κs. search needs) bilin-requires (λ c. search needs) warp-requires  -- above, enum-known-k
     (λ c. search needs) copy-returns (λ c. search needs) subpel-returns (λ c. search needs) bilin-returns (λ c. search needs)  -- same-length

@@ -34,9 +34,7 @@ mid-row-requires : tie.Need-mid-row-requires Inv-loop μ-loop
 mid-row-requires c κs = let t = c .before in let p = entry t .pre in (omega (arith, row t), omega arith, omega (arith, p), near t, p .3)
 
 pub mid-lines-spec : {M : Type 1} → Rattle.blocks.proofs.bytes.subpel.lines.mid_lines.Statement.statement M
-mid-lines-spec =
-    tie.close
-    (tie.spec Inv-loop μ-loop
+mid-lines-spec = tie.close (tie.spec Inv-loop μ-loop
     (λ c κs. search needs)  -- half-power
     (λ c κs. search needs)  -- is-near
     (λ c. filled-none 0 _ _ _ _ _ (omega (arith, c .before .before .before .pre .0 .dst)))  -- loop-holds

@@ -36,9 +36,7 @@ prep-line-row-requires c κs =
     (omega (arith, row t), omega (arith, p), near t, p .3, p .4)
 
 pub prep-lines-spec : {M : Type 1} → Rattle.blocks.proofs.bytes.subpel.lines.prep_lines.Statement.statement M
-prep-lines-spec =
-    tie.close
-    (tie.spec Inv-loop μ-loop
+prep-lines-spec = tie.close (tie.spec Inv-loop μ-loop
     (λ c κs. search needs)  -- is-near
     (λ c. omega (arith, c .before .before .before .before .before .pre))  -- p.bits - bits
     (λ c. filled-none (pos 0) _ _ _ _ _ (omega (arith, c .before .before .before .before .before .pre .0 .dst)))  -- loop-holds

@@ -15,9 +15,6 @@ returns-2 c =
     c .before .before .tap-row .ensures ∙ row-same 0 _ _ _ (λ i b. put-some _ _ _ _ _ _ (omega (arith, t .if1 .left)))
 
 pub put-line-row-spec : {M : Type 1} → Rattle.blocks.proofs.bytes.subpel.lines.put_line_row.Statement.statement M
-put-line-row-spec =
-    tie.close
-    (tie.spec
-    (λ c κs. omega arith)  -- copy-row-requires
+put-line-row-spec = tie.close (tie.spec (λ c κs. omega arith)  -- copy-row-requires
     (λ c κs. c .before .before .before .before .pre)  -- tap-row-requires
     (λ c. search needs) returns (λ c. search needs) returns-2)  -- same-length

@@ -31,9 +31,7 @@ put-line-row-requires c κs =
     (omega (arith, row t), p .1, omega (arith, p), near t, p .4)
 
 pub put-lines-spec : {M : Type 1} → Rattle.blocks.proofs.bytes.subpel.lines.put_lines.Statement.statement M
-put-lines-spec =
-    tie.close
-    (tie.spec Inv-loop μ-loop
+put-lines-spec = tie.close (tie.spec Inv-loop μ-loop
     (λ c κs. search needs)  -- is-near
     (λ c. filled-none 0 _ _ _ _ _ (omega (arith, c .before .before .before .before .before .pre .0 .dst)))  -- loop-holds
     (λ c. omega (arith, row c)) (λ c. omega (arith, row c))  -- y * dst_stride, y * src_stride

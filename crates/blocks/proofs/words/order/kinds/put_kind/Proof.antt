@@ -58,9 +58,7 @@ warp-returns c =
     rw (z .0, z .1, e) (c .before .before .warp-put .ensures)
 
 pub put-kind-spec : {M : Type 1} → Rattle.blocks.proofs.words.order.kinds.put_kind.Statement.statement M
-put-kind-spec =
-    tie.close
-    (tie.spec
+put-kind-spec = tie.close (tie.spec
     (λ c. omega (arith, c .before .before .pre .0 .src .most)) (λ c. omega (arith, c .before .before .pre .0 .src .most))  -- first
     (λ c. search needs) copy-requires (λ c. search needs) subpel-requires (λ c. search needs)  -- enum-told, enum-known-k
     (λ c κs. search needs) (λ c κs. search needs) bilin-requires (λ c. search needs) warp-requires  -- above, enum-known-k

@@ -55,8 +55,5 @@ returns-2 c =
     }
 
 pub order-window-spec : {M : Type 1} → Rattle.blocks.proofs.words.order.run.order_window.Statement.statement M
-order-window-spec =
-    tie.close
-    (tie.spec
-    (λ c κs. search needs) (λ c κs. search needs) returns (λ c κs. search needs)  -- check-order, no-part, kind-number
+order-window-spec = tie.close (tie.spec (λ c κs. search needs) (λ c κs. search needs) returns (λ c κs. search needs)  -- check-order, no-part, kind-number
     area-of-requires fetch-requires (λ c. search needs) returns-2)  -- same-length

@@ -23,10 +23,7 @@ tap-mid-row-requires c κs =
     (p .0, half-short (h .half-power .ensures .0) (p .1), omega arith, p .2)
 
 pub prep-line-row-spec : {M : Type 1} → Rattle.blocks.proofs.words.subpel.lines.prep_line_row.Statement.statement M
-prep-line-row-spec =
-    tie.close
-    (tie.spec
-    (λ c κs. omega arith)  -- prep-row-requires
+prep-line-row-spec = tie.close (tie.spec (λ c κs. omega arith)  -- prep-row-requires
     (λ c κs. omega arith)  -- half-power-requires
     (λ c κs. omega arith)  -- bias-of-requires
     (λ c. omega arith)  -- cast
