@@ -23,9 +23,9 @@ sixteenth-met f e =
     let p = and-true (leZ (pos 0) f) (leZ f (pos 15)) e in
     omega (arith, le-yes (pos 0) f (p .0), le-yes f (pos 15) (p .1), one-part f)
 
-pub bilin-ready : (deep : Bool) (dl ds sl ss w h : ℕ) (mx my : ℤ) → lowest (bilinTests deep dl ds sl ss w h mx my) ≡ 0
+pub bilin-ready : {deep : Bool} {dl ds sl ss w h : ℕ} (mx my : ℤ) → lowest (bilinTests deep dl ds sl ss w h mx my) ≡ 0
     → (deep ≡ true) × Bilin dl ds sl ss w h (up mx) (up my)
-bilin-ready deep dl ds sl ss w h mx my e =
+bilin-ready {deep} {dl} {ds} {sl} {ss} {w} {h} mx my e =
     let m = all-met (bilinTests deep dl ds sl ss w h mx my) e in
     let t = m .1 .1 in let n = t .1 .1 in let r = n .1 .1 .1 in
     let b = block-met w h (m .0) (m .1 .0) in let s = stride-met w ss (t .1 .0) in

@@ -12,8 +12,8 @@ use Rattle.blocks.proofs.Laws.Loops.Gapless.{gapless-met}
 use Rattle.blocks.proofs.Laws.Blend.Above.{first-all}
 
 -- ---- blend
-pub blend-ready : (dl ds tl w h ml : ℕ) → lowest (blendShape dl ds tl w h ml) ≡ 0 → Block w h × Rows dl ds w h × Rows tl w w h × Rows ml w w h
-blend-ready dl ds tl w h ml e =
+pub blend-ready : {dl ds tl w h ml : ℕ} → lowest (blendShape dl ds tl w h ml) ≡ 0 → Block w h × Rows dl ds w h × Rows tl w w h × Rows ml w w h
+blend-ready {dl} {ds} {tl} {w} {h} {ml} e =
     let m = all-met (blendShape dl ds tl w h ml) e in
     let t = m .1 .1 in
     let b = block-met w h (m .0) (m .1 .0) in
@@ -55,7 +55,7 @@ pub record Searched (dst : List ℕ) (ds : ℕ) (tmp : List ℕ) (w h : ℕ) (ma
 
 module _ {dst : List ℕ} {ds : ℕ} {tmp : List ℕ} {w h : ℕ} {mask : List ℕ} {s : Spot} (p : Searched dst ds tmp w h mask s) where
   ready : Block w h × Rows (length dst) ds w h × Rows (length tmp) w w h × Rows (length mask) w w h
-  ready = blend-ready (length dst) ds (length tmp) w h (length mask) (p .shape)
+  ready = blend-ready (p .shape)
 
   then-mask : lowest (shapeOf dst ds tmp w h mask ++ lastOf w h mask) ≡ need (noneAbove mask w h) 7 0
   then-mask = sym (later (shapeOf dst ds tmp w h mask) (lowest (lastOf w h mask)) (p .shape))

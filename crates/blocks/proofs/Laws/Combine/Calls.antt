@@ -124,7 +124,7 @@ module _ (deep : Bool) (depth : ℕ) (dst : List ℕ) (ds : ℕ) (tmp1 tmp2 : Li
       → MaskAnswer deep depth dst ds tmp1 tmp2 w h mask r d → WAvgAnswer deep depth dst ds tmp1 tmp2 w h (pos k) r′ d′ → (r ≡ r′) × (d ≡ d′)
   mask-weight-block mask k h32 all held =
       same-answer dst (mask-tests deep (length dst) ds (length tmp1) (length tmp2) w h (length mask) k held h32) λ z.
-      let p = mask-ready deep (length dst) ds (length tmp1) (length tmp2) w h (length mask) z in
+      let p = mask-ready z in
       even-fill (maxOf depth) (bitsOf depth) (biasOf depth) dst ds tmp1 tmp2 w h mask w k (omega arith) all
 
   -- so where the mask's call is accepted, the weight's is, with the same destination
@@ -132,6 +132,6 @@ module _ (deep : Bool) (depth : ℕ) (dst : List ℕ) (ds : ℕ) (tmp1 tmp2 : Li
       → MaskAnswer deep depth dst ds tmp1 tmp2 w h mask r d → r ≡ 0 → WAvgAnswer deep depth dst ds tmp1 tmp2 w h (pos k) r′ d′ → (r′ ≡ 0) × (d ≡ d′)
   unfolding holds
   mask-weight-done mask k h32 all a z b =
-      let p = mask-ready deep (length dst) ds (length tmp1) (length tmp2) w h (length mask) (sym (a .0) ∙ z) in
+      let p = mask-ready (sym (a .0) ∙ z) in
       let q = mask-weight-block mask k h32 all (le-leb _ _ (p .1 .4 .fits)) a b in
       (sym (q .0) ∙ z, q .1)

@@ -23,19 +23,19 @@ weight-met (pos n) e = omega (arith, leb-true n 32 (and-true (leZ (negsuc 15) (p
 weight-met (negsuc n) e = omega (arith, leb-true n 15 (and-true (leZ (negsuc 15) (negsuc n)) (leZ (negsuc n) (pos 32)) e .0))
 
 -- ---- each kernel: what its rows take, and the outcome of the depth's test
-pub avg-ready : (deep : Bool) (dl ds l1 l2 w h : ℕ) → lowest (avgTests deep dl ds l1 l2 w h) ≡ 0
+pub avg-ready : {deep : Bool} {dl ds l1 l2 w h : ℕ} → lowest (avgTests deep dl ds l1 l2 w h) ≡ 0
     → (deep ≡ true) × (Block w h × Rows dl ds w h × Rows l1 w w h × Rows l2 w w h)
-avg-ready deep dl ds l1 l2 w h e = let p = combine-ready dl ds l1 l2 w h deep true e in (p .0, p .2)
+avg-ready {deep} {dl} {ds} {l1} {l2} {w} {h} e = let p = combine-ready dl ds l1 l2 w h deep true e in (p .0, p .2)
 
-pub w-avg-ready : (deep : Bool) (dl ds l1 l2 w h : ℕ) (weight : ℤ) → lowest (wAvgTests deep dl ds l1 l2 w h weight) ≡ 0
+pub w-avg-ready : {deep : Bool} {dl ds l1 l2 w h : ℕ} (weight : ℤ) → lowest (wAvgTests deep dl ds l1 l2 w h weight) ≡ 0
     → (deep ≡ true) × (Block w h × Rows dl ds w h × Rows l1 w w h × Rows l2 w w h × (mag weight < 33))
-w-avg-ready deep dl ds l1 l2 w h weight e =
+w-avg-ready {deep} {dl} {ds} {l1} {l2} {w} {h} weight e =
     let p = combine-ready dl ds l1 l2 w h (deep && weightOk weight) true e in
     let q = and-true deep (weightOk weight) (p .0) in
     (q .0, (p .2 .0, p .2 .1, p .2 .2, p .2 .3, weight-met weight (q .1)))
 
-pub mask-ready : (deep : Bool) (dl ds l1 l2 w h ml : ℕ) → lowest (maskTests deep dl ds l1 l2 w h ml) ≡ 0
+pub mask-ready : {deep : Bool} {dl ds l1 l2 w h ml : ℕ} → lowest (maskTests deep dl ds l1 l2 w h ml) ≡ 0
     → (deep ≡ true) × (Block w h × Rows dl ds w h × Rows l1 w w h × Rows l2 w w h × Rows ml w w h)
-mask-ready deep dl ds l1 l2 w h ml e =
+mask-ready {deep} {dl} {ds} {l1} {l2} {w} {h} {ml} e =
     let p = combine-ready dl ds l1 l2 w h deep (holds ml w w h) e in
     (p .0, (p .2 .0, p .2 .1, p .2 .2, p .2 .3, whole-met ml (p .2 .0) (p .1)))

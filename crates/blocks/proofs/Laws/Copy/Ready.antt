@@ -2,8 +2,8 @@
 use Rattle.blocks.proofs.Usual.{true, Bool, _≡_, ℕ, lowest, Rows, Block, rows-met, block-met, all-met}
 use Rattle.blocks.specs.Copy.{putTests, prepTests}
 
-pub put-ready : (dl ds sl ss w h : ℕ) → lowest (putTests dl ds sl ss w h) ≡ 0 → Block w h × Rows dl ds w h × Rows sl ss w h
-put-ready dl ds sl ss w h e =
+pub put-ready : {dl ds sl ss w h : ℕ} → lowest (putTests dl ds sl ss w h) ≡ 0 → Block w h × Rows dl ds w h × Rows sl ss w h
+put-ready {dl} {ds} {sl} {ss} {w} {h} e =
     let m = all-met (putTests dl ds sl ss w h) e in
     let t = m .1 .1 in (
       block-met w h (m .0) (m .1 .0),
@@ -11,9 +11,9 @@ put-ready dl ds sl ss w h e =
       rows-met sl ss w h (t .1 .0) (t .1 .1 .0),
     )
 
-pub prep-ready : (deep : Bool) (tl ts sl ss w h : ℕ) → lowest (prepTests deep tl ts sl ss w h) ≡ 0
+pub prep-ready : {deep : Bool} {tl ts sl ss w h : ℕ} → lowest (prepTests deep tl ts sl ss w h) ≡ 0
     → (deep ≡ true) × (Block w h × Rows tl ts w h × Rows sl ss w h)
-prep-ready deep tl ts sl ss w h e =
+prep-ready {deep} {tl} {ts} {sl} {ss} {w} {h} e =
     let m = all-met (prepTests deep tl ts sl ss w h) e in
     let t = m .1 .1 in
     let u = t .1 .1 in (

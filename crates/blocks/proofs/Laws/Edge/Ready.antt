@@ -25,9 +25,9 @@ unfolding placeOk
 place-met x e = leb-true (natAbs x) (2 ^ 30) e
 
 -- ---- what the rows rely on, also of a window that starts up to 3 before a position
-pub edge-ready : (bw bh iw ih : ℕ) (x y : ℤ) (dl ds pl ps : ℕ) → lowest (edgeTests bw bh iw ih x y dl ds pl ps) ≡ 0
+pub edge-ready : {bw bh iw ih : ℕ} {x y : ℤ} {dl ds pl ps : ℕ} → lowest (edgeTests bw bh iw ih x y dl ds pl ps) ≡ 0
     → Fetch (record { ww = bw; wh = bh; iw = iw; ih = ih; left = x; top = y }) dl ds pl ps
-edge-ready bw bh iw ih x y dl ds pl ps e =
+edge-ready {bw} {bh} {iw} {ih} {x} {y} {dl} {ds} {pl} {ps} e =
     let (width, (height, (across, (down, (dst, (plane, others)))))) = all-met (edgeTests bw bh iw ih x y dl ds pl ps) e in
     let (column, (row, (read, (written, none)))) = others in
     let a = size-met 128 bw width in

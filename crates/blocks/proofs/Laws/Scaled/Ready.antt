@@ -101,9 +101,9 @@ pub record ScaledMet (taps isDeep isTyped isTabled : Bool) (dl ds sl o ss w h : 
   pub down : Steps (up my) (up dy)
   pub reads : readsScaled taps sl o ss w h mx my dx dy ≡ true
 
-pub scaled-ready : (taps deep typed tabled : Bool) (dl ds sl o ss w h : ℕ) (mx my dx dy : ℤ)
+pub scaled-ready : {taps deep typed tabled : Bool} {dl ds sl o ss w h : ℕ} {mx my dx dy : ℤ}
     → lowest (scaledTests taps deep typed tabled dl ds sl o ss w h mx my dx dy) ≡ 0 → ScaledMet taps deep typed tabled dl ds sl o ss w h mx my dx dy
-scaled-ready taps deep typed tabled dl ds sl o ss w h mx my dx dy e =
+scaled-ready {taps} {deep} {typed} {tabled} {dl} {ds} {sl} {o} {ss} {w} {h} {mx} {my} {dx} {dy} e =
     let buffers = read asks readsScaled taps sl o ss w h mx my dx dy ∷ written asks holds dl ds w h ∷ [] in
     let b = both-met (numberTests deep typed tabled ds ss w h mx my dx dy) (lowest buffers) e in
     let n = numbers-met deep typed tabled ds ss w h mx my dx dy (b .0) in

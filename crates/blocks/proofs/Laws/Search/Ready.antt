@@ -19,9 +19,9 @@ use Rattle.blocks.specs.Search.{sadsTests, refineTests, RefineAnswer}
 use Rattle.blocks.specs.inner.Search.{bestOf}
 
 -- ---- what the rows rely on
-pub sads-ready : (m : ℕ) (deep : Bool) (l0 s0 l1 s1 w h : ℕ) → lowest (sadsTests m deep l0 s0 l1 s1 w h) ≡ 0
+pub sads-ready : (m : ℕ) {deep : Bool} {l0 s0 l1 s1 w h : ℕ} → lowest (sadsTests m deep l0 s0 l1 s1 w h) ≡ 0
     → Block w h × Rows l0 s0 (w + m) (h + m) × Rows l1 s1 (w + m) (h + m) × (deep ≡ true)
-sads-ready m deep l0 s0 l1 s1 w h e =
+sads-ready m {deep} {l0} {s0} {l1} {s1} {w} {h} e =
     let t = all-met (sadsTests m deep l0 s0 l1 s1 w h) e in
     let r = t .1 .1 in
     let b = r .1 .1 .1 in
@@ -206,9 +206,9 @@ module _ (depth : ℕ) (p q : ℕ → ℕ → ℕ) (w h : ℕ) where
     refine-searched t g = rw (rw kept-is at t) (ap answer (rw kept-is at g))
 
 -- ---- what the rows of `sad_refine_mv` rely on, and its answer as it is handed back
-pub refine-ready : (deep : Bool) (l0 s0 l1 s1 w h : ℕ) → lowest (refineTests deep l0 s0 l1 s1 w h) ≡ 0 → Wider l0 s0 l1 s1 w h
-refine-ready deep l0 s0 l1 s1 w h e =
-    let r = sads-ready 8 deep l0 s0 l1 s1 w h e in record { block = r .0; first = r .1; second = r .2 }
+pub refine-ready : (deep : Bool) {l0 s0 l1 s1 w h : ℕ} → lowest (refineTests deep l0 s0 l1 s1 w h) ≡ 0 → Wider l0 s0 l1 s1 w h
+refine-ready deep {l0} {s0} {l1} {s1} {w} {h} e =
+    let r = sads-ready 8 e in record { block = r .0; first = r .1; second = r .2 }
 
 pub refine-done : {number : ℕ} {x y : ℤ} {o : Offset} → number ≡ 0 → SFits w32 x → SFits w32 y → record { dx = x; dy = y } ≡ o
     → record { dx = toZ w32 (ofZ w32 x); dy = toZ w32 (ofZ w32 y) } ≡ orSame number o centre

@@ -21,13 +21,13 @@ flags-met false true e f = e
 flags-met false false e f = absurd (true≢false (sym f))
 
 -- so without ss_hor no ss_ver, and the mask m keeps each of the weights g
-pub each-met : (sign : ℕ) (ssHor ssVer : Bool) (w h : ℕ) (m₀ m : List ℕ) (ms : ℕ) (g : ℕ → ℕ → ℕ) → flagsOk ssHor ssVer ≡ true → ssHor ≡ false
+pub each-met : (sign : ℕ) (ssHor ssVer : Bool) {w h : ℕ} {m₀ m : List ℕ} {ms : ℕ} {g : ℕ → ℕ → ℕ} → flagsOk ssHor ssVer ≡ true → ssHor ≡ false
     → m ≡ fill m₀ ms (maskSide ssHor w) (maskSide ssVer h) (maskAt sign ssHor ssVer g) → Rows (length m₀) ms (maskSide ssHor w) (maskSide ssVer h)
     → Kept g m₀ ms w h m
 unfolding flagsOk maskAt
-each-met sign false false w h m₀ m ms g o f e r = record { is = e; rows = r }
-each-met sign false true w h m₀ m ms g o f e r = absurd (true≢false (sym o))
-each-met sign true ssVer w h m₀ m ms g o f e r = absurd (true≢false f)
+each-met sign false false {w} {h} {m₀} {m} {ms} {g} o f e r = record { is = e; rows = r }
+each-met sign false true {w} {h} {m₀} {m} {ms} {g} o f e r = absurd (true≢false (sym o))
+each-met sign true ssVer {w} {h} {m₀} {m} {ms} {g} o f e r = absurd (true≢false f)
 
 sign-met : (sign : ℤ) → signOk sign ≡ true → up sign ≤ 1
 unfolding signOk
@@ -40,10 +40,10 @@ side-met : (flag : Bool) (n : ℕ) → evenOk flag n ≡ true → 1 ≤ n → 1 
 side-met true n e b = omega (arith, even-met true n e refl)
 side-met false n e b = b
 
-pub w-mask-ready : (deep : Bool) (dl ds l1 l2 w h ml ms : ℕ) (sign : ℤ) (ssHor ssVer : Bool)
+pub w-mask-ready : {deep : Bool} {dl ds l1 l2 w h ml ms : ℕ} (sign : ℤ) (ssHor ssVer : Bool)
     → lowest (wMaskTests deep dl ds l1 l2 w h ml ms sign ssHor ssVer) ≡ 0
     → (deep ≡ true) × Rows dl ds w h × Weighing l1 l2 w h ml ms (maskSide ssHor w) (maskSide ssVer h) × (flagsOk ssHor ssVer ≡ true) × (up sign ≤ 1)
-w-mask-ready deep dl ds l1 l2 w h ml ms sign ssHor ssVer e =
+w-mask-ready {deep} {dl} {ds} {l1} {l2} {w} {h} {ml} {ms} sign ssHor ssVer e =
     let m = all-met (wMaskTests deep dl ds l1 l2 w h ml ms sign ssHor ssVer) e in
     let b = block-met w h (m .0) (m .1 .0) in
     let o = m .1 .1 in let s = o .1 .1 in let n = s .1 .1 in let r = n .1 .1 .1 in (

@@ -17,7 +17,7 @@ searched : (c : tie.After-first-above) → let a = entry (c .before .before) .ar
 searched c = record { shape = shape (c .before); ends = c .first-above .ensures }
 
 first-above-requires : tie.Need-first-above-requires
-first-above-requires c κs = let p = blend-ready _ _ _ _ _ _ (shape c) in (p .0, p .3)
+first-above-requires c κs = let p = blend-ready (shape c) in (p .0, p .3)
 
 returns-3 : tie.Need-returns-3
 returns-3 c = let r = c .before .before in let s = r .before .before in blend-done (searched (s .before .before)) (s .if2 .left) _ (r .blend-rows .ensures)

@@ -10,6 +10,6 @@ returns c =
 
 pub hv-put-8bpc-spec : {M : Type 1} → Rattle.blocks.proofs.bytes.copy.hv_put_8bpc.Statement.statement M
 hv-put-8bpc-spec = tie.close (tie.spec (λ c κs. search needs)  -- check-put-requires
-    (λ c κs. put-ready _ _ _ _ _ _ (sym (c .before .before .check-put .ensures) ∙ c .before .if1 .taken))  -- put-rows-requires
+    (λ c κs. put-ready (sym (c .before .before .check-put .ensures) ∙ c .before .if1 .taken))  -- put-rows-requires
     (λ c. search needs) returns  -- same-length
     (λ c. (c .before .check-put .ensures, sym (refused _ _ _ (c .if1 .left)))))  -- returns-2

@@ -17,12 +17,12 @@ depth : (c : tie.After-depth-numbers) → c .depth-numbers .result ≡ numbersOf
 depth c = c .depth-numbers .ensures ∙ ap (λ (z : ℤ). numbersOf (up z)) (back (entry (c .before .before) .fits .depth))
 
 depth-numbers-requires : tie.Need-depth-numbers-requires
-depth-numbers-requires c κs = rw (back (entry (c .before) .fits .depth)) (prep-ready _ _ _ _ _ _ _ (sym (number (c .before)) ∙ c .if1 .taken) .0)
+depth-numbers-requires c κs = rw (back (entry (c .before) .fits .depth)) (prep-ready (sym (number (c .before)) ∙ c .if1 .taken) .0)
 
 prep-rows-requires : tie.Need-prep-rows-requires
 prep-rows-requires c κs =
     let t = c .before .before in
-    let p = prep-ready _ _ _ _ _ _ _ (sym (number (t .before)) ∙ t .if1 .taken) in
+    let p = prep-ready (sym (number (t .before)) ∙ t .if1 .taken) in
     rw (depth (c .before)) (p .1 .0, p .1 .1, p .1 .2, depth-bits _ (p .0), depth-bias _ (p .0))
 
 returns : tie.Need-returns

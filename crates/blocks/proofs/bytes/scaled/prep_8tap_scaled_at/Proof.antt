@@ -32,7 +32,7 @@ number c =
 met : (c : tie.Then1) → let a = begin (c .before) .args in
     ScaledMet true (depthOk (a .depth)) (scaledTypeOk (a .filter-type)) (subpelOk (length (a .subpel .now)))
     (length (a .tmp .now)) (a .tmp-stride) (length (a .src .now)) (a .src-off) (a .src-stride) (a .w) (a .h) (a .mx) (a .my) (a .dx) (a .dy)
-met c = scaled-ready true _ _ _ _ _ _ _ _ _ _ _ _ _ _ (sym (number (c .before)) ∙ c .if1 .taken)
+met c = scaled-ready (sym (number (c .before)) ∙ c .if1 .taken)
 
 returns : tie.Need-returns
 returns c =

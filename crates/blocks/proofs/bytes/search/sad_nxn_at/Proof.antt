@@ -10,7 +10,7 @@ entry c = c .before .before .before .before .before
 sad-sum-requires : tie.Need-sad-sum-requires
 sad-sum-requires c κs =
     let t = c .before in let k = t .before in let d = back (entry t .fits .depth) in
-    let r = sads-ready 0 _ _ _ _ _ _ _ (sym (k .check-sads .ensures) ∙ t .if1 .taken) in
+    let r = sads-ready 0 (sym (k .check-sads .ensures) ∙ t .if1 .taken) in
     (sad-blocks (r .0) (r .1) (r .2), rw (c .up32 .ensures) (depth-range _ (sym (k .before .depth-ok .ensures) ∙ r .3)))
 
 returns : tie.Need-returns

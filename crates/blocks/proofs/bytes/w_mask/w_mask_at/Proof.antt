@@ -18,7 +18,7 @@ number c = simp (c .before .depth-ok .ensures, back (entry c .fits .depth), back
 depth-numbers-requires : tie.Need-depth-numbers-requires
 depth-numbers-requires c κs =
     let t = entry (c .before) in
-    rw (back (t .fits .depth)) (w-mask-ready _ _ _ _ _ _ _ _ _ (t .args .sign) _ _ (sym (number (c .before)) ∙ c .if1 .taken) .0)
+    rw (back (t .fits .depth)) (w-mask-ready (t .args .sign) _ _ (sym (number (c .before)) ∙ c .if1 .taken) .0)
 
 -- what depends on the depth; the sign, and the depth itself
 deep : (c : tie.After-depth-numbers) → c .depth-numbers .result ≡ numbersOf (up (entry (c .before .before) .args .depth))
@@ -36,7 +36,7 @@ depth c = c .up322 .ensures ∙ ap up (back (entry (from c .before .before) .fit
 w-mask-rows-requires : tie.Need-w-mask-rows-requires
 w-mask-rows-requires c κs =
     let i = from c .before in let t = entry (i .before) in
-    let p = w-mask-ready _ _ _ _ _ _ _ _ _ (t .args .sign) _ _ (sym (number (i .before)) ∙ i .if1 .taken) in (
+    let p = w-mask-ready (t .args .sign) _ _ (sym (number (i .before)) ∙ i .if1 .taken) in (
       p .1,
       p .2,
       p .3,

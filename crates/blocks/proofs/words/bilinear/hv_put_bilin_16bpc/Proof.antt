@@ -24,11 +24,11 @@ returns c =
 rows-requires : tie.Need-put-bilin-rows-requires
 rows-requires c κs =
     let a = c .before in let n = a .before .before in let t = n .before in let k = t .before in
-    let q = bilin-ready _ _ _ _ _ _ _ _ _ (sym (k .check-bilin .ensures) ∙ t .if1 .taken) in let p = sym (k .before .depth-ok .ensures) ∙ q .0 in
+    let q = bilin-ready _ _ (sym (k .check-bilin .ensures) ∙ t .if1 .taken) in let p = sym (k .before .depth-ok .ensures) ∙ q .0 in
     rw (a .before .up32 .ensures, a .up322 .ensures, n .depth-numbers .ensures) (q .1, depth-bits _ p, depth-max _ p)
 
 pub hv-put-bilin-16bpc-spec : {M : Type 1} → Rattle.blocks.proofs.words.bilinear.hv_put_bilin_16bpc.Statement.statement M
 hv-put-bilin-16bpc-spec = tie.close (tie.spec (λ c κs. search needs) (λ c κs. search needs)  -- depth-ok, check-bilin
-    (λ c κs. let k = c .before in sym (k .before .depth-ok .ensures) ∙ bilin-ready _ _ _ _ _ _ _ _ _ (sym (k .check-bilin .ensures) ∙ c .if1 .taken) .0)
+    (λ c κs. let k = c .before in sym (k .before .depth-ok .ensures) ∙ bilin-ready _ _ (sym (k .check-bilin .ensures) ∙ c .if1 .taken) .0)
     (λ c κs. search needs) (λ c κs. search needs) rows-requires (λ c. search needs) returns  -- above, same-length
     (λ c. (number (c .before), sym (refused _ _ _ (c .if1 .left)))))

@@ -17,12 +17,12 @@ depth : (c : tie.After-depth-numbers) → c .depth-numbers .result ≡ numbersOf
 depth c = c .depth-numbers .ensures ∙ ap (λ (z : ℤ). numbersOf (up z)) (back (entry (c .before .before) .fits .depth))
 
 depth-numbers-requires : tie.Need-depth-numbers-requires
-depth-numbers-requires c κs = rw (back (entry (c .before) .fits .depth)) (avg-ready _ _ _ _ _ _ _ (sym (number (c .before)) ∙ c .if1 .taken) .0)
+depth-numbers-requires c κs = rw (back (entry (c .before) .fits .depth)) (avg-ready (sym (number (c .before)) ∙ c .if1 .taken) .0)
 
 avg-rows-requires : tie.Need-avg-rows-requires
 avg-rows-requires c κs =
     let t = c .before .before in
-    let p = avg-ready _ _ _ _ _ _ _ (sym (number (t .before)) ∙ t .if1 .taken) in
+    let p = avg-ready (sym (number (t .before)) ∙ t .if1 .taken) in
     rw (depth (c .before)) (p .1 .0, p .1 .1, p .1 .2, p .1 .3, depth-bits _ (p .0), depth-bias _ (p .0), depth-max _ (p .0))
 
 returns : tie.Need-returns

@@ -16,5 +16,5 @@ returns-2 c =
 
 pub hv-emu-edge-16bpc-spec : {M : Type 1} → Rattle.blocks.proofs.words.edge.hv_emu_edge_16bpc.Statement.statement M
 hv-emu-edge-16bpc-spec = tie.close (tie.spec (λ c κs. search needs)  -- check-edge-requires
-    (λ c κs. edge-ready _ _ _ _ _ _ _ _ _ _ (sym (c .before .before .check-edge .ensures) ∙ c .before .if1 .taken))  -- edge-rows-requires
+    (λ c κs. edge-ready (sym (c .before .before .check-edge .ensures) ∙ c .before .if1 .taken))  -- edge-rows-requires
     (λ c. search needs) returns returns-2)  -- same-length

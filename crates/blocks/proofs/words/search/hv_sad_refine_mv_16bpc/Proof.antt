@@ -9,7 +9,7 @@ entry c = c .before .before .before .before .before
 refine-requires : tie.Need-refine-requires
 refine-requires c κs =
     let t = c .before in let k = t .before in let z = sym (k .check-sads .ensures) ∙ t .if1 .taken in
-    (refine-ready _ _ _ _ _ _ _ z, rw (c .up32 .ensures) (depth-range _ (sym (k .before .depth-ok .ensures) ∙ sads-ready 8 _ _ _ _ _ _ _ z .3)))
+    (refine-ready _ z, rw (c .up32 .ensures) (depth-range _ (sym (k .before .depth-ok .ensures) ∙ sads-ready 8 z .3)))
 
 returns : tie.Need-returns
 returns c =

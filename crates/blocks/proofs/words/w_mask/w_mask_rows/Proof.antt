@@ -13,7 +13,7 @@ each : (c : tie.Else1) → let k = c .before .before .before in let a = entry k 
     (a .mask .now) (a .form .stride) (a .block .w) (a .block .h) (k .keep-mask .last .0)
 each c =
     let k = c .before .before .before in let p = entry k .pre in
-    each-met (entry k .args .sign) _ _ _ _ _ _ _ _ (p .2) (c .if1 .left) (k .keep-mask .ensures) (p .1 .mask)
+    each-met (entry k .args .sign) _ _ (p .2) (c .if1 .left) (k .keep-mask .ensures) (p .1 .mask)
 
 keep-mask-requires : tie.Need-keep-mask-requires
 keep-mask-requires c κs = let p = c .before .before .before .pre in (p .1, p .2, p .3, record { deep = p .4; bits2 = omega arith; bits4 = omega arith })
