@@ -1,5 +1,5 @@
--- `put_bilin` and `prep_bilin`: the tests of a call, the same for both. dl and sl are the lengths of dst (or tmp) and src; deep is the outcome of the depth's test,
--- true for bytes. Assumes nothing.
+-- `put_bilin` and `prep_bilin`: the tests of a call, the same for both. dl and sl are the lengths of dst (or tmp) and src; deep is the outcome of the depth's
+-- test, true for bytes. Assumes nothing.
 use Prim.Native.Nat.{ℕ}
 use lib.IntN.{ℤ}
 use mathlib.Core.Bool.{Bool}
@@ -28,12 +28,14 @@ bilinTests deep dl dstStride sl srcStride w h mx my =
     ∷ []
 
 -- what `put_bilin` and `prep_bilin` answer, at the depth: the number r, and dst or tmp at the end
-abbrev pub PutBilinAnswer : (deep : Bool) (depth : ℕ) (dst : List ℕ) (dstStride : ℕ) (src : List ℕ) (srcStride w h : ℕ) (mx my : ℤ) → (r : ℕ) (dst′ : List ℕ) → Type 0
+abbrev pub PutBilinAnswer : (deep : Bool) (depth : ℕ) (dst : List ℕ) (dstStride : ℕ) (src : List ℕ) (srcStride w h : ℕ) (mx my : ℤ)
+    → (r : ℕ) (dst′ : List ℕ) → Type 0
 PutBilinAnswer deep depth dst dstStride src srcStride w h mx my r dst′ =
     (r ≡ lowest (bilinTests deep (length dst) dstStride (length src) srcStride w h mx my))
     × (dst′ ≡ orSame r (fill dst dstStride w h (λ i j. putBilin (maxOf depth) (bitsOf depth) (up mx) (up my) (around 0 src 0 srcStride i j))) dst)
 
-abbrev pub PrepBilinAnswer : (deep : Bool) (depth : ℕ) (tmp : List ℤ) (tmpStride : ℕ) (src : List ℕ) (srcStride w h : ℕ) (mx my : ℤ) → (r : ℕ) (tmp′ : List ℤ) → Type 0
+abbrev pub PrepBilinAnswer : (deep : Bool) (depth : ℕ) (tmp : List ℤ) (tmpStride : ℕ) (src : List ℕ) (srcStride w h : ℕ) (mx my : ℤ)
+    → (r : ℕ) (tmp′ : List ℤ) → Type 0
 PrepBilinAnswer deep depth tmp tmpStride src srcStride w h mx my r tmp′ =
     (r ≡ lowest (bilinTests deep (length tmp) tmpStride (length src) srcStride w h mx my))
     × (tmp′ ≡ orSame r (fill tmp tmpStride w h (λ i j. prepBilin (bitsOf depth) (biasOf depth) (up mx) (up my) (around 0 src 0 srcStride i j))) tmp)

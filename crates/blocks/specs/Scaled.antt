@@ -32,9 +32,9 @@ unfoldable pub each : ℕ → (ℕ → Bool) → Bool
 each zero g = true
 each (suc n) g = each n g && g n
 
--- "A place counts as read where the Rust fetches it, also at fraction 0". What is fetched for the column at position p, in n rows from the block's first on. 8-tap:
--- in these, three rows above and four below, the pixel alone where the top four bits of its fraction are 0, otherwise all eight. Bilinear: in these and one row
--- below, the pixel and the next
+-- "A place counts as read where the Rust fetches it, also at fraction 0". What is fetched for the column at position p, in n rows from the block's first on.
+-- 8-tap: in these, three rows above and four below, the pixel alone where the top four bits of its fraction are 0, otherwise all eight. Bilinear: in these
+-- and one row below, the pixel and the next
 unfoldable pub columnRead : (eight : Bool) (sl o s n p : ℕ) → Bool
 columnRead true sl o s n p = reads sl (o + pixelOf p) s 1 n (3 * min (sixteenth p) 1) (4 * min (sixteenth p) 1) 3 4
 columnRead false sl o s n p = reads sl (o + pixelOf p) s 1 n 0 1 0 1

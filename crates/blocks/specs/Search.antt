@@ -36,7 +36,8 @@ SadAnswer deep depth p0 p0Stride p1 p1Stride w h r total =
     × (total ≡ orSame r (pos (sad depth (pixel p0 p0Stride) (pixel p1 p1Stride) w h)) (pos 0))
 
 -- what `sad_refine_mv` answers: the number r and the offset; zeros where refused
-abbrev pub RefineAnswer : (deep : Bool) (depth : ℕ) (p0 : List ℕ) (p0Stride : ℕ) (p1 : List ℕ) (p1Stride w h : ℕ) (isImplicit : Bool) → (r : ℕ) (dx dy : ℤ) → Type 0
+abbrev pub RefineAnswer : (deep : Bool) (depth : ℕ) (p0 : List ℕ) (p0Stride : ℕ) (p1 : List ℕ) (p1Stride w h : ℕ) (isImplicit : Bool)
+    → (r : ℕ) (dx dy : ℤ) → Type 0
 RefineAnswer deep depth p0 p0Stride p1 p1Stride w h isImplicit r dx dy =
     (r ≡ lowest (refineTests deep (length p0) p0Stride (length p1) p1Stride w h))
     × (record { dx = dx; dy = dy } ≡ orSame r (refine depth isImplicit (pixel p0 p0Stride) (pixel p1 p1Stride) w h) centre)

@@ -1,5 +1,5 @@
--- `put_8tap` and `prep_8tap`: the tests of a call, the same for both, and the rule of a block. dl, sl, tl and el are the lengths of dst (or tmp), src, subpel and
--- ext; deep is the outcome of the depth's test, true for bytes. Assumes nothing.
+-- `put_8tap` and `prep_8tap`: the tests of a call, the same for both, and the rule of a block. dl, sl, tl and el are the lengths of dst (or tmp), src, subpel
+-- and ext; deep is the outcome of the depth's test, true for bytes. Assumes nothing.
 use Prim.Native.Nat.{ℕ, _*_, min}
 use lib.Dec.{leb, eqb}
 use lib.IntN.{ℤ, pos, negsuc}
@@ -12,7 +12,8 @@ use Rattle.rows.specs.Depth.{bitsOf, biasOf, maxOf}
 use Rattle.rows.specs.Places.{fill, around}
 use Rattle.rows.specs.Numbers.{up, between}
 use Rattle.rows.specs.Subpel.{axis, filterBits, put8, prep8}
-use Rattle.blocks.specs.Refuse.{Test, size, stride, number, table, read, written, _asks_, lowest, orSame, sizeOk, blockSide, strideOk, holds, reads, wholeFilters}
+use Rattle.blocks.specs.Refuse.{Test, size, stride, number, table, read, written, _asks_, lowest, orSame}
+use Rattle.blocks.specs.Refuse.{sizeOk, blockSide, strideOk, holds, reads, wholeFilters}
 
 -- "Filter type -1 to 2"
 unfoldable pub typeOk : ℤ → Bool
@@ -66,12 +67,18 @@ prep8Rule B P subpel ext mx my filterType w h =
     prep8 B P (filterBits filterType) (axis subpel ext filterType (up mx) w) (axis subpel ext filterType (up my) h)
 
 -- what `put_8tap` and `prep_8tap` answer, at the depth: the number r, and dst or tmp at the end
-abbrev pub Put8Answer : (deep : Bool) (depth : ℕ) (dst : List ℕ) (dstStride : ℕ) (src : List ℕ) (srcOff srcStride w h : ℕ) (mx my filterType : ℤ) (subpel ext : List ℤ) → (r : ℕ) (dst′ : List ℕ) → Type 0
+abbrev pub Put8Answer : (deep : Bool) (depth : ℕ) (dst : List ℕ) (dstStride : ℕ) (src : List ℕ) (srcOff srcStride w h : ℕ)
+    (mx my filterType : ℤ) (subpel ext : List ℤ) → (r : ℕ) (dst′ : List ℕ) → Type 0
 Put8Answer deep depth dst dstStride src srcOff srcStride w h mx my filterType subpel ext r dst′ =
     (r ≡ lowest (subpelTests deep (length dst) dstStride (length src) srcOff srcStride w h mx my filterType (length subpel) (length ext)))
-    × (dst′ ≡ orSame r (fill dst dstStride w h (λ i j. put8Rule (maxOf depth) (bitsOf depth) subpel ext mx my filterType w h (around 3 src srcOff srcStride i j))) dst)
+    × (dst′
+    ≡ orSame r (fill dst dstStride w h (λ i j. put8Rule (maxOf depth) (bitsOf depth) subpel ext mx my filterType w h (around 3 src srcOff srcStride i j))) dst)
 
-abbrev pub Prep8Answer : (deep : Bool) (depth : ℕ) (tmp : List ℤ) (tmpStride : ℕ) (src : List ℕ) (srcOff srcStride w h : ℕ) (mx my filterType : ℤ) (subpel ext : List ℤ) → (r : ℕ) (tmp′ : List ℤ) → Type 0
+abbrev pub Prep8Answer : (deep : Bool) (depth : ℕ) (tmp : List ℤ) (tmpStride : ℕ) (src : List ℕ) (srcOff srcStride w h : ℕ)
+    (mx my filterType : ℤ) (subpel ext : List ℤ) → (r : ℕ) (tmp′ : List ℤ) → Type 0
 Prep8Answer deep depth tmp tmpStride src srcOff srcStride w h mx my filterType subpel ext r tmp′ =
     (r ≡ lowest (subpelTests deep (length tmp) tmpStride (length src) srcOff srcStride w h mx my filterType (length subpel) (length ext)))
-    × (tmp′ ≡ orSame r (fill tmp tmpStride w h (λ i j. prep8Rule (bitsOf depth) (biasOf depth) subpel ext mx my filterType w h (around 3 src srcOff srcStride i j))) tmp)
+    × (tmp′
+    ≡ orSame r
+    (fill tmp tmpStride w h (λ i j. prep8Rule (bitsOf depth) (biasOf depth) subpel ext mx my filterType w h (around 3 src srcOff srcStride i j)))
+    tmp)

@@ -54,7 +54,8 @@ abbrev pub weights : (depth w : ℕ) (tmp1 tmp2 : List ℤ) → ℕ → ℕ → 
 weights depth w tmp1 tmp2 i j = both (weightOf depth (bitsOf depth)) tmp1 tmp2 (j * w) i
 
 -- what `w_mask` answers, at the depth: the number r, and dst and the mask at the end; the pixel is "as in mask"
-abbrev pub WMaskAnswer : (deep : Bool) (depth : ℕ) (dst : List ℕ) (dstStride : ℕ) (tmp1 tmp2 : List ℤ) (w h : ℕ) (mask : List ℕ) (maskStride : ℕ) (sign : ℤ) (ssHor ssVer : Bool) → (r : ℕ) (dst′ mask′ : List ℕ) → Type 0
+abbrev pub WMaskAnswer : (deep : Bool) (depth : ℕ) (dst : List ℕ) (dstStride : ℕ) (tmp1 tmp2 : List ℤ) (w h : ℕ)
+    (mask : List ℕ) (maskStride : ℕ) (sign : ℤ) (ssHor ssVer : Bool) → (r : ℕ) (dst′ mask′ : List ℕ) → Type 0
 WMaskAnswer deep depth dst dstStride tmp1 tmp2 w h mask maskStride sign ssHor ssVer r dst′ mask′ =
     (r ≡ lowest (wMaskTests deep (length dst) dstStride (length tmp1) (length tmp2) w h (length mask) maskStride sign ssHor ssVer))
     × Combined dst dstStride w h tmp1 tmp2 (λ i j. masked (maxOf depth) (bitsOf depth) (biasOf depth) (weights depth w tmp1 tmp2 i j)) r dst′

@@ -1,5 +1,5 @@
--- `warp_affine_8x8` and `warp_affine_8x8t`: the tests of a call, the same for both. dl, sl and tl are the lengths of dst (or tmp), src and warp; deep is the outcome
--- of the depth's test, true for bytes. Assumes nothing.
+-- `warp_affine_8x8` and `warp_affine_8x8t`: the tests of a call, the same for both. dl, sl and tl are the lengths of dst (or tmp), src and warp; deep is the
+-- outcome of the depth's test, true for bytes. Assumes nothing.
 use Prim.Native.Nat.{ℕ, _/_, _^_}
 use lib.IntN.{ℤ}
 use mathlib.Core.Bool.{Bool}
@@ -30,12 +30,14 @@ warpTests deep dl dstStride sl srcStride srcOff a b c d mx my tl =
     ∷ []
 
 -- what `warp_affine_8x8` and `warp_affine_8x8t` answer, at the depth: the number r, and dst or tmp at the end
-abbrev pub WarpAnswer : (deep : Bool) (depth : ℕ) (dst : List ℕ) (dstStride : ℕ) (src : List ℕ) (srcStride srcOff : ℕ) (a b c d mx my : ℤ) (warp : List ℤ) → (r : ℕ) (dst′ : List ℕ) → Type 0
+abbrev pub WarpAnswer : (deep : Bool) (depth : ℕ) (dst : List ℕ) (dstStride : ℕ) (src : List ℕ) (srcStride srcOff : ℕ) (a b c d mx my : ℤ) (warp : List ℤ)
+    → (r : ℕ) (dst′ : List ℕ) → Type 0
 WarpAnswer deep depth dst dstStride src srcStride srcOff a b c d mx my warp r dst′ =
     (r ≡ lowest (warpTests deep (length dst) dstStride (length src) srcStride srcOff a b c d mx my (length warp)))
     × (dst′ ≡ orSame r (fill dst dstStride 8 8 (λ i j. warpPut (maxOf depth) (bitsOf depth) warp mx my a b c d i j (around 3 src srcOff srcStride i j))) dst)
 
-abbrev pub WarpTAnswer : (deep : Bool) (depth : ℕ) (tmp : List ℤ) (tmpStride : ℕ) (src : List ℕ) (srcStride srcOff : ℕ) (a b c d mx my : ℤ) (warp : List ℤ) → (r : ℕ) (tmp′ : List ℤ) → Type 0
+abbrev pub WarpTAnswer : (deep : Bool) (depth : ℕ) (tmp : List ℤ) (tmpStride : ℕ) (src : List ℕ) (srcStride srcOff : ℕ) (a b c d mx my : ℤ) (warp : List ℤ)
+    → (r : ℕ) (tmp′ : List ℤ) → Type 0
 WarpTAnswer deep depth tmp tmpStride src srcStride srcOff a b c d mx my warp r tmp′ =
     (r ≡ lowest (warpTests deep (length tmp) tmpStride (length src) srcStride srcOff a b c d mx my (length warp)))
     × (tmp′ ≡ orSame r (fill tmp tmpStride 8 8 (λ i j. warpPrep (bitsOf depth) (biasOf depth) warp mx my a b c d i j (around 3 src srcOff srcStride i j))) tmp)

@@ -62,7 +62,8 @@ cases =
     -- "C7: S = 30, N = 6: put is 1 horizontally, 0 vertically"
     ∷ is (pos (puts 1 (one-tap 30) whole) ∷ pos (puts 1 whole (one-tap 30)) ∷ []) (pos 1 ∷ pos 0 ∷ [])
     -- "C8: second-pass S = 480, N = 6: put 0; prep 8, which averaged with itself is 1": pixels of 10, first pass 40 >> 2, second pass 48 x 10
-    ∷ is (pos (puts 10 (one-tap 4) (one-tap 48)) ∷ preps 10 (one-tap 4) (one-tap 48) ∷ pos (average 8 (preps 10 (one-tap 4) (one-tap 48))) ∷ []) (pos 0 ∷ pos 8 ∷ pos 1 ∷ [])
+    ∷ is (pos (puts 10 (one-tap 4) (one-tap 48)) ∷ preps 10 (one-tap 4) (one-tap 48) ∷ pos (average 8 (preps 10 (one-tap 4) (one-tap 48))) ∷ [])
+    (pos 0 ∷ pos 8 ∷ pos 1 ∷ [])
     -- "C9: plane rows 1 2 3 / 4 5 6, block 4 x 3 at (-1, 0): 1 1 2 3 / 4 4 5 6 / 4 4 5 6"
     ∷ is (map pos (fill (replicate 12 0) 4 4 3 (edge (1 ∷ 2 ∷ 3 ∷ 4 ∷ 5 ∷ 6 ∷ []) 3 3 2 (negsuc 0) (pos 0))))
     (map pos (1 ∷ 1 ∷ 2 ∷ 3 ∷ 4 ∷ 4 ∷ 5 ∷ 6 ∷ 4 ∷ 4 ∷ 5 ∷ 6 ∷ []))

@@ -1,4 +1,5 @@
-// The first pass of bilinear from a reference of another size: eight columns at a time, since bytes are weighed in sixteen bits. Each set writes this file by hand.
+// The first pass of bilinear from a reference of another size: eight columns at a time, since bytes are weighed in sixteen bits.
+// Each set writes this file by hand.
 ghost use mathlib.Core.Path.{_≡_};
 ghost use Prim.Native.Nat.{_+_, _-_, _/_, _%_, _<_, _≤_};
 ghost use lib.ListN.{length, getD};

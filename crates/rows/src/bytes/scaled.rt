@@ -42,7 +42,8 @@ pub fn scaled_row(
     by: Columns,
     bits: u32,
 )
-    requires { ⌜ (length (now rows) ≡ 512) × (q + w ≤ 512) × (w ≤ 64) × (length (now table) ≡ 600) × (family ≤ 4) × Steps (by .start) (by .step) × BitsOk bits ⌝ }
+    requires { ⌜ (length (now rows) ≡ 512) × (q + w ≤ 512) × (w ≤ 64) × (length (now table) ≡ 600) × (family ≤ 4)
+        × Steps (by .start) (by .step) × BitsOk bits ⌝ }
     requires { ⌜ ((i : ℕ) → i < w → Fetched (length (now src)) o (position (by .start) (by .step) i)) ⌝ }
     ensures { λ _. ⌜ now (rows .exit) ≡ splice (now (rows .entry)) q (q + w) (rowOf w
         (λ i. scaledMid bits (inFamily (now (table .entry)) family (sixteenth (position (by .start) (by .step) i)))
