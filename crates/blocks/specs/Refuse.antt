@@ -35,6 +35,17 @@ numberOf written = 6
 numberOf above64 = 7
 numberOf matrix = 8
 
+-- and their ranks, by which the tests of an entry stand: so far their numbers
+abbrev pub rankOf : Reason → ℕ
+rankOf size = 1
+rankOf stride = 2
+rankOf number = 3
+rankOf table = 4
+rankOf read = 5
+rankOf written = 6
+rankOf above64 = 7
+rankOf matrix = 8
+
 -- what a call must meet, and the reason to refuse it if it doesn't
 pub record Test : Type 0 where
   pub reason : Reason
@@ -48,8 +59,8 @@ unfoldable pub need : Bool → ℕ → ℕ → ℕ
 need true n rest = rest
 need false n rest = n
 
--- "The lowest number that applies is given. 0 is done." The first test that isn't met gives it, since an entry's tests stand in the order of their
--- numbers (proved of each: Laws/Calls/InOrder)
+-- "The lowest number that applies is given. 0 is done." The first test that isn't met gives it: an entry's tests stand in the order of their
+-- ranks (proved of each: Laws/Calls/InOrder), so it is the lowest that applies (Laws/Calls/Lowest)
 abbrev pub lowest : List Test → ℕ
 lowest [] = 0
 lowest (t ∷ ts) = need (t .meets) (numberOf (t .reason)) (lowest ts)
@@ -60,10 +71,10 @@ module _ {A : Type 0} where
   orSame zero new old = new
   orSame (suc n) new old = old
 
--- the tests stand in the order of their numbers, from n on
+-- the tests stand in the order of their ranks, from n on
 unfoldable pub inOrder : ℕ → List Test → Bool
 inOrder n [] = true
-inOrder n (t ∷ ts) = leb n (numberOf (t .reason)) && inOrder (numberOf (t .reason)) ts
+inOrder n (t ∷ ts) = leb n (rankOf (t .reason)) && inOrder (rankOf (t .reason)) ts
 
 -- ---- the tests that entries share
 

@@ -4,14 +4,17 @@ use mathlib.Core.Path.{_≡_, refl, sym, subst, _∙_}
 use mathlib.Core.Bool.{Bool, true, false, true≢false}
 use mathlib.Core.List.{List, [], _∷_}
 use mathlib.Core.Logic.{_⊎_, _↔_, inl, inr, ⊎-elim}
-use Prim.Native.Nat.{ℕ, _≤_}
+use Prim.Native.Nat.{ℕ, zero, suc, _≤_}
 use native.Mathlib.Omega.{arith}
 use borrow.Author.Tests.{leb-true}
 use lib.Dec.{leb}
 use lib.IntN.{ℤ}
+use lib.ListN.{length}
 use Rattle.rows.proofs.Laws.Blocks.Fill.{and-true}
 use Rattle.blocks.proofs.Laws.Calls.Refuse.{Met, all-met, met-all}
-use Rattle.blocks.specs.Refuse.{Reason, size, stride, number, table, read, written, above64, matrix, numberOf, Test, _asks_, need, lowest, inOrder}
+use Rattle.blocks.proofs.Laws.Window.Ready.{window-number}
+use Rattle.blocks.specs.Refuse.{Reason, size, stride, number, table, read, written, above64, matrix, numberOf, rankOf}
+use Rattle.blocks.specs.Refuse.{Test, _asks_, need, lowest, inOrder, orSame}
 use Rattle.blocks.specs.Copy.{putTests, prepTests}
 use Rattle.blocks.specs.Combine.{combineTests}
 use Rattle.blocks.specs.Blend.{blendTests, morphTests}
@@ -22,14 +25,12 @@ use Rattle.blocks.specs.Scaled.{scaledTests}
 use Rattle.blocks.specs.WMask.{wMaskTests}
 use Rattle.blocks.specs.Search.{sadsTests}
 use Rattle.blocks.specs.Warp.{warpTests}
-use Rattle.blocks.specs.Shear.{divisorTests, shearTests, affineMvTests}
-use Rattle.blocks.specs.Window.{LentPlane, Asked, windowTests, rowTests}
+use Rattle.blocks.specs.Shear.{divisorTests, shearTests, affineMvTests, divisorOf}
+use Rattle.blocks.specs.Window.{LentPlane, Asked, windowTests, windowOf, rowTests, rowAt}
 use Rattle.blocks.specs.Order.{Setting, orderTests}
 use Rattle.blocks.specs.declared.order.Order.{Order}
-
--- a reason's place in the order of the tests: its number
-abbrev pub rankOf : Reason → ℕ
-rankOf r = numberOf r
+use Rattle.blocks.specs.declared.shear.Divisor.{Divisor}
+use Rattle.blocks.specs.declared.window.Part.{Part}
 
 -- a test for the reason isn't met
 abbrev pub Fails : Reason → List Test → Type 0
@@ -228,3 +229,23 @@ row-lowest p row = gives-lowest _ refl
 order-lowest : (s : Setting) (named : Bool) (o : Order) (sl dl dstStride : ℕ) → GivesLowest (orderTests s named o sl dl dstStride)
 unfolding inOrder
 order-lowest s named o sl dl dstStride = gives-lowest _ refl
+
+-- ---- three entries answer with a record that has the number, as their contracts say: it is that of their tests
+module _ {A : Type 0} where
+  number-same : (numberIn : A → ℕ) (n : ℕ) (new old : A) → (n ≡ 0 → numberIn new ≡ n) → numberIn old ≡ n → numberIn (orSame n new old) ≡ n
+  unfolding orSame
+  number-same numberIn zero new old e f = e refl
+  number-same numberIn (suc n) new old e f = f
+
+window-given : (p : LentPlane) (q : Asked) (sl : ℕ) → IsLowest (windowOf p q sl .number) (windowTests p q sl)
+window-given p q sl = window-lowest p q sl (windowOf p q sl .number) (window-number p q sl)
+
+row-given : (p : LentPlane) (row : ℤ) → IsLowest (rowAt p row .number) (rowTests p row)
+unfolding rowAt
+row-given p row = row-lowest p row (rowAt p row .number) (number-same (λ (v : Part). v .number) (lowest (rowTests p row)) _ _ sym refl)
+
+divisor-given : (d : ℕ) (recip : List ℕ) → IsLowest (divisorOf d recip .number) (divisorTests d (length recip))
+unfolding divisorOf
+divisor-given d recip =
+    let n = lowest (divisorTests d (length recip)) in
+    divisor-lowest d (length recip) (divisorOf d recip .number) (number-same (λ (v : Divisor). v .number) n _ _ (λ e. refl) refl)
