@@ -6,3 +6,4 @@ pub mod Limits
 pub mod Answer
 pub mod Ready
 pub mod Told
+pub mod Places

@@ -4,3 +4,4 @@ pub mod Ready
 pub mod Lines
 pub mod Cases
 pub mod Answers
+pub mod Places
