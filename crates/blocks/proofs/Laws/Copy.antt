@@ -1,3 +1,4 @@
 -- put and prep.
 pub mod Ready
 pub mod Answers
+pub mod Places

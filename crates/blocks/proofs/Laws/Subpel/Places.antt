@@ -78,7 +78,8 @@ module _ (q p : ℕ → ℕ → ℕ) where
       ap (λ (v : ℤ). minus16 (low16 v) (pos P)) (tapped-same g _ N _ _ λ b k. ap low16 (tapped-same f _ (N - B) _ _ λ a l. ap pos (e a b l k)))
 
 -- so an accepted call's pixel is the rule on what stands at these places, whatever d stands outside of the source
-module _ (src : List ℕ) (o s w h : ℕ) (mx my type : ℤ) (subpel ext : List ℤ) (all : AllInside (length src) o s w h mx my) (d i j : ℕ) (p : i < w) (q : j < h) where
+module _ (src : List ℕ) (o s w h : ℕ) (mx my : ℤ) (all : AllInside (length src) o s w h mx my)
+    (type : ℤ) (subpel ext : List ℤ) (d i j : ℕ) (p : i < w) (q : j < h) where
   same : Agree (around 3 src o s i j) (λ a b. standing d src (tapAt 3 o s i j a b)) (axis subpel ext type (up mx) w) (axis subpel ext type (up my) h)
   same a b u v = around-stands 3 o s i j a b d src (all i j a b p q (axis-taps subpel ext type (up mx) w a u) (axis-taps subpel ext type (up my) h b v))
 
