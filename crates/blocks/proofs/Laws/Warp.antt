@@ -4,3 +4,4 @@ pub mod Ready
 pub mod Passes
 pub mod Answers
 pub mod Shears
+pub mod Places

@@ -17,7 +17,7 @@ every-at (suc n) p e k h =
     let l : k ≤ n = omega arith in
     ⊎-elim (λ i. rw i (q .1)) (every-at n p (q .0) k) (N.eq-or-lt-of-le l)
 
-all-every : (n : ℕ) (p : ℕ → Bool) → ((k : ℕ) → k < n → p k ≡ true) → every n p ≡ true
+pub all-every : (n : ℕ) (p : ℕ → Bool) → ((k : ℕ) → k < n → p k ≡ true) → every n p ≡ true
 unfolding every
 all-every zero p f = refl
 all-every (suc n) p f = rw (all-every n p (λ k h. f k (omega arith)), f n (omega arith))
