@@ -1,3 +1,4 @@
 -- emu_edge.
 pub mod Ready
 pub mod Answers
+pub mod Places

@@ -3,3 +3,4 @@ pub mod Kinds
 pub mod Ready
 pub mod Run
 pub mod Answers
+pub mod Places

@@ -4,3 +4,4 @@ pub mod Holds
 pub mod Rows
 pub mod Answers
 pub mod OddPictures
+pub mod Places

@@ -86,8 +86,10 @@ module _ (n : ℕ) (mx my a b c d : ℤ) where
   pub filters-there : FiltersInside n mx my a b c d → allThere n mx my a b c d ≡ true
   unfolding allThere
   filters-there f =
-      let p = all-every 15 (λ r. every 8 (λ i. isThere n (filterNo mx a b r i))) (λ r u. all-every 8 _ (λ i v. in-there n (filterNo mx a b r i) (f .0 r i u v))) in
-      let q = all-every 8 (λ r. every 8 (λ i. isThere n (filterNo my c d r i))) (λ r u. all-every 8 _ (λ i v. in-there n (filterNo my c d r i) (f .1 r i u v))) in
+      let p = all-every 15 (λ r. every 8 (λ i. isThere n (filterNo mx a b r i)))
+      (λ r u. all-every 8 _ (λ i v. in-there n (filterNo mx a b r i) (f .0 r i u v))) in
+      let q = all-every 8 (λ r. every 8 (λ i. isThere n (filterNo my c d r i)))
+      (λ r u. all-every 8 _ (λ i v. in-there n (filterNo my c d r i) (f .1 r i u v))) in
       rw (p, q) refl
 
 -- number 4 asks this, and that the table's filters are whole
