@@ -6,4 +6,5 @@ pub mod Limits
 pub mod Answer
 pub mod Ready
 pub mod Told
+pub mod Given
 pub mod Places

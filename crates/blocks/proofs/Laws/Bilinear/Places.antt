@@ -17,7 +17,8 @@ use Rattle.rows.proofs.Laws.Blocks.Fill.{and-true}
 use Rattle.blocks.specs.Refuse.{reads}
 use Rattle.blocks.specs.Subpel.{on}
 use Rattle.blocks.specs.Bilinear.{bilinTests}
-use Rattle.blocks.proofs.Laws.Calls.Places.{met, InBuffer, standing, tapAt, around-stands, reads-range, range-reads}
+use Rattle.blocks.proofs.Laws.Calls.Given.{met}
+use Rattle.blocks.proofs.Laws.Calls.Places.{InBuffer, standing, tapAt, around-stands, reads-range, range-reads}
 
 -- 0 is the pixel itself, 1 the next
 abbrev pub PairRead : (fraction t : ℕ) → Type 0
@@ -81,7 +82,7 @@ module _ (q p : ℕ → ℕ → ℕ) where
   prep-pairs B P (suc f) (suc g) e = ap (λ (v : ℤ). minus16 (low16 (R 4 v)) (pos P)) (both-pairs B f g e)
 
 -- so an accepted call's pixel is the rule on what stands at these places, whatever d stands outside of the source
-module _ (src : List ℕ) (s w h : ℕ) (mx my : ℤ) (all : AllInside (length src) s w h mx my) (d i j : ℕ) (p : i < w) (q : j < h) where
+module _ (src : List ℕ) (s w h : ℕ) (mx my : ℤ) (all : AllInside (length src) s w h mx my) (d : ℤ → ℕ) (i j : ℕ) (p : i < w) (q : j < h) where
   same : Agree (around 0 src 0 s i j) (λ a b. standing d src (tapAt 0 0 s i j a b)) (up mx) (up my)
   same a b u v = around-stands 0 0 s i j a b d src (all i j a b p q u v)
 

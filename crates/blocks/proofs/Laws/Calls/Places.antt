@@ -1,47 +1,20 @@
 -- Refusal number 5, as it is told of every kernel: the places that a rule reads are whole numbers, below 0 too, and each is held against the buffer's length.
--- What stands outside of a buffer may be any d: a rule that read there would show it. Assumes nothing.
-use mathlib.Core.Path.{_≡_, refl, sym, ap, _∙_}
-use mathlib.Core.Bool.{Bool, true, false, cond, _&&_}
+-- What stands at a place z outside of a buffer may be any d z: a rule that read there would show it. Assumes nothing.
+use mathlib.Core.Path.{_≡_, refl, ap, _∙_}
+use mathlib.Core.Bool.{true}
 use mathlib.Core.List.{List, [], _∷_}
 use Prim.Native.Nat.{ℕ, zero, suc, _+_, _-_, _*_, _≤_, _<_}
 use native.Mathlib.Nat.{add-mul, mul-le-mul-right, le-of-suc-le-suc, not-suc-le-zero}
 use native.Mathlib.Omega.{arith}
-use borrow.Author.Tests.{le-leb, eq-eqb}
-use lib.Dec.{leb, eqb}
+use borrow.Author.Tests.{le-leb}
+use lib.Dec.{leb}
 use lib.IntN.{ℤ, pos, negsuc, _+ℤ_, _-ℤ_, _*ℤ_}
 use lib.ListN.{length, getD}
 use Rattle.rows.specs.Numbers.{up, dn}
 use Rattle.rows.specs.Places.{around}
 use Rattle.rows.proofs.Laws.Numbers.Signed.{add-parts, sub-parts, mul-up, mul-dn, one-part}
-use Rattle.blocks.specs.Refuse.{Test, numberOf, need, lowest, holds, reads}
-use Rattle.blocks.proofs.Laws.Calls.Refuse.{all-met, met-all, holds-met, reads-met, met-reads}
-
--- ---- of a call's tests, those of number n are met
-abbrev pub met : ℕ → List Test → Bool
-met n [] = true
-met n (t ∷ ts) = cond (eqb (numberOf (t .reason)) n) (t .meets && met n ts) (met n ts)
-
--- 0 is given only where they are
-pub done-met : (n : ℕ) (ts : List Test) → lowest ts ≡ 0 → met n ts ≡ true
-done-met n [] e = refl
-done-met n (t ∷ ts) e = let m = all-met (t ∷ ts) e in go (eqb (numberOf (t .reason)) n) (m .0) (done-met n ts (met-all ts (m .1))) where
-  go : (c : Bool) → t .meets ≡ true → met n ts ≡ true → cond c (t .meets && met n ts) (met n ts) ≡ true
-  go true a b = rw (a, b) refl
-  go false a b = b
-
--- and n is given only where one of them isn't
-pub given-unmet : (n : ℕ) (ts : List Test) → 1 ≤ n → lowest ts ≡ n → met n ts ≡ false
-unfolding need
-given-unmet n [] h e = absurd (omega arith)
-given-unmet n (t ∷ ts) h e = go (t .meets) e (given-unmet n ts h) where
-  either : (c : Bool) → cond c false false ≡ false
-  either true = refl
-  either false = refl
-
-  go : (b : Bool) → need b (numberOf (t .reason)) (lowest ts) ≡ n → (lowest ts ≡ n → met n ts ≡ false)
-      → cond (eqb (numberOf (t .reason)) n) (b && met n ts) (met n ts) ≡ false
-  go true e k = rw (k e) (either (eqb (numberOf (t .reason)) n))
-  go false e k = rw (eq-eqb (numberOf (t .reason)) n e) refl
+use Rattle.blocks.specs.Refuse.{holds, reads}
+use Rattle.blocks.proofs.Laws.Calls.Refuse.{holds-met, reads-met, met-reads}
 
 -- ---- places
 -- column x of row y, counted from the pixel at place o
@@ -53,10 +26,10 @@ abbrev pub InBuffer : (l : ℕ) → ℤ → Type 0
 InBuffer l (pos k) = k < l
 InBuffer l (negsuc k) = ⊥
 
--- what stands there, and d outside of the buffer
-abbrev pub standing : {A : Type 0} → (d : A) → List A → ℤ → A
-standing d l (pos k) = getD l k d
-standing d l (negsuc k) = d
+-- what stands at z, and d z outside of the buffer
+abbrev pub standing : (d : ℤ → ℕ) → List ℕ → ℤ → ℕ
+standing d l (pos k) = getD l k (d (pos k))
+standing d l (negsuc k) = d (negsuc k)
 
 -- inside, it is the same whatever stands outside
 module _ {A : Type 0} where
@@ -110,11 +83,11 @@ module _ (m o s i j a b : ℕ) where
       omega (arith, balance)
 
   -- `around` reads that place and no other: it neither stops at 0 nor makes anything up behind the end
-  pub around-stands : (d : ℕ) (src : List ℕ) → InBuffer (length src) (tapAt m o s i j a b) → around m src o s i j a b ≡ standing d src (tapAt m o s i j a b)
+  pub around-stands : (d : ℤ → ℕ) (src : List ℕ) → InBuffer (length src) (tapAt m o s i j a b) → around m src o s i j a b ≡ standing d src (tapAt m o s i j a b)
   unfolding around
   around-stands d src h = go (tapAt m o s i j a b) h (omega (arith, balance, of-in (length src) (tapAt m o s i j a b) h)) where
     go : (z : ℤ) → InBuffer (length src) z → lifted o s i j a b - (m * s + m) ≡ up z → getD src (lifted o s i j a b - (m * s + m)) 0 ≡ standing d src z
-    go (pos k) h e = ap (λ (n : ℕ). getD src n 0) e ∙ inside-any src k 0 d h
+    go (pos k) h e = ap (λ (n : ℕ). getD src n 0) e ∙ inside-any src k 0 (d (pos k)) h
     go (negsuc k) h e = absurd h
 
 -- ---- a filtered source: from b columns left and c rows above each pixel of the block to b′ columns right and c′ rows below

@@ -11,7 +11,8 @@ use Rattle.rows.specs.Combine.{masked, both}
 use Rattle.rows.proofs.Laws.Blocks.Fill.{and-true}
 use Rattle.blocks.specs.Refuse.{holdsAll}
 use Rattle.blocks.specs.Combine.{combineTests, avgTests, wAvgTests, maskTests}
-use Rattle.blocks.proofs.Laws.Calls.Places.{met, AllHeld, holds-all, all-holds, inside-any}
+use Rattle.blocks.proofs.Laws.Calls.Given.{met}
+use Rattle.blocks.proofs.Laws.Calls.Places.{AllHeld, holds-all, all-holds, inside-any}
 
 -- w x h without gaps
 abbrev pub AllOf : (l w h : ℕ) → Type 0
@@ -51,14 +52,14 @@ module _ (deep : Bool) (dl ds l1 l2 w h : ℕ) where
       let e : holdsAll ml w h && true ≡ true = rw (all-holds ml w w h w1 h1 k) refl in
       inside-two l1 l2 w h (holdsAll ml w h && true) w1 h1 f g e
 
--- ---- whatever stands outside: d of an intermediate, n of the mask. Any rule of two intermediates, so avg's, w_avg's and w_mask's too
-module _ {A : Type 0} (rule : ℤ → ℤ → A) (tmp1 tmp2 : List ℤ) (w h : ℕ) (f : AllOf (length tmp1) w h) (g : AllOf (length tmp2) w h) (d : ℤ) where
-  pub both-stand : (i j : ℕ) → i < w → j < h → both rule tmp1 tmp2 (j * w) i ≡ rule (getD tmp1 (j * w + i) d) (getD tmp2 (j * w + i) d)
-  both-stand i j p q = ap₂ rule (inside-any tmp1 (j * w + i) (pos 0) d (f i j p q)) (inside-any tmp2 (j * w + i) (pos 0) d (g i j p q))
+-- ---- whatever stands outside: d₁ and d₂ of the intermediates, n of the mask. Any rule of two intermediates, so avg's, w_avg's and w_mask's too
+module _ {A : Type 0} (rule : ℤ → ℤ → A) (tmp1 tmp2 : List ℤ) (w h : ℕ) (f : AllOf (length tmp1) w h) (g : AllOf (length tmp2) w h) where
+  pub both-stand : (d₁ d₂ : ℤ) (i j : ℕ) → i < w → j < h → both rule tmp1 tmp2 (j * w) i ≡ rule (getD tmp1 (j * w + i) d₁) (getD tmp2 (j * w + i) d₂)
+  both-stand d₁ d₂ i j p q = ap₂ rule (inside-any tmp1 (j * w + i) (pos 0) d₁ (f i j p q)) (inside-any tmp2 (j * w + i) (pos 0) d₂ (g i j p q))
 
 module _ (tmp1 tmp2 : List ℤ) (mask : List ℕ) (w h : ℕ) (f : AllOf (length tmp1) w h) (g : AllOf (length tmp2) w h) (k : AllOf (length mask) w h) where
-  pub mask-stands : (M B P : ℕ) (d : ℤ) (n i j : ℕ) → i < w → j < h → both (masked M B P (pixel mask w i j)) tmp1 tmp2 (j * w) i
-      ≡ masked M B P (getD mask (j * w + i) n) (getD tmp1 (j * w + i) d) (getD tmp2 (j * w + i) d)
-  mask-stands M B P d n i j p q =
-      both-stand (masked M B P (pixel mask w i j)) tmp1 tmp2 w h f g d i j p q
+  pub mask-stands : (M B P : ℕ) (d₁ d₂ : ℤ) (n i j : ℕ) → i < w → j < h → both (masked M B P (pixel mask w i j)) tmp1 tmp2 (j * w) i
+      ≡ masked M B P (getD mask (j * w + i) n) (getD tmp1 (j * w + i) d₁) (getD tmp2 (j * w + i) d₂)
+  mask-stands M B P d₁ d₂ n i j p q =
+      both-stand (masked M B P (pixel mask w i j)) tmp1 tmp2 w h f g d₁ d₂ i j p q
       ∙ rw (inside-any mask (j * w + i) 0 n (k i j p q)) refl

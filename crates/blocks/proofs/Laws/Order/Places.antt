@@ -8,7 +8,7 @@ use Rattle.blocks.specs.Refuse.{holds}
 use Rattle.blocks.specs.Window.{lentW, lentH}
 use Rattle.blocks.specs.Order.{Setting, orderTests}
 use Rattle.blocks.specs.declared.order.Order.{Order}
-use Rattle.blocks.proofs.Laws.Calls.Places.{met}
+use Rattle.blocks.proofs.Laws.Calls.Given.{met}
 use Rattle.blocks.proofs.Laws.Window.Places.{PlaneHeld, plane-inside, inside-plane}
 
 module _ (s : Setting) (named : Bool) (o : Order) (sl dl ds : ℕ) where

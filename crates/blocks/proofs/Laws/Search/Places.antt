@@ -14,7 +14,8 @@ use Rattle.rows.specs.Search.{rowApart, sad, moved, sadAt, Offset, Best, none, 
 use Rattle.rows.proofs.Laws.Blocks.Fill.{and-true}
 use Rattle.blocks.specs.Refuse.{holds}
 use Rattle.blocks.specs.Search.{sadsTests, sadTests, refineTests}
-use Rattle.blocks.proofs.Laws.Calls.Places.{met, AllHeld, holds-all, all-holds, inside-any}
+use Rattle.blocks.proofs.Laws.Calls.Given.{met}
+use Rattle.blocks.proofs.Laws.Calls.Places.{AllHeld, holds-all, all-holds, inside-any}
 use Rattle.blocks.proofs.Laws.Search.Ready.{ahead-start, behind-start}
 
 module _ (m : ℕ) (deep : Bool) (l0 s0 l1 s1 w h : ℕ) where
@@ -69,9 +70,13 @@ module _ (p p′ q q′ : ℕ → ℕ → ℕ) (w h : ℕ) (e : Agree (w + 8) (h
   at-same : (o : Offset) → Near o → sadAt depth p q w h o ≡ sadAt depth p′ q′ w h o
   unfolding sadAt
   at-same o n =
+      let right = ahead-start (o .dx) (n .0) .to4 in
+      let down = ahead-start (o .dy) (n .1) .to4 in
+      let left = behind-start (o .dx) (n .0) .to4 in
+      let above = behind-start (o .dy) (n .1) .to4 in
       sad-same depth _ _ _ _ (w + 4) (h + 4)
-      (λ i j a b. e (up (pos 2 +ℤ o .dx) + i) (up (pos 2 +ℤ o .dy) + j) (omega (arith, ahead-start (o .dx) (n .0) .to4)) (omega (arith, ahead-start (o .dy) (n .1) .to4)))
-      (λ i j a b. f (up (pos 2 -ℤ o .dx) + i) (up (pos 2 -ℤ o .dy) + j) (omega (arith, behind-start (o .dx) (n .0) .to4)) (omega (arith, behind-start (o .dy) (n .1) .to4)))
+      (λ i j a b. e (up (pos 2 +ℤ o .dx) + i) (up (pos 2 +ℤ o .dy) + j) (omega (arith, right)) (omega (arith, down)))
+      (λ i j a b. f (up (pos 2 -ℤ o .dx) + i) (up (pos 2 -ℤ o .dy) + j) (omega (arith, left)) (omega (arith, above)))
 
 abbrev AllNear : List ℤ → Type 0
 AllNear [] = Unit {0}
@@ -97,24 +102,24 @@ module _ (s t : Offset → ℕ) (same : (o : Offset) → Near o → s o ≡ t o)
   unfolding search
   search-same b = through-same steps _ _ b steps-near λ dy m c. through-same steps _ _ c steps-near λ dx n a. visit-same dy dx m n a
 
--- ---- whatever d stands outside of the buffers
-abbrev pub pixelOr : (d : ℕ) → List ℕ → (s i j : ℕ) → ℕ
-pixelOr d l s i j = getD l (j * s + i) d
+-- ---- whatever stands outside of the buffers: d k at place k of the one, e k of the other
+abbrev pub pixelOr : (d : ℕ → ℕ) → List ℕ → (s i j : ℕ) → ℕ
+pixelOr d l s i j = getD l (j * s + i) (d (j * s + i))
 
-module _ (d : ℕ) (p : List ℕ) (s : ℕ) (q : List ℕ) (s′ w h : ℕ) where
+module _ (d e : ℕ → ℕ) (p : List ℕ) (s : ℕ) (q : List ℕ) (s′ w h : ℕ) where
   pub sad-stands : (depth : ℕ) → AllHeld (length p) s w h → AllHeld (length q) s′ w h
-      → sad depth (pixel p s) (pixel q s′) w h ≡ sad depth (pixelOr d p s) (pixelOr d q s′) w h
+      → sad depth (pixel p s) (pixel q s′) w h ≡ sad depth (pixelOr d p s) (pixelOr e q s′) w h
   sad-stands depth f g =
-      sad-same depth _ _ _ _ w h (λ i j a b. inside-any p (j * s + i) 0 d (f i j a b)) (λ i j a b. inside-any q (j * s′ + i) 0 d (g i j a b))
+      sad-same depth _ _ _ _ w h (λ i j a b. inside-any p (j * s + i) 0 (d (j * s + i)) (f i j a b)) (λ i j a b. inside-any q (j * s′ + i) 0 (e (j * s′ + i)) (g i j a b))
 
   pub refine-stands : (depth : ℕ) (isImplicit : Bool) → AllHeld (length p) s (w + 8) (h + 8) → AllHeld (length q) s′ (w + 8) (h + 8)
-      → refine depth isImplicit (pixel p s) (pixel q s′) w h ≡ refine depth isImplicit (pixelOr d p s) (pixelOr d q s′) w h
+      → refine depth isImplicit (pixel p s) (pixel q s′) w h ≡ refine depth isImplicit (pixelOr d p s) (pixelOr e q s′) w h
   unfolding refine
   refine-stands depth isImplicit f g = go isImplicit where
-    each : (o : Offset) → Near o → sadAt depth (pixel p s) (pixel q s′) w h o ≡ sadAt depth (pixelOr d p s) (pixelOr d q s′) w h o
-    each = at-same _ _ _ _ w h (λ i j a b. inside-any p (j * s + i) 0 d (f i j a b)) (λ i j a b. inside-any q (j * s′ + i) 0 d (g i j a b)) depth
+    each : (o : Offset) → Near o → sadAt depth (pixel p s) (pixel q s′) w h o ≡ sadAt depth (pixelOr d p s) (pixelOr e q s′) w h o
+    each = at-same _ _ _ _ w h (λ i j a b. inside-any p (j * s + i) 0 (d (j * s + i)) (f i j a b)) (λ i j a b. inside-any q (j * s′ + i) 0 (e (j * s′ + i)) (g i j a b)) depth
 
-    go : (b : Bool) → refine depth b (pixel p s) (pixel q s′) w h ≡ refine depth b (pixelOr d p s) (pixelOr d q s′) w h
+    go : (b : Bool) → refine depth b (pixel p s) (pixel q s′) w h ≡ refine depth b (pixelOr d p s) (pixelOr e q s′) w h
     go false = ap answer (search-same _ _ each none)
     go true =
         ap₂ (λ (k : ℕ) (a : Best → Best). pick (ltb ((7 * k + 7) / 2 ^ 3) (2 * (w + 4) * (h + 4))) centre (answer (a (best ((7 * k + 7) / 2 ^ 3) centre))))

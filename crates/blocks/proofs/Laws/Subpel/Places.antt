@@ -17,7 +17,8 @@ use Rattle.rows.proofs.Laws.Blocks.Fill.{and-true}
 use Rattle.rows.proofs.Laws.Filters.Taps.{tapped-same}
 use Rattle.blocks.specs.Refuse.{reads}
 use Rattle.blocks.specs.Subpel.{on, subpelTests, put8Rule, prep8Rule}
-use Rattle.blocks.proofs.Laws.Calls.Places.{met, InBuffer, standing, tapAt, around-stands, reads-range, range-reads}
+use Rattle.blocks.proofs.Laws.Calls.Given.{met}
+use Rattle.blocks.proofs.Laws.Calls.Places.{InBuffer, standing, tapAt, around-stands, reads-range, range-reads}
 
 -- tap t stands at t - 3: the pixel itself is read, and all eight, -3 to 4, where the fraction isn't 0
 abbrev pub TapRead : (fraction : ℕ) (t : ℕ) → Type 0
@@ -79,7 +80,7 @@ module _ (q p : ℕ → ℕ → ℕ) where
 
 -- so an accepted call's pixel is the rule on what stands at these places, whatever d stands outside of the source
 module _ (src : List ℕ) (o s w h : ℕ) (mx my : ℤ) (all : AllInside (length src) o s w h mx my)
-    (type : ℤ) (subpel ext : List ℤ) (d i j : ℕ) (p : i < w) (q : j < h) where
+    (type : ℤ) (subpel ext : List ℤ) (d : ℤ → ℕ) (i j : ℕ) (p : i < w) (q : j < h) where
   same : Agree (around 3 src o s i j) (λ a b. standing d src (tapAt 3 o s i j a b)) (axis subpel ext type (up mx) w) (axis subpel ext type (up my) h)
   same a b u v = around-stands 3 o s i j a b d src (all i j a b p q (axis-taps subpel ext type (up mx) w a u) (axis-taps subpel ext type (up my) h b v))
 

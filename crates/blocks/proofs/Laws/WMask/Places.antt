@@ -5,7 +5,7 @@ use mathlib.Core.Bool.{Bool, true}
 use Prim.Native.Nat.{ℕ, _≤_}
 use lib.IntN.{ℤ}
 use Rattle.blocks.specs.WMask.{wMaskTests}
-use Rattle.blocks.proofs.Laws.Calls.Places.{met}
+use Rattle.blocks.proofs.Laws.Calls.Given.{met}
 use Rattle.blocks.proofs.Laws.Combine.Places.{AllOf, two-inside, inside-two}
 
 module _ (deep : Bool) (dl ds l1 l2 w h ml ms : ℕ) (sign : ℤ) (ssHor ssVer : Bool) where

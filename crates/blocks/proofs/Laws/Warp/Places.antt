@@ -15,7 +15,8 @@ use Rattle.rows.proofs.Laws.Blocks.Fill.{and-true}
 use Rattle.rows.proofs.Laws.Cut.Local.{Agree, warpPut-local, warpPrep-local}
 use Rattle.blocks.specs.Refuse.{reads, wholeFilters}
 use Rattle.blocks.specs.Warp.{warpTests}
-use Rattle.blocks.proofs.Laws.Calls.Places.{met, placeOf, InBuffer, standing, tapAt, around-stands, reads-range, range-reads}
+use Rattle.blocks.proofs.Laws.Calls.Given.{met}
+use Rattle.blocks.proofs.Laws.Calls.Places.{placeOf, InBuffer, standing, tapAt, around-stands, reads-range, range-reads}
 use Rattle.blocks.proofs.Laws.Warp.Corners.{every-at, all-every}
 
 -- ---- the source: column x - 3 and row y - 3 from the block's first pixel, which is at place o
@@ -46,7 +47,7 @@ module _ (deep : Bool) (dl ds sl s o : ℕ) (a b c d mx my : ℤ) (tl : ℕ) whe
       rw e refl
 
 -- so an accepted call's pixel is the rule on what stands at these places, whatever d₀ stands outside of the source
-module _ (src : List ℕ) (o s : ℕ) (all : TapsInside (length src) o s) (d₀ i j : ℕ) (p : i < 8) (q : j < 8) where
+module _ (src : List ℕ) (o s : ℕ) (all : TapsInside (length src) o s) (d₀ : ℤ → ℕ) (i j : ℕ) (p : i < 8) (q : j < 8) where
   same : Agree 8 (around 3 src o s i j) (λ u v. standing d₀ src (tapAt 3 o s i j u v))
   same u v k l = around-stands 3 o s i j u v d₀ src (all i j u v p q k l)
 

@@ -1,5 +1,5 @@
--- Windows and rows, refusal number 5: the lent plane is tested whole. It is accepted exactly where it holds each pixel of the named plane, also where the window
--- or the row is a part of it. What is fetched from it is `edge`, of which Edge/Places tells. Assumes nothing.
+-- Windows and rows, refusal number 5: the lent plane is tested whole. It is accepted exactly where it holds each pixel of the named plane, also those that the
+-- window or the row hasn't. What is fetched from it is `edge`, of which Edge/Places tells. Assumes nothing.
 use mathlib.Core.Path.{_≡_, refl}
 use mathlib.Core.Bool.{Bool, true}
 use Prim.Native.Nat.{ℕ, _≤_}
@@ -8,7 +8,8 @@ use lib.ListN.{length}
 use Rattle.rows.proofs.Laws.Blocks.Fill.{and-true}
 use Rattle.blocks.specs.Refuse.{holds}
 use Rattle.blocks.specs.Window.{LentPlane, Asked, lentW, lentH, windowTests, rowTests}
-use Rattle.blocks.proofs.Laws.Calls.Places.{met, AllHeld, holds-all, all-holds}
+use Rattle.blocks.proofs.Laws.Calls.Given.{met}
+use Rattle.blocks.proofs.Laws.Calls.Places.{AllHeld, holds-all, all-holds}
 
 abbrev pub PlaneHeld : LentPlane → Type 0
 PlaneHeld p = AllHeld (length (p .plane)) (p .stride) (lentW p) (lentH p)
