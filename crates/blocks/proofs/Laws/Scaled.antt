@@ -6,3 +6,4 @@ pub mod Lines
 pub mod Pairs
 pub mod Rule
 pub mod Answers
+pub mod Stands

@@ -72,7 +72,7 @@ module _ (m o s i j a b : ℕ) where
         add-mul (dn y) (j + b) s,
       )
 
-  tap-in : (l : ℕ) → m * s + m ≤ lifted o s i j a b → lifted o s i j a b < l + (m * s + m) → InBuffer l (tapAt m o s i j a b)
+  pub tap-in : (l : ℕ) → m * s + m ≤ lifted o s i j a b → lifted o s i j a b < l + (m * s + m) → InBuffer l (tapAt m o s i j a b)
   tap-in l p q =
       let z = tapAt m o s i j a b in
       in-of l z (omega (arith, balance, one-part z)) (omega (arith, balance, one-part z))

@@ -106,18 +106,20 @@ module _ (s t : Offset → ℕ) (same : (o : Offset) → Near o → s o ≡ t o)
 abbrev pub pixelOr : (d : ℕ → ℕ) → List ℕ → (s i j : ℕ) → ℕ
 pixelOr d l s i j = getD l (j * s + i) (d (j * s + i))
 
+agree : (d : ℕ → ℕ) (l : List ℕ) (s w h : ℕ) → AllHeld (length l) s w h → Agree w h (pixel l s) (pixelOr d l s)
+agree d l s w h f i j a b = inside-any l (j * s + i) 0 (d (j * s + i)) (f i j a b)
+
 module _ (d e : ℕ → ℕ) (p : List ℕ) (s : ℕ) (q : List ℕ) (s′ w h : ℕ) where
   pub sad-stands : (depth : ℕ) → AllHeld (length p) s w h → AllHeld (length q) s′ w h
       → sad depth (pixel p s) (pixel q s′) w h ≡ sad depth (pixelOr d p s) (pixelOr e q s′) w h
-  sad-stands depth f g =
-      sad-same depth _ _ _ _ w h (λ i j a b. inside-any p (j * s + i) 0 (d (j * s + i)) (f i j a b)) (λ i j a b. inside-any q (j * s′ + i) 0 (e (j * s′ + i)) (g i j a b))
+  sad-stands depth f g = sad-same depth _ _ _ _ w h (agree d p s w h f) (agree e q s′ w h g)
 
   pub refine-stands : (depth : ℕ) (isImplicit : Bool) → AllHeld (length p) s (w + 8) (h + 8) → AllHeld (length q) s′ (w + 8) (h + 8)
       → refine depth isImplicit (pixel p s) (pixel q s′) w h ≡ refine depth isImplicit (pixelOr d p s) (pixelOr e q s′) w h
   unfolding refine
   refine-stands depth isImplicit f g = go isImplicit where
     each : (o : Offset) → Near o → sadAt depth (pixel p s) (pixel q s′) w h o ≡ sadAt depth (pixelOr d p s) (pixelOr e q s′) w h o
-    each = at-same _ _ _ _ w h (λ i j a b. inside-any p (j * s + i) 0 (d (j * s + i)) (f i j a b)) (λ i j a b. inside-any q (j * s′ + i) 0 (e (j * s′ + i)) (g i j a b)) depth
+    each = at-same _ _ _ _ w h (agree d p s (w + 8) (h + 8) f) (agree e q s′ (w + 8) (h + 8) g) depth
 
     go : (b : Bool) → refine depth b (pixel p s) (pixel q s′) w h ≡ refine depth b (pixelOr d p s) (pixelOr e q s′) w h
     go false = ap answer (search-same _ _ each none)

@@ -48,7 +48,7 @@ module _ (deep : Bool) (dl ds sl o s w h : ℕ) (mx my type : ℤ) (tl el : ℕ)
       rw e refl
 
 -- ---- the rules read no other: pictures that agree at the taps of both axes give the same pixel
-abbrev AxisRead : Axis → ℕ → Type 0
+abbrev pub AxisRead : Axis → ℕ → Type 0
 AxisRead whole t = t ≡ 3
 AxisRead (by f) t = t < 8
 
