@@ -1,7 +1,7 @@
 -- blend, refusal number 5: tmp and the mask are accepted exactly where they hold each place of a block of w x h without gaps, and the rule reads these alone.
 -- Of dst, which is written too, number 6 speaks. Assumes nothing.
 use mathlib.Core.Path.{_≡_, refl, ap₂}
-use mathlib.Core.Bool.{true, _&&_}
+use mathlib.Core.Bool.{true}
 use mathlib.Core.List.{List}
 use Prim.Native.Nat.{ℕ, _+_, _*_, _≤_, _<_}
 use lib.ListN.{length, getD}

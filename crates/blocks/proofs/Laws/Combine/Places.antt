@@ -10,7 +10,7 @@ use Rattle.rows.specs.Places.{pixel}
 use Rattle.rows.specs.Combine.{masked, both}
 use Rattle.rows.proofs.Laws.Blocks.Fill.{and-true}
 use Rattle.blocks.specs.Refuse.{holdsAll}
-use Rattle.blocks.specs.Combine.{combineTests, avgTests, wAvgTests, maskTests}
+use Rattle.blocks.specs.Combine.{avgTests, wAvgTests, maskTests}
 use Rattle.blocks.proofs.Laws.Calls.Given.{met}
 use Rattle.blocks.proofs.Laws.Calls.Places.{AllHeld, holds-all, all-holds, inside-any}
 

@@ -3,7 +3,6 @@ use mathlib.Core.Path.{_≡_, refl, ap}
 use mathlib.Core.Bool.{Bool, true}
 use mathlib.Core.List.{List}
 use Prim.Native.Nat.{ℕ, _+_, _*_, _≤_, _<_}
-use lib.IntN.{ℤ}
 use lib.ListN.{length, getD}
 use Rattle.rows.specs.Places.{pixel}
 use Rattle.rows.specs.Copy.{put, prep}

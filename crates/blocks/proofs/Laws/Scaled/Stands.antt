@@ -9,15 +9,14 @@ use native.Mathlib.Omega.{arith}
 use lib.IntN.{ℤ, pos, _+ℤ_}
 use lib.ListN.{length}
 use Rattle.rows.specs.Numbers.{up, clip, half, low16, minus16, _>>_}
-use Rattle.rows.specs.Places.{around}
 use Rattle.rows.specs.Subpel.{Axis, whole, by, family}
 use Rattle.rows.specs.Bilinear.{bilin, R, along, bilinMid}
-use Rattle.rows.specs.Scaled.{position, pixelOf, sixteenth, inFamily, scaledMid, putDown, prepDown, putScaled, prepScaled, putBilinScaled, prepBilinScaled}
+use Rattle.rows.specs.Scaled.{pixelOf, sixteenth, inFamily, scaledMid, putDown, prepDown, putScaled, prepScaled, putBilinScaled, prepBilinScaled}
 use Rattle.rows.proofs.Laws.Blocks.Fill.{and-true}
 use Rattle.rows.proofs.Laws.Filters.Taps.{tapped-same}
 use Rattle.blocks.specs.Scaled.{readsScaled, scaledTests, scaledAxis, scaledAround}
 use Rattle.blocks.proofs.Laws.Calls.Given.{met}
-use Rattle.blocks.proofs.Laws.Calls.Places.{InBuffer, standing, tapAt, tap-in, around-stands}
+use Rattle.blocks.proofs.Laws.Calls.Places.{standing, tapAt, tap-in, around-stands}
 use Rattle.blocks.proofs.Laws.Subpel.Places.{AxisRead}
 use Rattle.blocks.proofs.Laws.Scaled.Pairs.{position-le}
 use Rattle.blocks.proofs.Laws.Scaled.Places.{lastRow, columnAt, TapFetched, AllInside, AllPairsInside, accepted-inside, inside-accepted, accepted-pairs, pairs-accepted}

@@ -11,7 +11,7 @@ use lib.ListN.{length}
 use Rattle.rows.specs.Numbers.{up, clip, low16, minus16}
 use Rattle.rows.specs.Places.{around}
 use Rattle.rows.specs.Copy.{prep}
-use Rattle.rows.specs.Subpel.{Axis, whole, by, axis, filterBits, mid, put8, prep8}
+use Rattle.rows.specs.Subpel.{Axis, whole, by, axis, mid, put8, prep8}
 use Rattle.rows.proofs.Laws.Blocks.Places.{by-lt}
 use Rattle.rows.proofs.Laws.Blocks.Fill.{and-true}
 use Rattle.rows.proofs.Laws.Filters.Taps.{tapped-same}
