@@ -3,4 +3,6 @@ pub mod Local
 pub mod Calls
 pub mod Demand
 pub mod Runs
+pub mod Places
+pub mod CFunctions
 pub mod Holds
