@@ -6,3 +6,4 @@ pub mod Runs
 pub mod Places
 pub mod CFunctions
 pub mod Holds
+pub mod Witness

@@ -204,26 +204,34 @@ calls-ran s o stride (r ∷ rs) dst dst′ a =
     ap (λ (d : List ℕ). d ++ drop n lent) (a .4 .2) ∙ fill-front 0 stride (r .w) (r .h) (endlessPut s (cutOrder o r)) lent n (m .1 .fits) in
     (a .1, a .2, a .3 ++ drop n lent, (sym zero, a .4 .1, left), calls-ran s o stride rs _ dst′ (a .5))
 
--- such calls can be made, with any scratch, where no number refuses them: what they leave is told by `putRects`
-pub rects-ran : (s : Setting) (o : Order) (stride dl : ℕ) (scratch : List ℕ) (rs : List Rect) (dst : List ℕ) → length dst ≡ dl
-    → Each (λ r. putNumber s o (length scratch) stride dl r ≡ 0) rs → Ran s o stride rs dst (putRects s o (length scratch) stride rs dst)
-unfolding Each Ran putRects
-rects-ran s o stride dl scratch [] dst l e = refl
-rects-ran s o stride dl scratch (r ∷ rs) dst l e =
+-- such calls can be made where no number refuses them, with any scratch, each lent its rectangle's own rows alone: what they leave is `putRects`
+pub rects-calls : (s : Setting) (o : Order) (stride dl : ℕ) (scratch : List ℕ) (rs : List Rect) (dst : List ℕ) → length dst ≡ dl
+    → Each (λ r. putNumber s o (length scratch) stride dl r ≡ 0) rs
+    → PutCalls (putSays s true (o .kind)) (o .x) (o .y) stride rs dst (putRects s o (length scratch) stride rs dst)
+unfolding Each PutCalls putRects orderDst orSame
+rects-calls s o stride dl scratch [] dst l e = refl
+rects-calls s o stride dl scratch (r ∷ rs) dst l e =
     let k = begins stride r in
+    let lent = drop k dst in
+    let own = (r .h - 1) * stride + r .w in
     let sl = length scratch in
-    let lent : length (drop k dst) ≡ dl - k = length-drop k dst ∙ ap (λ (n : ℕ). n - k) l in
-    let zero : callNumber s (cutOrder o r) sl (length (drop k dst)) stride ≡ 0 =
-    ap (λ (n : ℕ). callNumber s (cutOrder o r) sl n stride) lent ∙ e .0 in
-    let part = callDst s (cutOrder o r) sl stride (drop k dst) in
-    let one : take k dst ++ part ≡ lentFrom k (drawn s o stride dl r) dst =
-    ap (λ (d : List ℕ). take k dst ++ d) (call-dst s (cutOrder o r) sl stride (drop k dst) zero) in
-    let long = ap length one ∙ length-drawn s o stride dl r dst l (begun s o sl stride dl r (e .0)) in (
+    let q = cutOrder o r in
+    let zero : callNumber s q sl (length lent) stride ≡ 0 =
+    ap (λ (n : ℕ). callNumber s q sl n stride) (length-drop k dst ∙ ap (λ (n : ℕ). n - k) l) ∙ e .0 in
+    let held : own ≤ length (take own lent) = omega (arith, call-met s q sl stride (length lent) zero .1, length-take own lent) in
+    let part = fill (take own lent) stride (r .w) (r .h) (endlessPut s q) in
+    let whole = fill-front 0 stride (r .w) (r .h) (endlessPut s q) lent own held in
+    let next = lentFrom k (callDst s q sl stride) dst in
+    let left : next ≡ lentFrom k (drawn s o stride dl r) dst = ap (λ (d : List ℕ). take k dst ++ d) (call-dst s q sl stride lent zero) in
+    let same : next ≡ take k dst ++ (part ++ drop own lent) = left ∙ ap (λ (d : List ℕ). take k dst ++ d) (sym whole) in
+    let long = ap length left ∙ length-drawn s o stride dl r dst l (begun s o sl stride dl r (e .0)) in (
+      own,
       scratch,
-      orderScratch 0 (s .lent) (cutOrder o r) scratch,
+      orderScratch 0 (s .lent) q scratch,
       part,
-      (sym zero, refl, ap (λ (n : ℕ). orderDst n s (cutOrder o r) stride (drop k dst)) zero),
-      rects-ran s o stride dl scratch rs (take k dst ++ part) long (e .1),
+      (sym (held-number s true q sl (length lent) (length (take own lent)) stride zero held), refl, refl),
+      subst (λ (d : List ℕ). PutCalls (putSays s true (o .kind)) (o .x) (o .y) stride rs d (putRects s o sl stride rs next)) same
+          (rects-calls s o stride dl scratch rs next long (e .1)),
     )
 
 -- ---- run as prep
@@ -290,6 +298,19 @@ module _ (says : PrepSays) (x y : ℤ) (f : ℕ → ℕ → ℤ) where
 abbrev pub prepSays : Setting → (named : Bool) → Kind → PrepSays
 prepSays s named kind x y w h scratch tmp stride r scratch′ tmp′ =
     OrderPrepAnswer s named (record { x = x; y = y; w = w; h = h; kind = kind }) scratch tmp stride r scratch′ tmp′
+
+-- such a call can be made where its number doesn't refuse it
+pub prep-call : (s : Setting) (o : Order) (r : Rect) (scratch : List ℕ) (tmp : List ℤ)
+    → callNumber s (cutOrder o r) (length scratch) (length tmp) (r .w) ≡ 0 → PrepCall (prepSays s true (o .kind)) (o .x) (o .y) r
+unfolding orderTmp orSame
+prep-call s o r scratch tmp e =
+    record {
+      scratch = scratch;
+      scratch′ = orderScratch 0 (s .lent) (cutOrder o r) scratch;
+      tmp = tmp;
+      tmp′ = fill tmp (r .w) (r .w) (r .h) (endlessPrep s (cutOrder o r));
+      told = (sym e, refl, refl);
+    }
 
 module _ (s : Setting) (o : Order) (kind : unwarped (o .kind) ≡ true) (r : Rect) (side : SameSide (o .w) (o .h) r)
     (c : PrepCall (prepSays s true (o .kind)) (o .x) (o .y) r) where
