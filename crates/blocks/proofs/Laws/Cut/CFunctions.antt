@@ -8,12 +8,24 @@ use native.Mathlib.Omega.{arith}
 use lib.Dec.{leb}
 use lib.IntN.{ℤ}
 use borrow.Author.Tests.{le-leb}
+use denote.Ref.{now}
+use denote.Triple.Clauses.{AtExit}
+use contract.Lifetimes.{Lfts}
+use borrow.Fn.Kinds.{Dens, resT, endedOf}
 use Rattle.rows.specs.Numbers.{up}
 use Rattle.rows.specs.Cut.{Rect, Each, Cut, SameSide}
 use Rattle.blocks.specs.words.Depth.{depthOk}
 use Rattle.blocks.specs.Order.{kindOf, Setting, endlessPut, endlessPrep, OrderPutAnswer, OrderPrepAnswer}
 use Rattle.blocks.specs.Cut.{unwarped}
 use Rattle.blocks.specs.declared.order.Order.{Order}
+use Rattle.blocks.proofs.words.order.hv_order_put_16bpc.Kinds as put-16bpc-kinds
+use Rattle.blocks.proofs.words.order.hv_order_put_16bpc.Reads as put-16bpc-reads
+use Rattle.blocks.proofs.words.order.hv_order_prep_16bpc.Kinds as prep-16bpc-kinds
+use Rattle.blocks.proofs.words.order.hv_order_prep_16bpc.Reads as prep-16bpc-reads
+use Rattle.blocks.proofs.bytes.calls.hv_order_put_8bpc.Kinds as put-8bpc-kinds
+use Rattle.blocks.proofs.bytes.calls.hv_order_put_8bpc.Reads as put-8bpc-reads
+use Rattle.blocks.proofs.bytes.calls.hv_order_prep_8bpc.Kinds as prep-8bpc-kinds
+use Rattle.blocks.proofs.bytes.calls.hv_order_prep_8bpc.Reads as prep-8bpc-reads
 use Rattle.blocks.proofs.Laws.Cut.Demand.{CutBlock}
 use Rattle.blocks.proofs.Laws.Cut.Places.{Predicted, ran-predicted, PutSays, PutCalls, putSays, calls-ran, PrepSays, PrepCall, AllPrepped, prepSays}
 use Rattle.blocks.proofs.Laws.Cut.Places.{all-prepped}
@@ -26,7 +38,7 @@ kind-unwarped (suc zero) mx my filterType a b c d e = refl
 kind-unwarped (suc (suc zero)) mx my filterType a b c d e = refl
 kind-unwarped (suc (suc (suc n))) mx my filterType a b c d e = absurd (omega arith)
 
--- whatever the outcome of the kind's test is called, it is true
+-- the contracts name the outcome of the kind's test, which is true
 module _ (s : Setting) (o : Order) (rs : List Rect) (block : CutBlock o rs) where
   put-named : (named : Bool) → named ≡ true → (stride : ℕ) (dst dst′ : List ℕ) → o .w ≤ stride
       → PutCalls (putSays s named (o .kind)) (o .x) (o .y) stride rs dst dst′ → Predicted (o .w) (o .h) stride (endlessPut s o) dst dst′
@@ -187,3 +199,46 @@ module _ («luma_w» «luma_h» : ℕ) («ss_hor» «ss_ver» : Bool) («plane_n
     -- endless plane in the tmp of a rectangle that has it, and no place of a tmp outside its rectangle changes
     pub cut-prep-8bpc : (calls : Each (PrepCall prep8 x y) rs) → AllPrepped prep8 x y (endlessPrep set8 (order8 x y w h)) w h rs calls
     cut-prep-8bpc calls = prep-named set8 (order8 x y w h) rs block8 (leb kind 3) (le-leb kind 3 (omega arith)) calls
+
+-- ---- what the contract of a function tells its callers, as the toolchain reads it: the premise above, word for word. v has the parameters, z the number,
+-- e the parameters at the end
+
+-- hv_order_put_16bpc
+pub told-put-16bpc : (κs : Lfts 6) (v : Dens κs put-16bpc-kinds.ps) (z : resT put-16bpc-kinds.r κs .Denot)
+    (e : AtExit (endedOf 6 put-16bpc-kinds.ps put-16bpc-kinds.r) κs) → put-16bpc-reads.Learnt κs v z e
+    → let (depth, («luma_w», («luma_h», («ss_hor», («ss_ver», («plane_no», (plane, («plane_stride», (kind, own))))))))) = v in
+    let (x, (y, (w, (h, (mx, (my, («filter_type», (a, (b, (c, (d, (subpel, (ext, (warp, (scratch, (dst, (stride, none))))))))))))))))) = own in
+    let last = e .1 .1 .1 .1 .1 .1 .1 .1 .1 .1 .1 .1 .1 .1 .1 .1 .1 .1 .1 .1 .1 .1 .1 in
+    put16 depth «luma_w» «luma_h» «ss_hor» «ss_ver» «plane_no» (now plane) «plane_stride» kind mx my «filter_type» a b c d (now subpel) (now ext) (now warp)
+    x y w h (now scratch) (now dst) stride z (now (last .0)) (now (last .1 .0))
+told-put-16bpc κs v z e told = told
+
+-- hv_order_prep_16bpc
+pub told-prep-16bpc : (κs : Lfts 6) (v : Dens κs prep-16bpc-kinds.ps) (z : resT prep-16bpc-kinds.r κs .Denot)
+    (e : AtExit (endedOf 6 prep-16bpc-kinds.ps prep-16bpc-kinds.r) κs) → prep-16bpc-reads.Learnt κs v z e
+    → let (depth, («luma_w», («luma_h», («ss_hor», («ss_ver», («plane_no», (plane, («plane_stride», (kind, own))))))))) = v in
+    let (x, (y, (w, (h, (mx, (my, («filter_type», (a, (b, (c, (d, (subpel, (ext, (warp, (scratch, (tmp, (stride, none))))))))))))))))) = own in
+    let last = e .1 .1 .1 .1 .1 .1 .1 .1 .1 .1 .1 .1 .1 .1 .1 .1 .1 .1 .1 .1 .1 .1 .1 in
+    prep16 depth «luma_w» «luma_h» «ss_hor» «ss_ver» «plane_no» (now plane) «plane_stride» kind mx my «filter_type» a b c d (now subpel) (now ext) (now warp)
+    x y w h (now scratch) (now tmp) stride z (now (last .0)) (now (last .1 .0))
+told-prep-16bpc κs v z e told = told
+
+-- hv_order_put_8bpc
+pub told-put-8bpc : (κs : Lfts 6) (v : Dens κs put-8bpc-kinds.ps) (z : resT put-8bpc-kinds.r κs .Denot)
+    (e : AtExit (endedOf 6 put-8bpc-kinds.ps put-8bpc-kinds.r) κs) → put-8bpc-reads.Learnt κs v z e
+    → let («luma_w», («luma_h», («ss_hor», («ss_ver», («plane_no», (plane, («plane_stride», (kind, own)))))))) = v in
+    let (x, (y, (w, (h, (mx, (my, («filter_type», (a, (b, (c, (d, (subpel, (ext, (warp, (scratch, (dst, (stride, none))))))))))))))))) = own in
+    let last = e .1 .1 .1 .1 .1 .1 .1 .1 .1 .1 .1 .1 .1 .1 .1 .1 .1 .1 .1 .1 .1 .1 in
+    put8 «luma_w» «luma_h» «ss_hor» «ss_ver» «plane_no» (now plane) «plane_stride» kind mx my «filter_type» a b c d (now subpel) (now ext) (now warp)
+    x y w h (now scratch) (now dst) stride z (now (last .0)) (now (last .1 .0))
+told-put-8bpc κs v z e told = told
+
+-- hv_order_prep_8bpc
+pub told-prep-8bpc : (κs : Lfts 6) (v : Dens κs prep-8bpc-kinds.ps) (z : resT prep-8bpc-kinds.r κs .Denot)
+    (e : AtExit (endedOf 6 prep-8bpc-kinds.ps prep-8bpc-kinds.r) κs) → prep-8bpc-reads.Learnt κs v z e
+    → let («luma_w», («luma_h», («ss_hor», («ss_ver», («plane_no», (plane, («plane_stride», (kind, own)))))))) = v in
+    let (x, (y, (w, (h, (mx, (my, («filter_type», (a, (b, (c, (d, (subpel, (ext, (warp, (scratch, (tmp, (stride, none))))))))))))))))) = own in
+    let last = e .1 .1 .1 .1 .1 .1 .1 .1 .1 .1 .1 .1 .1 .1 .1 .1 .1 .1 .1 .1 .1 .1 in
+    prep8 «luma_w» «luma_h» «ss_hor» «ss_ver» «plane_no» (now plane) «plane_stride» kind mx my «filter_type» a b c d (now subpel) (now ext) (now warp)
+    x y w h (now scratch) (now tmp) stride z (now (last .0)) (now (last .1 .0))
+told-prep-8bpc κs v z e told = told

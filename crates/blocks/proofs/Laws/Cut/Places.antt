@@ -12,7 +12,7 @@ use lib.Seq.{ext-getD, getD-append-add, getD-take, getD-drop, length-front}
 use borrow.Author.Tests.{le-leb}
 use Rattle.rows.specs.Numbers.{at}
 use Rattle.rows.specs.Places.{pixel, pick, inBlock, fillIn, fill, lentFrom}
-use Rattle.rows.specs.Cut.{Rect, has, covered, Each, Cut, SameSide, begins}
+use Rattle.rows.specs.Cut.{Rect, has, covered, Each, SameSide, begins}
 use Rattle.rows.proofs.Laws.Blocks.Places.{by-lt, row-le, row-fits}
 use Rattle.rows.proofs.Laws.Blocks.Fill.{getD-paint, length-fill, fill-in}
 use Rattle.rows.proofs.Laws.Cut.Cut.{In, box-in, box-true, in-one, beside-fill}
