@@ -7,4 +7,3 @@ pub mod Answer
 pub mod Ready
 pub mod Told
 pub mod Given
-pub mod Places

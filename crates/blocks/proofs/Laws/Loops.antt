@@ -2,3 +2,4 @@
 pub mod Rows
 pub mod Gapless
 pub mod InPlace
+pub mod Places

@@ -18,7 +18,7 @@ use Rattle.blocks.specs.Refuse.{reads}
 use Rattle.blocks.specs.Subpel.{on}
 use Rattle.blocks.specs.Bilinear.{bilinTests}
 use Rattle.blocks.proofs.Laws.Calls.Given.{met}
-use Rattle.blocks.proofs.Laws.Calls.Places.{InBuffer, standing, tapAt, around-stands, reads-range, range-reads}
+use Rattle.blocks.proofs.Laws.Loops.Places.{InBuffer, standing, tapAt, around-stands, reads-range, range-reads}
 
 -- 0 is the pixel itself, 1 the next
 abbrev pub PairRead : (fraction t : ℕ) → Type 0

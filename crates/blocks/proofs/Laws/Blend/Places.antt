@@ -9,7 +9,7 @@ use Rattle.rows.specs.Places.{pixel}
 use Rattle.rows.specs.Combine.{blend}
 use Rattle.blocks.specs.Blend.{blendTests}
 use Rattle.blocks.proofs.Laws.Calls.Given.{met}
-use Rattle.blocks.proofs.Laws.Calls.Places.{inside-any}
+use Rattle.blocks.proofs.Laws.Loops.Places.{inside-any}
 use Rattle.blocks.proofs.Laws.Combine.Places.{AllOf, two-inside, inside-two}
 
 module _ (dl ds tl w h : ℕ) (mask : List ℕ) where

@@ -1,4 +1,4 @@
--- The tests of each entry stand in the order of their numbers, so the first that isn't met gives the lowest number that applies. Assumes nothing.
+-- The tests of each entry stand in order, by the ranks of their reasons, so the first that isn't met gives the lowest number that applies (Lowest). Assumes nothing.
 use Rattle.blocks.proofs.Usual.{true, Bool, List, _≡_, refl, ℕ, ℤ, Setting, LentPlane, windowTests, Asked}
 use Rattle.blocks.specs.Refuse.{inOrder}
 use Rattle.blocks.specs.Copy.{putTests, prepTests}

@@ -12,7 +12,7 @@ use Rattle.rows.proofs.Laws.Blocks.Fill.{and-true}
 use Rattle.blocks.specs.Refuse.{holdsAll}
 use Rattle.blocks.specs.Combine.{avgTests, wAvgTests, maskTests}
 use Rattle.blocks.proofs.Laws.Calls.Given.{met}
-use Rattle.blocks.proofs.Laws.Calls.Places.{AllHeld, holds-all, all-holds, inside-any}
+use Rattle.blocks.proofs.Laws.Loops.Places.{AllHeld, holds-all, all-holds, inside-any}
 
 -- w x h without gaps
 abbrev pub AllOf : (l w h : ℕ) → Type 0

@@ -10,7 +10,7 @@ use Rattle.rows.proofs.Laws.Blocks.Fill.{and-true}
 use Rattle.blocks.specs.Refuse.{holds}
 use Rattle.blocks.specs.Copy.{putTests, prepTests}
 use Rattle.blocks.proofs.Laws.Calls.Given.{met}
-use Rattle.blocks.proofs.Laws.Calls.Places.{AllHeld, holds-all, all-holds, inside-any}
+use Rattle.blocks.proofs.Laws.Loops.Places.{AllHeld, holds-all, all-holds, inside-any}
 
 module _ (dl ds sl s w h : ℕ) where
   pub put-inside : met 5 (putTests dl ds sl s w h) ≡ true → AllHeld sl s w h

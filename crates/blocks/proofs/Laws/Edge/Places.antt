@@ -12,7 +12,7 @@ use Rattle.rows.proofs.Laws.Blocks.Fill.{and-true}
 use Rattle.blocks.specs.Refuse.{holds}
 use Rattle.blocks.specs.Edge.{edgeTests}
 use Rattle.blocks.proofs.Laws.Calls.Given.{met}
-use Rattle.blocks.proofs.Laws.Calls.Places.{AllHeld, holds-all, all-holds, inside-any}
+use Rattle.blocks.proofs.Laws.Loops.Places.{AllHeld, holds-all, all-holds, inside-any}
 use Rattle.blocks.proofs.Laws.Edge.Ready.{clip-below}
 
 module _ (bw bh iw ih : ℕ) (x y : ℤ) (dl ds pl ps : ℕ) where

@@ -16,7 +16,7 @@ use Rattle.rows.proofs.Laws.Blocks.Fill.{and-true}
 use Rattle.rows.proofs.Laws.Filters.Taps.{tapped-same}
 use Rattle.blocks.specs.Scaled.{readsScaled, scaledTests, scaledAxis, scaledAround}
 use Rattle.blocks.proofs.Laws.Calls.Given.{met}
-use Rattle.blocks.proofs.Laws.Calls.Places.{standing, tapAt, tap-in, around-stands}
+use Rattle.blocks.proofs.Laws.Loops.Places.{standing, tapAt, tap-in, around-stands}
 use Rattle.blocks.proofs.Laws.Subpel.Places.{AxisRead}
 use Rattle.blocks.proofs.Laws.Scaled.Pairs.{position-le}
 use Rattle.blocks.proofs.Laws.Scaled.Places.{lastRow, columnAt, TapFetched, AllInside, AllPairsInside, accepted-inside, inside-accepted, accepted-pairs, pairs-accepted}

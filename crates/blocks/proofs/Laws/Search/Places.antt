@@ -15,7 +15,7 @@ use Rattle.rows.proofs.Laws.Blocks.Fill.{and-true}
 use Rattle.blocks.specs.Refuse.{holds}
 use Rattle.blocks.specs.Search.{sadsTests, sadTests, refineTests}
 use Rattle.blocks.proofs.Laws.Calls.Given.{met}
-use Rattle.blocks.proofs.Laws.Calls.Places.{AllHeld, holds-all, all-holds, inside-any}
+use Rattle.blocks.proofs.Laws.Loops.Places.{AllHeld, holds-all, all-holds, inside-any}
 use Rattle.blocks.proofs.Laws.Search.Ready.{ahead-start, behind-start}
 
 module _ (m : ℕ) (deep : Bool) (l0 s0 l1 s1 w h : ℕ) where

@@ -18,7 +18,7 @@ use Rattle.rows.proofs.Laws.Filters.Taps.{tapped-same}
 use Rattle.blocks.specs.Refuse.{reads}
 use Rattle.blocks.specs.Subpel.{on, subpelTests, put8Rule, prep8Rule}
 use Rattle.blocks.proofs.Laws.Calls.Given.{met}
-use Rattle.blocks.proofs.Laws.Calls.Places.{InBuffer, standing, tapAt, around-stands, reads-range, range-reads}
+use Rattle.blocks.proofs.Laws.Loops.Places.{InBuffer, standing, tapAt, around-stands, reads-range, range-reads}
 
 -- tap t stands at t - 3: the pixel itself is read, and all eight, -3 to 4, where the fraction isn't 0
 abbrev pub TapRead : (fraction : ℕ) (t : ℕ) → Type 0

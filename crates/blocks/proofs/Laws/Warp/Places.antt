@@ -16,7 +16,7 @@ use Rattle.rows.proofs.Laws.Cut.Local.{Agree, warpPut-local, warpPrep-local}
 use Rattle.blocks.specs.Refuse.{reads, wholeFilters}
 use Rattle.blocks.specs.Warp.{warpTests}
 use Rattle.blocks.proofs.Laws.Calls.Given.{met}
-use Rattle.blocks.proofs.Laws.Calls.Places.{placeOf, InBuffer, standing, tapAt, around-stands, reads-range, range-reads}
+use Rattle.blocks.proofs.Laws.Loops.Places.{placeOf, InBuffer, standing, tapAt, around-stands, reads-range, range-reads}
 use Rattle.blocks.proofs.Laws.Warp.Corners.{every-at, all-every}
 
 -- ---- the source: column x - 3 and row y - 3 from the block's first pixel, which is at place o

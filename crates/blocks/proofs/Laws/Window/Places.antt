@@ -9,7 +9,7 @@ use Rattle.rows.proofs.Laws.Blocks.Fill.{and-true}
 use Rattle.blocks.specs.Refuse.{holds}
 use Rattle.blocks.specs.Window.{LentPlane, Asked, lentW, lentH, windowTests, rowTests}
 use Rattle.blocks.proofs.Laws.Calls.Given.{met}
-use Rattle.blocks.proofs.Laws.Calls.Places.{AllHeld, holds-all, all-holds}
+use Rattle.blocks.proofs.Laws.Loops.Places.{AllHeld, holds-all, all-holds}
 
 abbrev pub PlaneHeld : LentPlane → Type 0
 PlaneHeld p = AllHeld (length (p .plane)) (p .stride) (lentW p) (lentH p)
