@@ -2,3 +2,4 @@
 pub mod Ready
 pub mod Answers
 pub mod Places
+pub mod Predict

@@ -5,3 +5,4 @@ pub mod Rows
 pub mod Answers
 pub mod OddPictures
 pub mod Places
+pub mod Predict
