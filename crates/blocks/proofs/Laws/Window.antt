@@ -6,3 +6,4 @@ pub mod Answers
 pub mod OddPictures
 pub mod Places
 pub mod Predict
+pub mod Suffices
