@@ -3,6 +3,7 @@
 use std::any::type_name;
 use std::fmt::Debug;
 use std::ops::DerefMut;
+use std::ptr;
 
 /// So many guard places stand on a side that has no unreadable page.
 const GUARDS: usize = 64;
@@ -39,6 +40,8 @@ fn guard<T: Number>(index: usize) -> T {
 pub trait Ground {
     /// Does a guard stand before and after a buffer? One does on each side that has no unreadable page.
     const SIDES: [bool; 2];
+    /// Is the pointer to an empty buffer null?
+    const NULL_IF_EMPTY: bool = false;
     /// Memory of so many numbers.
     type Memory<T: Number>: DerefMut<Target = [T]>;
 
@@ -83,8 +86,11 @@ impl<T: Number, G: Ground> Lent<'_, T, G> {
         GUARDS * G::SIDES[0] as usize
     }
 
-    /// Pointer to the buffer's first place.
+    /// Pointer to the buffer's first place, or null for one that has none and whose ground says so.
     pub fn start(&mut self) -> *mut T {
+        if G::NULL_IF_EMPTY && self.len() == 0 {
+            return ptr::null_mut();
+        }
         let first = self.first();
         self.memory[first..].as_mut_ptr()
     }

@@ -8,6 +8,7 @@ pub mod calls;
 pub mod compare;
 pub mod cut;
 pub mod differences;
+pub mod empty;
 pub mod guard;
 pub mod kernels;
 pub mod lend;

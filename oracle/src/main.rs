@@ -1,7 +1,8 @@
 //! `oracle`: the worked numbers. `oracle compare [N] [SEED]`: the library's C functions against the original, and the
-//! original against document 01's rules. `oracle guard [N] [SEED]`: the C functions on buffers at unreadable pages.
-//! `oracle cut [N] [SEED]`: blocks cut into rectangles, which `compare` does too. `oracle differences`: where the original
-//! and document 01 part. `oracle record N SEED FILE`: the list of the original's answers that the program `replay` reads.
+//! original against document 01's rules. `oracle guard [N] [SEED]`: the C functions on buffers at unreadable pages, and on
+//! null slices. `oracle cut [N] [SEED]`: blocks cut into rectangles, which `compare` does too. `oracle differences`: where
+//! the original and document 01 part. `oracle record N SEED FILE`: the list of the original's answers that the program
+//! `replay` reads.
 
 use std::process::ExitCode;
 

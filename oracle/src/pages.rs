@@ -102,3 +102,17 @@ impl Ground for BeginsAfterPage {
         Part::new(length, false)
     }
 }
+
+/// Each buffer ends exactly at an unreadable page, but the pointer to an empty one is null. Nothing is mapped there, so
+/// that a place read or written through it ends the program too.
+pub struct NullIfEmpty;
+
+impl Ground for NullIfEmpty {
+    const SIDES: [bool; 2] = EndsAtPage::SIDES;
+    const NULL_IF_EMPTY: bool = true;
+    type Memory<T: Number> = Part<T>;
+
+    fn memory<T: Number>(length: usize) -> Part<T> {
+        EndsAtPage::memory(length)
+    }
+}
