@@ -10,8 +10,9 @@
  * result depends on the depth, it is the first parameter, and any other depth is HV_NUMBER.
  *
  * What a caller has to see to, since no function can test it:
- * - A slice is a pointer to its first element, then `_len`, its number of elements. The pointer is never null and is
- *   aligned for its element, also where the slice is empty. No `_len` is more than there is.
+ * - A slice is a pointer to its first element, then `_len`, its number of elements. The pointer is aligned for its
+ *   element, also where the slice is empty. It may be null where `_len` is 0, and only there: a null slice is answered
+ *   as any other empty one. No `_len` is more than there is.
  * - A single result is a pointer, never null; so are matrix (6 entries) and abcd (4).
  * - Nothing that is written overlaps anything else that the call was lent. What is only read may overlap.
  * - A bool is 0 or 1.

@@ -1,8 +1,8 @@
 //! Motion compensation for AV2: the functions of `libblocks.a`, safe to call from Rust.
 //!
-//! A call takes any numbers, tables and slices. It never panics and reads and writes only what it was lent. It does its
-//! work, or it gives a [`Refusal`] and changes nothing. The library tests every length and range itself, so nothing
-//! here tests them once more.
+//! A call takes any numbers, tables and slices, empty ones too. It never panics and reads and writes only what it was
+//! lent. It does its work, or it gives a [`Refusal`] and changes nothing. The library tests every length and range
+//! itself, so nothing here tests them once more.
 //!
 //! The functions are generic over [`Pixel`], so that both sets are one text: `u8` is the byte set, of depth [`Eight`];
 //! `u16` is the 16-bit set, of a [`Depth`] of ten or twelve. Names and the order of parameters are those of

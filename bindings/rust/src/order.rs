@@ -21,9 +21,9 @@ pub enum Kind {
 pub struct Tables<'a> {
     /// 600 numbers: 5 families of 15 filters of 8.
     pub subpel: &'a [i8],
-    /// Any whole number of filters of 8.
+    /// Any whole number of filters of 8, none too.
     pub ext: &'a [i8],
-    /// Any whole number of filters of 8.
+    /// Any whole number of filters of 8, none too.
     pub warp: &'a [i8],
 }
 

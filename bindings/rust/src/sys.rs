@@ -2,7 +2,7 @@
 //!
 //! A call is sound where each pointer and its length are those of a slice that is borrowed for the call, mutably for
 //! `*mut`: then nothing is null, misaligned or longer than it is, and nothing written overlaps anything else. Every
-//! `unsafe` block of this crate is such a call.
+//! `unsafe` block of this crate is such a call. The header lets an empty slice be null too; one of Rust's never is.
 
 /// Declares functions that have a byte set and a 16-bit set: the name without a set, both names, the parameters. A
 /// depth in brackets is passed by the 16-bit set alone.
