@@ -1,9 +1,5 @@
 //! 8-tap, bilinear and warp.
 
-use original::mc;
-use original::pixel::{BitDepth, BitDepth8, BitDepth16};
-use original::tables::with_tables;
-
 use super::{case, room};
 use crate::answer::Room;
 use crate::calls::{bilinear, subpel, warp};
@@ -11,7 +7,7 @@ use crate::tables::{real_ext, real_subpel, real_warp};
 
 /// The rows of this family.
 pub fn cases() -> Vec<String> {
-    [taps(), wide_blocks(), bilinear_cases(), warps(), vec![sixteen_bits()]].concat()
+    [taps(), large_blocks(), bilinear_cases(), warps(), vec![sixteen_bits()]].concat()
 }
 
 /// put_8tap of bytes, the original's tables lent.
@@ -22,15 +18,6 @@ fn put_8tap(src: &[u8], src_off: usize, w: usize, mx: i32, my: i32, filter_type:
     subpel::Put8tap { dst: room(&vec![9; w]), dst_stride: w, from }
 }
 
-/// The original's put_8tap on a call's own buffers.
-fn run_put_8tap(c: &mut subpel::Put8tap<u8>) {
-    let (f, stride) = (&c.from, c.dst_stride);
-    with_tables(&f.subpel, &f.ext, &[], &[], || {
-        let dst = &mut c.dst;
-        mc::put_8tap(BitDepth8, dst, stride, &f.src, f.src_off, f.src_stride, f.w, f.h, f.mx, f.my, f.filter_type)
-    });
-}
-
 /// Short sources, whose tap indices the Rust clamps; types, fractions and tables outside.
 fn taps() -> Vec<String> {
     let mut six_families = put_8tap(&[10; 8], 3, 1, 1, 0, 0);
@@ -38,40 +25,37 @@ fn taps() -> Vec<String> {
     let mut two_rows = put_8tap(&[10; 9], 3, 1, 1, 0, 0);
     two_rows.from.h = 2;
     vec![
-        case("short source: each tap's index is clamped", put_8tap(&[10], 0, 1, 1, 0, 0), run_put_8tap),
-        case("offset past the source, index clamped", put_8tap(&[10; 8], 9, 1, 1, 0, 0), run_put_8tap),
-        case("empty source", put_8tap(&[], 0, 1, 1, 0, 0), run_put_8tap),
-        case("short destination", two_rows, run_put_8tap),
-        case("no fraction, offset past the source", put_8tap(&[10], 2, 1, 0, 0, 0), run_put_8tap),
-        case("type 3, narrow: family 4", put_8tap(&[10; 8], 3, 1, 1, 0, 3), run_put_8tap),
-        case("type -2, narrow: family 3 at 7 bits", put_8tap(&[10; 8], 3, 1, 1, 0, -2), run_put_8tap),
-        case("fraction 16", put_8tap(&[10; 8], 3, 1, 16, 0, 0), run_put_8tap),
-        case("type -1, fraction above the table", put_8tap(&[10; 8], 3, 1, 64, 0, -1), run_put_8tap),
-        case("six families lent", six_families, run_put_8tap),
+        case("short source: each tap's index is clamped", put_8tap(&[10], 0, 1, 1, 0, 0)),
+        case("offset past the source, index clamped", put_8tap(&[10; 8], 9, 1, 1, 0, 0)),
+        case("empty source", put_8tap(&[], 0, 1, 1, 0, 0)),
+        case("short destination", two_rows),
+        case("no fraction, offset past the source", put_8tap(&[10], 2, 1, 0, 0, 0)),
+        case("type 3, narrow: family 4", put_8tap(&[10; 8], 3, 1, 1, 0, 3)),
+        case("type -2, narrow: family 3 at 7 bits", put_8tap(&[10; 8], 3, 1, 1, 0, -2)),
+        case("type 3, five columns: family 3", put_8tap(&[10; 12], 3, 5, 1, 0, 3)),
+        case("type -2, five columns", put_8tap(&[10; 12], 3, 5, 1, 0, -2)),
+        case("type -1, fraction above the table", put_8tap(&[10; 8], 3, 1, 64, 0, -1)),
+        case("six families lent", six_families),
     ]
 }
 
-/// Widths above 64 with both fractions: the Rust's intermediate has rows of 64.
-fn wide_blocks() -> Vec<String> {
-    let src = room(&[1u8; 140]);
-    let from = bilinear::Source { depth: 8, src, src_stride: 65, w: 65, h: 1, mx: 1, my: 1 };
+/// put_8tap of w x h with both fractions, the source all ones.
+fn large(w: usize, h: usize) -> subpel::Put8tap<u8> {
+    let mut call = put_8tap(&vec![1; w * (h + 7) + 7], 3 * w + 3, w, 1, 1, 0);
+    (call.from.h, call.dst) = (h, room(&vec![9; w * h]));
+    call
+}
+
+/// Sides above 64. With both fractions the Rust's intermediate has rows of 64, and as many as are needed.
+fn large_blocks() -> Vec<String> {
+    let tall = bilinear::Source { depth: 8, src: room(&[1; 8257]), src_stride: 64, w: 64, h: 128, mx: 1, my: 1 };
     vec![
-        case("width 65, both fractions", put_8tap(&[1; 600], 198, 65, 1, 1, 0), run_put_8tap),
-        case("width 65, one fraction", put_8tap(&[1; 80], 3, 65, 1, 0, 0), run_put_8tap),
-        case("width 65, both fractions", put_bilin(from), run_put_bilin),
+        case("65 x 1, one fraction", put_8tap(&[1; 80], 3, 65, 1, 0, 0)),
+        case("8 x 65, both fractions", large(8, 65)),
+        case("64 x 128, both fractions", large(64, 128)),
+        case("128 x 64, both fractions", large(128, 64)),
+        case("64 x 128, both fractions", put_bilin(tall)),
     ]
-}
-
-/// The original's put_bilin on a call's own buffers.
-fn run_put_bilin(c: &mut bilinear::PutBilin<u8>) {
-    let f = &c.from;
-    mc::put_bilin(BitDepth8, &mut c.dst, c.dst_stride, &f.src, f.src_stride, f.w, f.h, f.mx, f.my)
-}
-
-/// The original's prep_bilin on a call's own buffers.
-fn run_prep_bilin(c: &mut bilinear::PrepBilin<u8>) {
-    let f = &c.from;
-    mc::prep_bilin(BitDepth8, &mut c.tmp, c.tmp_stride, &f.src, f.src_stride, f.w, f.h, f.mx, f.my)
 }
 
 /// put_bilin of bytes into a destination of nines without gaps.
@@ -84,10 +68,10 @@ fn bilinear_cases() -> Vec<String> {
     let from = bilinear::Source { depth: 8, src: room(&[10u8, 20]), src_stride: 1, w: 1, h: 2, mx: 8, my: 0 };
     let prep = bilinear::PrepBilin { tmp: room(&[9, 9]), tmp_stride: 1, from: from.clone() };
     vec![
-        case("short source", put_bilin(from.clone()), run_put_bilin),
-        case("short source", prep, run_prep_bilin),
-        case("short source, both fractions", put_bilin(bilinear::Source { my: 8, ..from.clone() }), run_put_bilin),
-        case("fraction 16 is the neighbour", put_bilin(bilinear::Source { h: 1, mx: 16, ..from }), run_put_bilin),
+        case("short source", put_bilin(from.clone())),
+        case("short source", prep),
+        case("short source, both fractions", put_bilin(bilinear::Source { my: 8, ..from.clone() })),
+        case("fraction 16 is the neighbour", put_bilin(bilinear::Source { h: 1, mx: 16, ..from })),
     ]
 }
 
@@ -98,21 +82,13 @@ fn warp_call(source: usize, places: usize, table: &[i8]) -> warp::WarpAffine<u8>
     warp::WarpAffine { dst: room(&vec![9; places]), dst_stride: 8, from }
 }
 
-/// The original's warp_affine_8x8 on a call's own buffers.
-fn run_warp(c: &mut warp::WarpAffine<u8>) {
-    let (f, stride) = (&c.from, c.dst_stride);
-    with_tables(&[], &[], &f.warp, &[], || {
-        mc::warp_affine_8x8(BitDepth8, &mut c.dst, stride, &f.src, f.src_stride, f.src_off, &f.abcd, f.mx, f.my)
-    });
-}
-
 /// Short buffers and a missing filter: all panic, a short destination after earlier rows were written.
 fn warps() -> Vec<String> {
     let table = real_warp();
     vec![
-        case("short source: 225 places are read", warp_call(224, 64, &table), run_warp),
-        case("short destination", warp_call(225, 8, &table), run_warp),
-        case("filter 192 missing", warp_call(225, 64, &table[..8 * 192]), run_warp),
+        case("short source: 225 places are read", warp_call(224, 64, &table)),
+        case("short destination", warp_call(225, 8, &table)),
+        case("filter 192 missing", warp_call(225, 64, &table[..8 * 192])),
     ]
 }
 
@@ -138,14 +114,6 @@ fn sixteen_bits() -> String {
     case(
         "accepted; wraps in 16 bits within the depth (1023 where the product of the two taps is above 0, else 0)",
         call,
-        |c| {
-            let (f, stride) = (&c.from, c.tmp_stride);
-            with_tables(&f.subpel, &f.ext, &[], &[], || {
-                let (depth, tmp) = (BitDepth16::new(10), &mut c.tmp);
-                mc::prep_8tap(depth, tmp, stride, &f.src, f.src_off, f.src_stride, f.w, f.h, f.mx, f.my, f.filter_type)
-            });
-            String::new()
-        },
     )
 }
 

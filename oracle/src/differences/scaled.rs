@@ -1,14 +1,10 @@
 //! The scaled kernels.
 
-use original::mc;
-use original::pixel::{BitDepth, BitDepth8, BitDepth16};
-use original::tables::with_tables;
-
 use super::filtered::greatest_sum;
 use super::{case, room};
 use crate::answer::{Px, Room};
 use crate::calls::scaled::{Filters, Prep8tapScaled, Put8tapScaled, PutBilinScaled, Source};
-use crate::tables::{real_ext, real_subpel};
+use crate::tables::real_subpel;
 
 /// The rows of this family.
 pub fn cases() -> Vec<String> {
@@ -32,35 +28,19 @@ fn put_bilin(from: Source<u8>) -> PutBilinScaled<u8> {
     PutBilinScaled { dst: room(&vec![9; from.w * from.h]), dst_stride: from.w, from }
 }
 
-/// The original's put_8tap_scaled on a call's own buffers. Its ext table is lent too: type -1 takes it.
-fn run_put_8tap<P: Px>(c: &mut Put8tapScaled<P>) {
-    let (f, by, stride, ext) = (&c.from, &c.by, c.dst_stride, real_ext());
-    with_tables(&by.subpel, &ext, &[], &[], || {
-        let (dst, depth, ss, kind) = (&mut c.dst, P::depth(f.depth), f.src_stride as isize, by.filter_type);
-        mc::put_8tap_scaled(depth, dst, stride, &f.src, f.src_off, ss, f.w, f.h, f.mx, f.my, f.dx, f.dy, kind)
-    });
-}
-
-/// The original's put_bilin_scaled on a call's own buffers.
-fn run_put_bilin(c: &mut PutBilinScaled<u8>) {
-    let (f, dst, stride) = (&c.from, &mut c.dst, c.dst_stride);
-    let ss = f.src_stride as isize;
-    mc::put_bilin_scaled(BitDepth8, dst, stride, &f.src, f.src_off, ss, f.w, f.h, f.mx, f.my, f.dx, f.dy)
-}
-
 /// Sources that don't hold every place: 8-tap clamps a tap's index, but looks up a column without a fraction directly.
 fn short_sources() -> Vec<String> {
     let two_rows = Source { h: 2, ..source(8, &[10, 20, 30], 0, 0) };
     let mut short_to = put_8tap(Source { h: 2, ..source(8, &[10u8; 9], 3, 0) }, 0);
     short_to.dst.truncate(1);
     vec![
-        case("short source: each tap's index is clamped", put_8tap(source(8, &[10u8], 0, 64), 0), run_put_8tap),
-        case("no fraction, last row missing", put_8tap(source(8, &[10u8; 7], 3, 0), 0), run_put_8tap),
-        case("no fraction, first row missing", put_8tap(source(8, &[10u8; 8], 2, 0), 0), run_put_8tap),
-        case("empty source", put_8tap(source::<u8>(8, &[], 0, 64), 0), run_put_8tap),
-        case("short destination", short_to, run_put_8tap),
-        case("no fraction, last column missing", put_bilin(source(8, &[10, 20], 0, 0)), run_put_bilin),
-        case("second row missing", put_bilin(two_rows), run_put_bilin),
+        case("short source: each tap's index is clamped", put_8tap(source(8, &[10u8], 0, 64), 0)),
+        case("no fraction, last row missing", put_8tap(source(8, &[10u8; 7], 3, 0), 0)),
+        case("no fraction, first row missing", put_8tap(source(8, &[10u8; 8], 2, 0), 0)),
+        case("empty source", put_8tap(source::<u8>(8, &[], 0, 64), 0)),
+        case("short destination", short_to),
+        case("no fraction, last column missing", put_bilin(source(8, &[10, 20], 0, 0))),
+        case("second row missing", put_bilin(two_rows)),
     ]
 }
 
@@ -73,16 +53,16 @@ fn outside() -> Vec<String> {
     let apart: Vec<u8> = (0..24).collect();
     let pair = Source { w: 2, src_stride: 2, ..source(8, &apart, 12, 0) };
     vec![
-        case("type -1: ext at 6 bits, twice as bright each pass", put_8tap(at(64), -1), run_put_8tap),
-        case("type 3, narrow: family 4", put_8tap(at(64), 3), run_put_8tap),
-        case("type -2, narrow: family 3", put_8tap(at(64), -2), run_put_8tap),
-        case("start 1024 across", put_8tap(Source { my: 0, ..at(1024) }, 0), run_put_8tap),
-        case("start 1024 down: a row on", put_bilin(Source { my: 1024, ..pair.clone() }), run_put_bilin),
-        case("start -1 down: row -1 counts as zeros", put_bilin(Source { my: -1, ..pair.clone() }), run_put_bilin),
-        case("step -1024: the column before", put_8tap(Source { dx: -1024, ..pair.clone() }, 0), run_put_8tap),
-        case("step 4097: four columns on", put_bilin(Source { dx: 4097, ..pair }), run_put_bilin),
-        case("stride -1: rows upward", put_8tap(upward.clone(), 0), run_put_8tap),
-        case("stride -1: rows upward", put_bilin(Source { my: 512, ..upward }), run_put_bilin),
+        case("type -1: ext at 6 bits, twice as bright each pass", put_8tap(at(64), -1)),
+        case("type 3, narrow: family 4", put_8tap(at(64), 3)),
+        case("type -2, narrow: family 3", put_8tap(at(64), -2)),
+        case("start 1024 across", put_8tap(Source { my: 0, ..at(1024) }, 0)),
+        case("start 1024 down: a row on", put_bilin(Source { my: 1024, ..pair.clone() })),
+        case("start -1 down: row -1 counts as zeros", put_bilin(Source { my: -1, ..pair.clone() })),
+        case("step -1024: the column before", put_8tap(Source { dx: -1024, ..pair.clone() }, 0)),
+        case("step 4097: four columns on", put_bilin(Source { dx: 4097, ..pair })),
+        case("stride -1: rows upward", put_8tap(upward.clone(), 0)),
+        case("stride -1: rows upward", put_bilin(Source { my: 512, ..upward })),
     ]
 }
 
@@ -91,19 +71,15 @@ fn sides() -> Vec<String> {
     let wide = Source { w: 65, src_stride: 65, ..source(8, &[1u8; 600], 198, 0) };
     let tall = Source { h: 65, ..source(8, &[1u8; 80], 3, 0) };
     vec![
-        case("width 65", put_8tap(wide.clone(), 0), run_put_8tap),
-        case("width 65", put_bilin(wide), run_put_bilin),
-        case("height 65", put_8tap(tall, 0), run_put_8tap),
+        case("width 65", put_8tap(wide.clone(), 0)),
+        case("width 65", put_bilin(wide)),
+        case("height 65", put_8tap(tall, 0)),
     ]
 }
 
 /// An accepted call without fractions: no copy, the pixel is cut and clipped on its way.
 fn no_copy(pixel: u16) -> String {
-    case(
-        &format!("accepted; no fraction is no copy of {pixel}"),
-        put_8tap(source(10, &[pixel; 8], 3, 0), 0),
-        run_put_8tap,
-    )
+    case(&format!("accepted; no fraction is no copy of {pixel}"), put_8tap(source(10, &[pixel; 8], 3, 0), 0))
 }
 
 /// An accepted call that wraps within the depth as prep_8tap does.
@@ -111,12 +87,5 @@ fn sixteen_bits() -> String {
     let by = Filters { filter_type: 2, subpel: real_subpel() };
     let from = Source { src_stride: 12, w: 5, h: 5, ..source(10, &greatest_sum(), 39, 512) };
     let call = Prep8tapScaled { tmp: room(&[0; 25]), tmp_stride: 5, from, by };
-    case("accepted; wraps in 16 bits within the depth", call, |c| {
-        let (f, by, stride) = (&c.from, &c.by, c.tmp_stride);
-        with_tables(&by.subpel, &[], &[], &[], || {
-            let (depth, ss, kind) = (BitDepth16::new(10), f.src_stride as isize, by.filter_type);
-            let tmp = &mut c.tmp;
-            mc::prep_8tap_scaled(depth, tmp, stride, &f.src, f.src_off, ss, f.w, f.h, f.mx, f.my, f.dx, f.dy, kind)
-        })
-    })
+    case("accepted; wraps in 16 bits within the depth", call)
 }
