@@ -1,6 +1,6 @@
-//! Where the original and document 01 part, each call run on the original: for each test that document 01 refuses by, a
-//! call that this test alone refuses; then calls that show more of what the Rust does with refused ones, and accepted
-//! ones where a careless port would go another way.
+//! Where the original and document 01 part, each call run on the original: for each test that document 01 refuses by, an
+//! accepted call, changed in what this test is about alone; then calls that show more of what the Rust does with refused
+//! ones, and accepted ones where a careless port would go another way.
 
 mod copied;
 mod filtered;
@@ -28,13 +28,10 @@ const HEAD: &str = "| entry | what | call | the Rust | number |\n|---|---|---|--
 
 /// Prints every case as a row of a table: the call, what the Rust does with it, document 01's number.
 pub fn print() {
-    // A panic is told in its row.
-    panic::set_hook(Box::new(|_| {}));
     println!("{TITLE}");
-    table("Each test of each entry: an accepted call, changed so that this test alone refuses it", tests::cases());
+    table("Each test of each entry: an accepted call, changed in what the test is about alone", tests::cases());
     let more = [copied::cases(), filtered::cases(), scaled::cases(), motion::cases()];
     table("Further calls", more.concat());
-    let _ = panic::take_hook();
 }
 
 /// Prints a table.
@@ -48,7 +45,10 @@ fn table(title: &str, rows: Vec<String>) {
 /// One row: runs the original on the call's own buffers, so that what it wrote before a panic is seen.
 fn case<C: Call + Refuse + Run>(what: &str, mut call: C) -> String {
     let (input, number) = (format!("{call:?}"), call.number());
+    // A panic is told in its row.
+    panic::set_hook(Box::new(|_| {}));
     let ran = panic::catch_unwind(AssertUnwindSafe(|| call.run()));
+    let _ = panic::take_hook();
     let buffers: Vec<String> = call.lent().iter().map(|buffer| shown(&buffer.numbers())).collect();
     let results = ran.unwrap_or("panics".to_string());
     let left = if buffers.is_empty() { String::new() } else { format!("leaves {}", buffers.join(" and ")) };

@@ -1,9 +1,9 @@
 //! emu_edge.
 
-use super::{FAR, changes, nines, ramp};
+use super::{FAR, changes, nines, ramp, refused};
 use crate::calls::edge::EmuEdge;
 
-/// An accepted block of a plane that is as large, at its first pixel, without gaps.
+/// A block at the first pixel of a plane, both without gaps.
 fn edge(bw: usize, bh: usize, iw: usize, ih: usize) -> EmuEdge<u8> {
     let (dst, plane) = (nines(bw * bh), ramp(iw * ih));
     EmuEdge { bw, bh, iw, ih, x: 0, y: 0, dst, dst_stride: bw, plane, plane_stride: iw }
@@ -27,7 +27,7 @@ fn sides() -> Vec<String> {
         ("ih 0", edge(1, 1, 1, 0)),
         ("ih 16,385", EmuEdge { y: 16_384, ..edge(1, 1, 1, 16_385) }),
     ];
-    named.map(|(what, call)| super::case(what, call)).to_vec()
+    named.map(|(what, call)| refused(what, call)).to_vec()
 }
 
 /// Strides and short buffers.

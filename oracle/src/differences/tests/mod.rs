@@ -46,16 +46,21 @@ fn parts<C: Call + Refuse + Run + Clone, S>(
     let row = |(what, change): &Change<S>| {
         let mut call = accepted.clone();
         change(part(&mut call));
-        assert_ne!(call.number(), 0, "{call:?}");
-        case(what, call)
+        refused(what, call)
     };
     changes.iter().map(row).collect()
+}
+
+/// The row of a call that is refused.
+fn refused<C: Call + Refuse + Run>(what: &str, call: C) -> String {
+    assert_ne!(call.number(), 0, "{call:?}");
+    case(what, call)
 }
 
 /// A row for each side of a block outside 1 to 64; `sized` makes the call of w x h.
 fn sides<C: Call + Refuse + Run>(sized: fn(usize, usize) -> C) -> Vec<String> {
     let named = [("w 0", 0, 1), ("w 65", 65, 1), ("h 0", 1, 0), ("h 65", 1, 65)];
-    named.map(|(what, w, h)| case(what, sized(w, h))).to_vec()
+    named.map(|(what, w, h)| refused(what, sized(w, h))).to_vec()
 }
 
 /// A row for each of three depths that the 16-bit set doesn't have; `depth` gives the call's own.
