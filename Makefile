@@ -67,7 +67,7 @@ test: sets $(if $(shell command -v cargo),$(DRAFT))
 	    && ($(call ORACLE,$(DRAFT)) test --offline --release -q) && ($(call ORACLE,$(DRAFT)) run --offline --release -- compare 300) \
 	    && ($(call ORACLE,$(DRAFT)) run --offline --release -- guard 100); fi
 	@why=$$($(lacking)); [ -n "$$why" ] || ($(call ORACLE,$(DRAFT)) run --offline --release -q -- differences) | diff docs/differences-run.md - \
-	    || { echo "docs/differences-run.md isn't what the oracle's differences prints (above, > is printed)."; exit 1; }
+	    || { echo "docs/differences-run.md isn't what the oracle prints for 'differences', which is marked > above."; exit 1; }
 	@tools/timed-ci
 
 compare: $(if $(shell $(lacking)),,$(ARCHIVE))

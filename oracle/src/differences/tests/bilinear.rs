@@ -1,6 +1,6 @@
 //! put_bilin and prep_bilin.
 
-use super::{Change, FAR, changes, depth, depths, nines, parts, ramp, shorts, sides};
+use super::{Change, FAR, changes, depth, depths, nines, parts, ramp, reach, shorts, sides};
 use crate::answer::Px;
 use crate::calls::bilinear::{PrepBilin, PutBilin, Source};
 
@@ -11,7 +11,7 @@ pub fn cases() -> Vec<String> {
 
 /// An accepted source with both fractions, which holds just the places that are read.
 fn source<P: Px>(w: usize, h: usize) -> Source<P> {
-    Source { depth: depth::<P>(), src: ramp(w * (h + 1) + 1), src_stride: w, w, h, mx: 8, my: 8 }
+    Source { depth: depth::<P>(), src: ramp(reach(w, h, 1)), src_stride: w, w, h, mx: 8, my: 8 }
 }
 
 /// An accepted put_bilin.

@@ -92,3 +92,8 @@ fn shorts(places: usize) -> Room<i16> {
 fn ramp<P: Px>(places: usize) -> Room<P> {
     Room((0..places.max(1)).map(|place| P::low(1 + place as i64 % 97)).collect())
 }
+
+/// The places of a source without gaps that has so many more rows and columns than the block; a side of 0 counts as 1.
+fn reach(w: usize, h: usize, more: usize) -> usize {
+    w.max(1) * (h.max(1) + more) + more
+}

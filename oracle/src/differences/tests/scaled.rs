@@ -1,6 +1,6 @@
 //! The scaled kernels.
 
-use super::{Change, FAR, changes, depth, depths, nines, parts, ramp, shorts, sides};
+use super::{Change, FAR, changes, depth, depths, nines, parts, ramp, reach, shorts, sides};
 use crate::answer::Px;
 use crate::calls::scaled::{Filters, Prep8tapScaled, PrepBilinScaled, Put8tapScaled, PutBilinScaled, Source};
 use crate::tables::real_subpel;
@@ -12,13 +12,13 @@ pub fn cases() -> Vec<String> {
 
 /// An accepted source at its own size, a sixteenth on, which holds just what is fetched for 8-tap.
 fn eight<P: Px>(w: usize, h: usize) -> Source<P> {
-    let (src, src_off) = (ramp(w * (h + 7) + 7), 3 * w + 3);
+    let (src, src_off) = (ramp(reach(w, h, 7)), 3 * w + 3);
     Source { depth: depth::<P>(), src, src_off, src_stride: w, w, h, mx: 64, my: 64, dx: 1024, dy: 1024 }
 }
 
 /// The same for bilinear.
 fn two<P: Px>(w: usize, h: usize) -> Source<P> {
-    Source { src: ramp(w * (h + 1) + 1), src_off: 0, ..eight(w, h) }
+    Source { src: ramp(reach(w, h, 1)), src_off: 0, ..eight(w, h) }
 }
 
 /// The original's filters.

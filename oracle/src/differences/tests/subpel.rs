@@ -1,6 +1,6 @@
 //! put_8tap and prep_8tap.
 
-use super::{Change, FAR, changes, depth, depths, nines, parts, ramp, shorts, sides};
+use super::{Change, FAR, changes, depth, depths, nines, parts, ramp, reach, shorts, sides};
 use crate::answer::Px;
 use crate::calls::subpel::{Prep8tap, Put8tap, Source};
 use crate::tables::{real_ext, real_subpel};
@@ -12,7 +12,7 @@ pub fn cases() -> Vec<String> {
 
 /// An accepted source with both fractions, which holds just the places of the taps, with the original's tables.
 fn source<P: Px>(w: usize, h: usize) -> Source<P> {
-    let (src, subpel, ext) = (ramp(w * (h + 7) + 7), real_subpel(), real_ext());
+    let (src, subpel, ext) = (ramp(reach(w, h, 7)), real_subpel(), real_ext());
     let src_off = 3 * w + 3;
     Source { depth: depth::<P>(), src, src_off, src_stride: w, w, h, mx: 1, my: 1, filter_type: 0, subpel, ext }
 }
