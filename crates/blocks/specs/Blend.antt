@@ -10,17 +10,18 @@ use Rattle.rows.specs.Numbers.{isWithin}
 use Rattle.rows.specs.Depth.{maxOf}
 use Rattle.rows.specs.Places.{pick, pixel, fill}
 use Rattle.rows.specs.Combine.{blend, morph}
+use Rattle.rows.specs.Warp.{every}
 use Rattle.blocks.specs.Refuse.{Test, size, stride, number, read, written, above64, _asks_, lowest, orSame, sizeOk, blockSide, strideOk, holds, holdsAll}
 use Rattle.blocks.specs.declared.blend.Spot.{Spot}
+
+-- "meets a mask value above 64" where this fails: in each of the block's h rows, each of the w values is at most 64
+unfoldable pub noneAbove : List ℕ → (w h : ℕ) → Bool
+noneAbove mask w h = every h (λ j. every w (λ i. leb (pixel mask w i j) 64))
 
 -- the first of the n values from place k of the mask on that is above 64, or n places further
 unfoldable pub firstAbove : List ℕ → (k n : ℕ) → ℕ
 firstAbove mask k zero = k
 firstAbove mask k (suc n) = pick (leb (getD mask k 0) 64) (firstAbove mask (suc k) n) k
-
--- no "mask value above 64" among the block's w x h places
-unfoldable pub noneAbove : List ℕ → (w h : ℕ) → Bool
-noneAbove mask w h = leb (w * h) (firstAbove mask 0 (w * h))
 
 -- all but the mask's values
 abbrev pub blendShape : (dl dstStride tl w h ml : ℕ) → List Test

@@ -1,6 +1,6 @@
 // The tests of blend and morph, and blend's search for a value above 64, for both sets of pixels.
 ghost use mathlib.Core.Path.{_≡_};
-ghost use Prim.Native.Nat.{_*_, _≤_};
+ghost use Prim.Native.Nat.{_+_, _*_, _≤_};
 ghost use lib.IntN.{natAbs};
 ghost use lib.ListN.{length};
 ghost use Rattle.rows.specs.inner.Combine.{AtMost};
@@ -33,15 +33,15 @@ pub fn check_blend(dl: usize, dst_stride: usize, tl: usize, w: usize, h: usize, 
     sizes(w, h, stride(w, dst_stride, buffers))
 }
 
-// The largest of the first n values.
-fn largest(mask: &[u8], n: usize) -> u8
-    requires { ⌜ n ≤ length (now mask) ⌝ }
-    ensures { λ r. ⌜ AtMost r (now (mask .entry)) 0 n ⌝ }
+// The largest of the n values from place q on.
+fn largest(mask: &[u8], q: usize, n: usize) -> u8
+    requires { ⌜ q + n ≤ length (now mask) ⌝ }
+    ensures { λ r. ⌜ AtMost r (now (mask .entry)) q n ⌝ }
 {
     let mut m = 0;
     let mut i = 0;
     while i < n {
-        m = larger(m, mask[i]);
+        m = larger(m, mask[q + i]);
         i += 1;
     }
     m
@@ -53,35 +53,27 @@ fn larger(a: u8, b: u8) -> u8
     if a < b { b } else { a }
 }
 
-// The place of the first value above 64 in reading order, where the search ends; row h and column 0 where there is none.
-fn find_above(mask: &[u8], w: usize, h: usize) -> Spot
+// The place of the first value above 64 in reading order, where the search ends; row h and column 0 where there is none. The columns are looked
+// through in a row whose largest value is above 64.
+pub fn first_above(mask: &[u8], w: usize, h: usize) -> Spot
     requires { ⌜ Block w h × Rows (length (now mask)) w w h ⌝ }
     ensures { λ r. ⌜ r ≡ spotAt w (firstAbove (now (mask .entry)) 0 (w * h)) ⌝ }
 {
     let mut row = 0;
     let mut col = 0;
     'search: while row < h {
-        while col < w {
-            if mask[row * w + col] > 64 {
-                break 'search;
+        if largest(mask, row * w, w) > 64 {
+            while col < w {
+                if mask[row * w + col] > 64 {
+                    break 'search;
+                }
+                col += 1;
             }
-            col += 1;
         }
         row += 1;
         col = 0;
     }
     Spot { row, col }
-}
-
-// The same, with no search where the largest value is at most 64.
-pub fn first_above(mask: &[u8], w: usize, h: usize) -> Spot
-    requires { ⌜ Block w h × Rows (length (now mask)) w w h ⌝ }
-    ensures { λ r. ⌜ r ≡ spotAt w (firstAbove (now (mask .entry)) 0 (w * h)) ⌝ }
-{
-    if largest(mask, w * h) <= 64 {
-        return Spot { row: h, col: 0 };
-    }
-    find_above(mask, w, h)
 }
 
 // |v|

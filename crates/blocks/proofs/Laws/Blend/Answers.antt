@@ -2,6 +2,7 @@
 use Rattle.blocks.proofs.Usual.{Bool, List, [], _∷_, _≡_, refl, ap, ℕ, pos, ℤ, negsuc, maxOf, pixel, fill, lowest, holds, strideOk, sizeOk, need, orSame}
 use Rattle.blocks.proofs.Usual.{unique-of}
 use Rattle.rows.specs.Combine.{blend, morph}
+use Rattle.rows.specs.Warp.{every}
 use Rattle.blocks.specs.words.Depth.{depthOk}
 use Rattle.blocks.specs.Blend.{firstAbove, noneAbove, blendTests, spotOf, BlendAnswer, morphTests, MorphAnswer}
 use Rattle.blocks.specs.declared.blend.Spot.{Spot}
@@ -21,11 +22,11 @@ morph-unique deep depth dst ds alpha beta w h r r′ d d′ =
 
 -- a block of two rows of one pixel, at a stride of three; of the mask's two values, the second may be 64, and at 65 is refused at row 1, column 0
 blend-64 : lowest (blendTests 4 3 2 1 2 (0 ∷ 64 ∷ [])) ≡ 0
-unfolding need sizeOk strideOk holds noneAbove firstAbove
+unfolding need sizeOk strideOk holds noneAbove every
 blend-64 = refl
 
 blend-65 : lowest (blendTests 4 3 2 1 2 (0 ∷ 65 ∷ [])) ≡ 7
-unfolding need sizeOk strideOk holds noneAbove firstAbove
+unfolding need sizeOk strideOk holds noneAbove every
 blend-65 = refl
 
 blend-65-at : spotOf 7 1 2 (0 ∷ 65 ∷ []) ≡ record { row = 1; col = 0 }

@@ -1,6 +1,6 @@
 -- blend and morph: what their rows rely on, and which answer each way out of blend is. Assumes nothing.
 use Rattle.blocks.proofs.Usual.{true, Bool, false, List, [], _∷_, _++_, _≡_, _∙_, refl, sym, ap, ℕ, _≤_, _*_, _<_, _^_, _/_, mul-comm, arith, leb-true}
-use Rattle.blocks.proofs.Usual.{le-leb, lt-leb, ne-eqb, ℤ, natAbs, length, pixel, fill, lowest, Test, _asks_, blockSide, holds, strideOk, sizeOk, need}
+use Rattle.blocks.proofs.Usual.{ne-eqb, ℤ, natAbs, length, pixel, fill, lowest, Test, _asks_, blockSide, holds, strideOk, sizeOk, need}
 use Rattle.blocks.proofs.Usual.{orSame, Rows, Block, rows-met, block-met, refused, all-met, later, sooner}
 use native.Mathlib.Nat.{le-div-iff-mul-le, div-lt-iff-lt-mul}
 use Rattle.rows.specs.Combine.{blend}
@@ -9,7 +9,7 @@ use Rattle.blocks.specs.Refuse.{above64}
 use Rattle.blocks.specs.Blend.{firstAbove, noneAbove, blendShape, spotAt, spotOf, BlendAnswer, morphTests}
 use Rattle.blocks.specs.declared.blend.Spot.{Spot}
 use Rattle.blocks.proofs.Laws.Loops.Gapless.{gapless-met}
-use Rattle.blocks.proofs.Laws.Blend.Above.{first-all}
+use Rattle.blocks.proofs.Laws.Blend.Above.{first-all, at-most-met, none-is}
 
 -- ---- blend
 pub blend-ready : {dl ds tl w h ml : ℕ} → lowest (blendShape dl ds tl w h ml) ≡ 0 → Block w h × Rows dl ds w h × Rows tl w w h × Rows ml w w h
@@ -62,25 +62,26 @@ module _ {dst : List ℕ} {ds : ℕ} {tmp : List ℕ} {w h : ℕ} {mask : List �
 
   -- by a value above 64
   pub blend-above : s .row < h → BlendAnswer dst ds tmp w h mask 7 dst (s .row) (s .col)
-  unfolding need noneAbove spotOf orSame
+  unfolding need spotOf orSame
   blend-above lt =
       let k : firstAbove mask 0 (w * h) / w < h = rw (ap (λ (t : Spot). t .row) (p .ends)) at lt in
       let m : firstAbove mask 0 (w * h) < w * h = omega (arith, div-lt-iff-lt-mul (ready .0 .w1) .0 k, mul-comm w h) in
-      (sym (then-mask ∙ rw (lt-leb (w * h) (firstAbove mask 0 (w * h)) m) refl), refl, p .ends)
+      let n = none-is mask w h ∙ ne-eqb (firstAbove mask 0 (w * h)) (w * h) (λ e. omega arith) in
+      (sym (then-mask ∙ rw n refl), refl, p .ends)
 
   -- by neither: the rows get what they rely on
-  none-above : h ≤ s .row → w * h ≤ firstAbove mask 0 (w * h)
+  none-above : h ≤ s .row → AtMost 64 mask 0 (w * h)
   none-above le =
       let k : h ≤ firstAbove mask 0 (w * h) / w = rw (ap (λ (t : Spot). t .row) (p .ends)) at le in
-      omega (arith, le-div-iff-mul-le (ready .0 .w1) .0 k, mul-comm w h)
+      first-all mask 0 (w * h) (omega (arith, le-div-iff-mul-le (ready .0 .w1) .0 k, mul-comm w h))
 
   pub blend-rows : h ≤ s .row → Block w h × Rows (length dst) ds w h × Rows (length tmp) w w h × Rows (length mask) w w h × AtMost 64 mask 0 (w * h)
-  blend-rows le = (ready .0, ready .1, ready .2, ready .3, first-all mask 0 (w * h) (omega (arith, none-above le)))
+  blend-rows le = (ready .0, ready .1, ready .2, ready .3, none-above le)
 
   pub blend-done : h ≤ s .row → (d : List ℕ) → d ≡ fill dst ds w h (λ i j. blend (pixel mask w i j) (pixel dst ds i j) (pixel tmp w i j))
       → BlendAnswer dst ds tmp w h mask 0 d 0 0
-  unfolding need noneAbove spotOf orSame
-  blend-done le d e = (sym (then-mask ∙ rw (le-leb (w * h) (firstAbove mask 0 (w * h)) (none-above le)) refl), e, refl)
+  unfolding need spotOf orSame
+  blend-done le d e = (sym (then-mask ∙ rw (at-most-met mask w h (none-above le)) refl), e, refl)
 
 -- ---- morph
 pub morph-ready : (deep : Bool) (dl ds : ℕ) (alpha beta : ℤ) (w h : ℕ) → lowest (morphTests deep dl ds alpha beta w h) ≡ 0
