@@ -217,6 +217,10 @@ pub extern "C" fn hv_get_shear_params(
         affine: *affine,
     };
     let r = get_shear_params(wm, recip);
+    let number = r.number;
+    if number != 0 {
+        return number;
+    }
     let w = r.warp;
     let m = w.matrix;
     let s = w.abcd;
@@ -224,7 +228,7 @@ pub extern "C" fn hv_get_shear_params(
     *abcd = s;
     let f = w.affine;
     *affine = f;
-    r.number
+    number
 }
 
 // 4 b4 + 2 size4 - 1
@@ -375,8 +379,12 @@ pub extern "C" fn hv_set_affine_mv2d(
         affine: 0,
     };
     let r = set_affine_mv2d(bw4, bh4, mv_x, mv_y, wm, bx4, by4);
+    let number = r.number;
+    if number != 0 {
+        return number;
+    }
     let w = r.warp;
     let m = w.matrix;
     *matrix = m;
-    r.number
+    number
 }
