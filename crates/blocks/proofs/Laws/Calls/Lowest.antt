@@ -12,6 +12,9 @@ use lib.IntN.{ℤ}
 use lib.ListN.{length}
 use Rattle.rows.proofs.Laws.Blocks.Fill.{and-true}
 use Rattle.blocks.proofs.Laws.Calls.Refuse.{Met, all-met, met-all}
+use Rattle.blocks.proofs.Laws.Calls.InOrder.{put-order, prep-order, combine-order, blend-order, morph-order, edge-order, subpel-order, bilin-order}
+use Rattle.blocks.proofs.Laws.Calls.InOrder.{scaled-order, w-mask-order, sads-order, warp-order, divisor-order, shear-order, affine-mv-order}
+use Rattle.blocks.proofs.Laws.Calls.InOrder.{window-order, row-order, order-order}
 use Rattle.blocks.proofs.Laws.Window.Ready.{window-number}
 use Rattle.blocks.specs.Refuse.{Reason, size, stride, number, table, read, written, above64, matrix, numberOf, rankOf}
 use Rattle.blocks.specs.Refuse.{Test, _asks_, need, lowest, inOrder, orSame}
@@ -155,80 +158,65 @@ not-lowest = (refl, refl, λ l. absurd (omega (arith, l 5 refl .least 2 (stride,
 
 -- ---- each entry, by its tests' order
 put-lowest : (dl dstStride sl srcStride w h : ℕ) → GivesLowest (putTests dl dstStride sl srcStride w h)
-unfolding inOrder
-put-lowest dl dstStride sl srcStride w h = gives-lowest _ refl
+put-lowest dl dstStride sl srcStride w h = gives-lowest _ (put-order dl dstStride sl srcStride w h)
 
 prep-lowest : (deep : Bool) (tl tmpStride sl srcStride w h : ℕ) → GivesLowest (prepTests deep tl tmpStride sl srcStride w h)
-unfolding inOrder
-prep-lowest deep tl tmpStride sl srcStride w h = gives-lowest _ refl
+prep-lowest deep tl tmpStride sl srcStride w h = gives-lowest _ (prep-order deep tl tmpStride sl srcStride w h)
 
 combine-lowest : (dl dstStride l1 l2 w h : ℕ) (other mask : Bool) → GivesLowest (combineTests dl dstStride l1 l2 w h other mask)
-unfolding inOrder
-combine-lowest dl dstStride l1 l2 w h other mask = gives-lowest _ refl
+combine-lowest dl dstStride l1 l2 w h other mask = gives-lowest _ (combine-order dl dstStride l1 l2 w h other mask)
 
 blend-lowest : (dl dstStride tl w h : ℕ) (mask : List ℕ) → GivesLowest (blendTests dl dstStride tl w h mask)
-unfolding inOrder
-blend-lowest dl dstStride tl w h mask = gives-lowest _ refl
+blend-lowest dl dstStride tl w h mask = gives-lowest _ (blend-order dl dstStride tl w h mask)
 
 morph-lowest : (deep : Bool) (dl dstStride : ℕ) (alpha beta : ℤ) (w h : ℕ) → GivesLowest (morphTests deep dl dstStride alpha beta w h)
-unfolding inOrder
-morph-lowest deep dl dstStride alpha beta w h = gives-lowest _ refl
+morph-lowest deep dl dstStride alpha beta w h = gives-lowest _ (morph-order deep dl dstStride alpha beta w h)
 
 edge-lowest : (bw bh iw ih : ℕ) (x y : ℤ) (dl dstStride pl planeStride : ℕ) → GivesLowest (edgeTests bw bh iw ih x y dl dstStride pl planeStride)
-unfolding inOrder
-edge-lowest bw bh iw ih x y dl dstStride pl planeStride = gives-lowest _ refl
+edge-lowest bw bh iw ih x y dl dstStride pl planeStride = gives-lowest _ (edge-order bw bh iw ih x y dl dstStride pl planeStride)
 
 subpel-lowest : (deep : Bool) (dl dstStride sl srcOff srcStride w h : ℕ) (mx my filterType : ℤ) (tl el : ℕ)
     → GivesLowest (subpelTests deep dl dstStride sl srcOff srcStride w h mx my filterType tl el)
-unfolding inOrder
-subpel-lowest deep dl dstStride sl srcOff srcStride w h mx my filterType tl el = gives-lowest _ refl
+subpel-lowest deep dl dstStride sl srcOff srcStride w h mx my filterType tl el =
+    gives-lowest _ (subpel-order deep dl dstStride sl srcOff srcStride w h mx my filterType tl el)
 
 bilin-lowest : (deep : Bool) (dl dstStride sl srcStride w h : ℕ) (mx my : ℤ) → GivesLowest (bilinTests deep dl dstStride sl srcStride w h mx my)
-unfolding inOrder
-bilin-lowest deep dl dstStride sl srcStride w h mx my = gives-lowest _ refl
+bilin-lowest deep dl dstStride sl srcStride w h mx my = gives-lowest _ (bilin-order deep dl dstStride sl srcStride w h mx my)
 
 scaled-lowest : (eight deep typed tabled : Bool) (dl dstStride sl srcOff srcStride w h : ℕ) (mx my dx dy : ℤ)
     → GivesLowest (scaledTests eight deep typed tabled dl dstStride sl srcOff srcStride w h mx my dx dy)
-unfolding inOrder
-scaled-lowest eight deep typed tabled dl dstStride sl srcOff srcStride w h mx my dx dy = gives-lowest _ refl
+scaled-lowest eight deep typed tabled dl dstStride sl srcOff srcStride w h mx my dx dy =
+    gives-lowest _ (scaled-order eight deep typed tabled dl dstStride sl srcOff srcStride w h mx my dx dy)
 
 w-mask-lowest : (deep : Bool) (dl dstStride l1 l2 w h ml maskStride : ℕ) (sign : ℤ) (ssHor ssVer : Bool)
     → GivesLowest (wMaskTests deep dl dstStride l1 l2 w h ml maskStride sign ssHor ssVer)
-unfolding inOrder
-w-mask-lowest deep dl dstStride l1 l2 w h ml maskStride sign ssHor ssVer = gives-lowest _ refl
+w-mask-lowest deep dl dstStride l1 l2 w h ml maskStride sign ssHor ssVer =
+    gives-lowest _ (w-mask-order deep dl dstStride l1 l2 w h ml maskStride sign ssHor ssVer)
 
 sads-lowest : (m : ℕ) (deep : Bool) (l0 p0Stride l1 p1Stride w h : ℕ) → GivesLowest (sadsTests m deep l0 p0Stride l1 p1Stride w h)
-unfolding inOrder
-sads-lowest m deep l0 p0Stride l1 p1Stride w h = gives-lowest _ refl
+sads-lowest m deep l0 p0Stride l1 p1Stride w h = gives-lowest _ (sads-order m deep l0 p0Stride l1 p1Stride w h)
 
 warp-lowest : (deep : Bool) (dl dstStride sl srcStride srcOff : ℕ) (a b c d mx my : ℤ) (tl : ℕ)
     → GivesLowest (warpTests deep dl dstStride sl srcStride srcOff a b c d mx my tl)
-unfolding inOrder
-warp-lowest deep dl dstStride sl srcStride srcOff a b c d mx my tl = gives-lowest _ refl
+warp-lowest deep dl dstStride sl srcStride srcOff a b c d mx my tl = gives-lowest _ (warp-order deep dl dstStride sl srcStride srcOff a b c d mx my tl)
 
 divisor-lowest : (d rl : ℕ) → GivesLowest (divisorTests d rl)
-unfolding inOrder
-divisor-lowest d rl = gives-lowest _ refl
+divisor-lowest d rl = gives-lowest _ (divisor-order d rl)
 
 shear-lowest : (m : List ℤ) (rl : ℕ) → GivesLowest (shearTests m rl)
-unfolding inOrder
-shear-lowest m rl = gives-lowest _ refl
+shear-lowest m rl = gives-lowest _ (shear-order m rl)
 
 affine-mv-lowest : (bw4 bh4 mvx mvy : ℤ) (m : List ℤ) (bx4 by4 : ℤ) → GivesLowest (affineMvTests bw4 bh4 mvx mvy m bx4 by4)
-unfolding inOrder
-affine-mv-lowest bw4 bh4 mvx mvy m bx4 by4 = gives-lowest _ refl
+affine-mv-lowest bw4 bh4 mvx mvy m bx4 by4 = gives-lowest _ (affine-mv-order bw4 bh4 mvx mvy m bx4 by4)
 
 window-lowest : (p : LentPlane) (q : Asked) (sl : ℕ) → GivesLowest (windowTests p q sl)
-unfolding inOrder
-window-lowest p q sl = gives-lowest _ refl
+window-lowest p q sl = gives-lowest _ (window-order p q sl)
 
 row-lowest : (p : LentPlane) (row : ℤ) → GivesLowest (rowTests p row)
-unfolding inOrder
-row-lowest p row = gives-lowest _ refl
+row-lowest p row = gives-lowest _ (row-order p row)
 
 order-lowest : (s : Setting) (named : Bool) (o : Order) (sl dl dstStride : ℕ) → GivesLowest (orderTests s named o sl dl dstStride)
-unfolding inOrder
-order-lowest s named o sl dl dstStride = gives-lowest _ refl
+order-lowest s named o sl dl dstStride = gives-lowest _ (order-order s named o sl dl dstStride)
 
 -- ---- three entries answer with a record that has the number, as their contracts say: it is that of their tests
 module _ {A : Type 0} where
