@@ -47,6 +47,7 @@ fn largest(mask: &[u8], q: usize, n: usize) -> u8
     m
 }
 
+// The larger of the two.
 fn larger(a: u8, b: u8) -> u8
     ensures { λ r. ⌜ (a ≤ r) × (b ≤ r) ⌝ }
 {
