@@ -27,8 +27,8 @@ use Rattle.blocks.proofs.bytes.calls.hv_order_put_8bpc.Reads as put-8bp
 use Rattle.blocks.proofs.bytes.calls.hv_order_prep_8bpc.Kinds as prep-8bpc-kinds
 use Rattle.blocks.proofs.bytes.calls.hv_order_prep_8bpc.Reads as prep-8bpc-reads
 use Rattle.blocks.proofs.Laws.Cut.Demand.{CutBlock}
-use Rattle.blocks.proofs.Laws.Cut.Places.{Predicted, ran-predicted, PutSays, PutCalls, putSays, calls-ran, PrepSays, PrepCall, AllPrepped, prepSays}
-use Rattle.blocks.proofs.Laws.Cut.Places.{all-prepped}
+use Rattle.blocks.proofs.Laws.Cut.Places.{Predicted, PutSays, PutCalls, putSays, order-tells, calls-predicted, PrepSays, PrepCall, AllPrepped, prepSays}
+use Rattle.blocks.proofs.Laws.Cut.Places.{order-prep-tells, all-prepped}
 
 -- 0 copied, 1 8-tap, 2 bilinear
 kind-unwarped : (kind : ℕ) (mx my filterType a b c d : ℤ) → kind ≤ 2 → unwarped (kindOf kind mx my filterType a b c d) ≡ true
@@ -42,12 +42,12 @@ kind-unwarped (suc (suc (suc n))) mx my filterType a b c d e = absurd (omega ari
 module _ (s : Setting) (o : Order) (rs : List Rect) (block : CutBlock o rs) where
   put-named : (named : Bool) → named ≡ true → (stride : ℕ) (dst dst′ : List ℕ) → o .w ≤ stride
       → PutCalls (putSays s named (o .kind)) (o .x) (o .y) stride rs dst dst′ → Predicted (o .w) (o .h) stride (endlessPut s o) dst dst′
-  put-named true e stride dst dst′ carries calls = ran-predicted s o stride rs dst dst′ block carries (calls-ran s o stride rs dst dst′ calls)
+  put-named true e stride dst dst′ carries calls = calls-predicted s o stride (putSays s true (o .kind)) (order-tells s (o .kind)) rs dst dst′ block carries calls
   put-named false e stride dst dst′ carries calls = absurd (true≢false (sym e))
 
   prep-named : (named : Bool) → named ≡ true → (calls : Each (PrepCall (prepSays s named (o .kind)) (o .x) (o .y)) rs)
       → AllPrepped (prepSays s named (o .kind)) (o .x) (o .y) (endlessPrep s o) (o .w) (o .h) rs calls
-  prep-named true e calls = all-prepped s o rs block calls
+  prep-named true e calls = all-prepped s o (prepSays s true (o .kind)) (order-prep-tells s (o .kind)) rs block calls
   prep-named false e calls = absurd (true≢false (sym e))
 
 -- ---- the 16-bit set: what isn't the rectangle's own stays from call to call

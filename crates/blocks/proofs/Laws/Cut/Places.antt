@@ -4,7 +4,7 @@ use mathlib.Core.Logic.{_⊎_, inl, inr}
 use mathlib.Core.Bool.{Bool, true, false, _||_, true≢false}
 use mathlib.Core.List.{List, [], _∷_, _++_}
 use Prim.Native.Nat.{ℕ, _+_, _-_, _*_, _/_, _%_, _≤_, _<_}
-use native.Mathlib.Nat.{zero-add, add-mul, mul-le-mul-right, div-add-mod'}
+use native.Mathlib.Nat.{zero-add, le-refl, add-mul, mul-le-mul-right, div-add-mod'}
 use native.Mathlib.Omega.{arith}
 use lib.IntN.{ℤ, pos, _+ℤ_}
 use lib.ListN.{length, getD, take, drop, length-take, length-drop, List·getD-append}
@@ -16,18 +16,17 @@ use Rattle.rows.specs.Cut.{Rect, has, covered, Each, SameSide, begins}
 use Rattle.rows.proofs.Laws.Blocks.Places.{by-lt, row-le, row-fits}
 use Rattle.rows.proofs.Laws.Blocks.Fill.{getD-paint, length-fill, fill-in}
 use Rattle.rows.proofs.Laws.Cut.Cut.{In, box-in, box-true, in-one, beside-fill}
-use Rattle.blocks.specs.inner.Ready.{Rows}
 use Rattle.blocks.specs.Refuse.{orSame, holds}
 use Rattle.blocks.specs.Order.{Setting, endlessPut, endlessPrep, orderTests, orderNumber, orderScratch, orderDst, orderTmp, OrderPutAnswer}
 use Rattle.blocks.specs.Order.{OrderPrepAnswer}
-use Rattle.blocks.specs.Cut.{unwarped, cutOrder, callNumber, callDst, putRects, putNumber}
+use Rattle.blocks.specs.Cut.{cutOrder, callNumber, callDst, putRects, putNumber}
 use Rattle.blocks.specs.declared.order.Order.{Order}
 use Rattle.blocks.specs.declared.order.Kind.{Kind}
 use Rattle.blocks.proofs.Laws.Calls.Refuse.{met-all}
 use Rattle.blocks.proofs.Laws.Order.Ready.{order-met}
-use Rattle.blocks.proofs.Laws.Cut.Calls.{prep-moved, call-met, call-dst, call-tmp, call-tmp-at, begun, drawn, length-drawn}
+use Rattle.blocks.proofs.Laws.Cut.Calls.{prep-moved, call-met, call-dst, begun, drawn, length-drawn}
 use Rattle.blocks.proofs.Laws.Cut.Demand.{CutBlock}
-use Rattle.blocks.proofs.Laws.Cut.Runs.{Ran, run-put}
+use Rattle.blocks.proofs.Laws.Cut.Runs.{Leaves, Left, all-left, left-block, Ran, order-leaves, ran-left}
 
 -- a place past the last row's last pixel is right of the block or below it
 past : (s w h p : ℕ) → (h - 1) * s + w ≤ p → (w ≤ p % s) ⊎ (h ≤ p / s)
@@ -47,25 +46,10 @@ pub record Predicted (w h stride : ℕ) (f : ℕ → ℕ → ℕ) (dst dst′ : 
   -- place k stands at column k % stride of row k / stride
   pub outside : (k : ℕ) → k < length dst → (w ≤ k % stride) ⊎ (h ≤ k / stride) → getD dst′ k 0 ≡ getD dst k 0
 
-module _ (s : Setting) (o : Order) (stride dl : ℕ) where
-  -- each call that answers 0 has its rectangle's rows in what it is lent, and leaves dst as long as it was
-  rows-lent : (rs : List Rect) (dst dst′ : List ℕ) → length dst ≡ dl → Ran s o stride rs dst dst′
-      → Each (λ r. Rows (dl - begins stride r) stride (r .w) (r .h)) rs
-  unfolding Ran Each orderDst orSame
-  rows-lent [] dst dst′ l a = tt
-  rows-lent (r ∷ rs) dst dst′ l a =
-      let k = begins stride r in
-      let lent : length (drop k dst) ≡ dl - k = length-drop k dst ∙ ap (λ (n : ℕ). n - k) l in
-      let m = call-met s (cutOrder o r) (length (a .0)) stride (length (drop k dst)) (sym (a .3 .0)) in
-      let rows = subst (λ (n : ℕ). Rows n stride (r .w) (r .h)) lent (m .1) in
-      let one : take k dst ++ a .2 ≡ lentFrom k (drawn s o stride dl r) dst = ap (λ (d : List ℕ). take k dst ++ d) (a .3 .2) in
-      let b : (1 ≤ stride) × (k ≤ dl) = (omega (arith, m .0, rows), omega (arith, m .0, rows)) in
-      (rows, rows-lent rs (take k dst ++ a .2) dst′ (ap length one ∙ length-drawn s o stride dl r dst l b) (a .4))
-
--- calls as the contracts of orders tell of them, each answering 0, leave the block on the endless plane
-pub ran-predicted : (s : Setting) (o : Order) (stride : ℕ) (rs : List Rect) (dst dst′ : List ℕ) → CutBlock o rs → o .w ≤ stride
-    → Ran s o stride rs dst dst′ → Predicted (o .w) (o .h) stride (endlessPut s o) dst dst′
-ran-predicted s o stride rs dst dst′ p carries a =
+-- calls that each leave a rectangle's own picture leave the block on the endless plane
+pub left-predicted : (s : Setting) (o : Order) (stride : ℕ) (rs : List Rect) (dst dst′ : List ℕ) → CutBlock o rs → o .w ≤ stride
+    → Left stride (λ r. endlessPut s (cutOrder o r)) rs dst dst′ → Predicted (o .w) (o .h) stride (endlessPut s o) dst dst′
+left-predicted s o stride rs dst dst′ p carries a =
     record {
       long = ap length whole ∙ length-fill dst stride (o .w) (o .h) (endlessPut s o);
       within = held;
@@ -74,19 +58,24 @@ ran-predicted s o stride rs dst dst′ p carries a =
       outside = λ k b out. ap (λ (d : List ℕ). getD d k 0) whole ∙ beside-fill 0 dst stride (o .w) (o .h) (endlessPut s o) k b out;
     } where
       whole : dst′ ≡ fill dst stride (o .w) (o .h) (endlessPut s o)
-      whole = run-put s o stride rs dst dst′ p carries a
+      whole = left-block s o stride rs dst dst′ p carries a
 
       held : (i j : ℕ) → i < o .w → j < o .h → j * stride + i < length dst
       held i j u v =
-          in-one rs i j (p .cut .covers i j u v) (rows-lent s o stride (length dst) rs dst dst′ refl a) λ r m q.
+          in-one rs i j (p .cut .covers i j u v) (all-left stride (length dst) _ rs dst dst′ refl a .0) λ r m q.
           let k : r .y + (j - r .y) ≡ j = omega (arith, q) in
           omega (
             arith,
             q,
-            row-fits (length dst - begins stride r) stride (r .w) (r .h) (j - r .y) (m .fits) (omega (arith, q)),
+            row-fits (length dst - begins stride r) stride (r .w) (r .h) (j - r .y) (m .1 .fits) (omega (arith, q)),
             add-mul (r .y) (j - r .y) stride,
             ap (λ (n : ℕ). n * stride) k,
           )
+
+-- calls as the contracts of orders tell of them, each answering 0, do so
+pub ran-predicted : (s : Setting) (o : Order) (stride : ℕ) (rs : List Rect) (dst dst′ : List ℕ) → CutBlock o rs → o .w ≤ stride
+    → Ran s o stride rs dst dst′ → Predicted (o .w) (o .h) stride (endlessPut s o) dst dst′
+ran-predicted s o stride rs dst dst′ p carries a = left-predicted s o stride rs dst dst′ p carries (ran-left s o stride rs dst dst′ a)
 
 -- ---- run as put, each call lent a part of the destination
 
@@ -107,6 +96,16 @@ PutCalls says x y stride (r ∷ rs) dst dst′ =
 abbrev pub putSays : Setting → (named : Bool) → Kind → PutSays
 putSays s named kind x y w h scratch dst stride r scratch′ dst′ =
     OrderPutAnswer s named (record { x = x; y = y; w = w; h = h; kind = kind }) scratch dst stride r scratch′ dst′
+
+-- what such a function tells of a call that answers 0: it leaves its block on the endless plane
+abbrev pub PutTells : PutSays → Setting → Kind → Type 0
+PutTells says s kind =
+    (x y : ℤ) (w h : ℕ) (scratch dst : List ℕ) (stride : ℕ) (scratch′ dst′ : List ℕ) → says x y w h scratch dst stride 0 scratch′ dst′
+    → Leaves w h stride (endlessPut s (record { x = x; y = y; w = w; h = h; kind = kind })) dst dst′
+
+pub order-tells : (s : Setting) (kind : Kind) → PutTells (putSays s true kind) s kind
+order-tells s kind x y w h scratch dst stride scratch′ dst′ a =
+    order-leaves s (record { x = x; y = y; w = w; h = h; kind = kind }) scratch dst stride scratch′ dst′ a
 
 -- an order that isn't refused isn't refused with any other buffer that holds its rows
 pub held-number : (s : Setting) (named : Bool) (o : Order) (sl dl dl′ ds : ℕ) → orderNumber s named o sl dl ds ≡ 0 → (o .h - 1) * ds + o .w ≤ dl′
@@ -187,6 +186,32 @@ module _ {A : Type 0} (z : A) (s w h : ℕ) (f : ℕ → ℕ → A) where
         ∙ getD-drop n d q z
         ∙ ap (λ (k : ℕ). getD d k z) (omega (arith, same, length-take n d))
         ∙ sym (beside-fill z d s w h f p (omega (arith, same)) (past s w h p (omega arith)))
+
+-- what a call leaves in the first n places of d is what it leaves in d
+front-leaves : (w h stride : ℕ) (f : ℕ → ℕ → ℕ) (d part : List ℕ) (n : ℕ) → Leaves w h stride f (take n d) part
+    → Leaves w h stride f d (part ++ drop n d)
+front-leaves w h stride f d part n a =
+    record {
+      block = a .block;
+      rows = record { wide = a .rows .wide; most = a .rows .most; fits = omega (arith, a .rows, length-take n d) };
+      left = ap (λ (l : List ℕ). l ++ drop n d) (a .left) ∙ fill-front 0 stride w h f d n (a .rows .fits);
+    }
+
+-- calls of a function that tells that a call leaves its block's picture
+module _ (s : Setting) (o : Order) (stride : ℕ) (says : PutSays) (tells : PutTells says s (o .kind)) where
+  calls-left : (rs : List Rect) (dst dst′ : List ℕ) → PutCalls says (o .x) (o .y) stride rs dst dst′
+      → Left stride (λ r. endlessPut s (cutOrder o r)) rs dst dst′
+  unfolding PutCalls Left
+  calls-left [] dst dst′ a = a
+  calls-left (r ∷ rs) dst dst′ a =
+      let lent = drop (begins stride r) dst in
+      let one = tells _ _ (r .w) (r .h) (a .1) (take (a .0) lent) stride (a .2) (a .3) (a .4) in
+      let whole = front-leaves (r .w) (r .h) stride (endlessPut s (cutOrder o r)) lent (a .3) (a .0) one in
+      (a .3 ++ drop (a .0) lent, whole, calls-left rs _ dst′ (a .5))
+
+  pub calls-predicted : (rs : List Rect) (dst dst′ : List ℕ) → CutBlock o rs → o .w ≤ stride → PutCalls says (o .x) (o .y) stride rs dst dst′
+      → Predicted (o .w) (o .h) stride (endlessPut s o) dst dst′
+  calls-predicted rs dst dst′ p carries a = left-predicted s o stride rs dst dst′ p carries (calls-left rs dst dst′ a)
 
 -- what each call leaves is what it leaves where all places are lent
 pub calls-ran : (s : Setting) (o : Order) (stride : ℕ) (rs : List Rect) (dst dst′ : List ℕ)
@@ -299,6 +324,19 @@ abbrev pub prepSays : Setting → (named : Bool) → Kind → PrepSays
 prepSays s named kind x y w h scratch tmp stride r scratch′ tmp′ =
     OrderPrepAnswer s named (record { x = x; y = y; w = w; h = h; kind = kind }) scratch tmp stride r scratch′ tmp′
 
+-- what such a function tells of a call that answers 0: it leaves its block on the endless plane
+abbrev pub PrepTells : PrepSays → Setting → Kind → Type 0
+PrepTells says s kind =
+    (x y : ℤ) (w h : ℕ) (scratch : List ℕ) (tmp : List ℤ) (stride : ℕ) (scratch′ : List ℕ) (tmp′ : List ℤ)
+    → says x y w h scratch tmp stride 0 scratch′ tmp′
+    → Leaves w h stride (endlessPrep s (record { x = x; y = y; w = w; h = h; kind = kind })) tmp tmp′
+
+pub order-prep-tells : (s : Setting) (kind : Kind) → PrepTells (prepSays s true kind) s kind
+unfolding orderTmp orSame
+order-prep-tells s kind x y w h scratch tmp stride scratch′ tmp′ a =
+    let m = call-met s (record { x = x; y = y; w = w; h = h; kind = kind }) (length scratch) stride (length tmp) (sym (a .0)) in
+    record { block = m .0; rows = m .1; left = a .2 }
+
 -- such a call can be made where its number doesn't refuse it
 pub prep-call : (s : Setting) (o : Order) (r : Rect) (scratch : List ℕ) (tmp : List ℤ)
     → callNumber s (cutOrder o r) (length scratch) (length tmp) (r .w) ≡ 0 → PrepCall (prepSays s true (o .kind)) (o .x) (o .y) r
@@ -312,60 +350,54 @@ prep-call s o r scratch tmp e =
       told = (sym e, refl, refl);
     }
 
-module _ (s : Setting) (o : Order) (kind : unwarped (o .kind) ≡ true) (r : Rect) (side : SameSide (o .w) (o .h) r)
-    (c : PrepCall (prepSays s true (o .kind)) (o .x) (o .y) r) where
-  zero : callNumber s (cutOrder o r) (length (c .scratch)) (length (c .tmp)) (r .w) ≡ 0
-  zero = sym (c .told .0)
+-- calls of a function that tells so
+module _ (s : Setting) (o : Order) (says : PrepSays) (tells : PrepTells says s (o .kind)) (rs : List Rect) (p : CutBlock o rs) where
+  module _ (r : Rect) (side : SameSide (o .w) (o .h) r) (c : PrepCall says (o .x) (o .y) r) where
+    leaves : Leaves (r .w) (r .h) (r .w) (endlessPrep s (cutOrder o r)) (c .tmp) (c .tmp′)
+    leaves = tells _ _ (r .w) (r .h) (c .scratch) (c .tmp) (r .w) (c .scratch′) (c .tmp′) (c .told)
 
-  left-in : c .tmp′ ≡ fill (c .tmp) (r .w) (r .w) (r .h) (endlessPrep s (cutOrder o r))
-  unfolding orderTmp orSame
-  left-in = c .told .2
+    -- its rows without gaps
+    places : ((r .h - 1) * r .w + r .w ≡ r .h * r .w) × (r .h * r .w ≤ length (c .tmp))
+    places =
+        let e : r .h - 1 + 1 ≡ r .h = omega (arith, leaves .block) in
+        let rows : (r .h - 1) * r .w + r .w ≡ r .h * r .w = omega (arith, add-mul (r .h - 1) 1 (r .w), ap (λ (n : ℕ). n * r .w) e) in
+        (rows, omega (arith, leaves .rows))
 
-  -- its rows without gaps
-  places : ((r .h - 1) * r .w + r .w ≡ r .h * r .w) × (r .h * r .w ≤ length (c .tmp))
-  places =
-      let m = call-met s (cutOrder o r) (length (c .scratch)) (r .w) (length (c .tmp)) zero in
-      let e : r .h - 1 + 1 ≡ r .h = omega (arith, m .0) in
-      let rows : (r .h - 1) * r .w + r .w ≡ r .h * r .w = omega (arith, add-mul (r .h - 1) 1 (r .w), ap (λ (n : ℕ). n * r .w) e) in
-      (rows, omega (arith, m .1))
+    pub call-prepped : Prepped says (o .x) (o .y) (endlessPrep s o) r c
+    call-prepped =
+        record {
+          long = ap length (leaves .left) ∙ length-fill (c .tmp) (r .w) (r .w) (r .h) (endlessPrep s (cutOrder o r));
+          within = places .1;
+          inside =
+              λ i j u v.
+              ap (λ (d : List ℤ). at d (j * r .w + i)) (leaves .left)
+              ∙ fill-in (pos 0) (r .w) (c .tmp) (r .w) (r .h) (endlessPrep s (cutOrder o r)) i j (le-refl (r .w)) u v
+              (omega (arith, row-fits (length (c .tmp)) (r .w) (r .w) (r .h) j (leaves .rows .fits) v))
+              ∙ prep-moved (s .depth) (s .tables) o (p .kind) _ r side i j;
+          outside =
+              λ k b out.
+              ap (λ (d : List ℤ). at d k) (leaves .left)
+              ∙ beside-fill (pos 0) (c .tmp) (r .w) (r .w) (r .h) _ k b (past (r .w) (r .w) (r .h) k (omega (arith, places .0)));
+        }
 
-  pub call-prepped : Prepped (prepSays s true (o .kind)) (o .x) (o .y) (endlessPrep s o) r c
-  call-prepped =
+    has-pixel : (i j : ℕ) → In r i j → Has says (o .x) (o .y) (endlessPrep s o) i j r c
+    has-pixel i j q =
+        let a : r .x + (i - r .x) ≡ i = omega (arith, q) in
+        let b : r .y + (j - r .y) ≡ j = omega (arith, q) in
+        record {
+          covers = box-in r i j (q .left) (q .right) (q .top) (q .low);
+          within = omega (arith, q, call-prepped .long, call-prepped .within, row-le (r .w) {j = j - r .y} {y = r .h} (omega (arith, q)));
+          value = call-prepped .inside (i - r .x) (j - r .y) (omega (arith, q)) (omega (arith, q)) ∙ ap₂ (endlessPrep s o) a b;
+        }
+
+  -- each answering 0, they leave each pixel of the block in a rectangle's intermediate
+  pub all-prepped : (calls : Each (PrepCall says (o .x) (o .y)) rs) → AllPrepped says (o .x) (o .y) (endlessPrep s o) (o .w) (o .h) rs calls
+  all-prepped calls =
       record {
-        long = ap length left-in ∙ length-fill (c .tmp) (r .w) (r .w) (r .h) (endlessPrep s (cutOrder o r));
-        within = places .1;
-        inside =
+        pixels =
             λ i j u v.
-            ap (λ (d : List ℤ). at d (j * r .w + i)) (left-in ∙ sym (call-tmp s (cutOrder o r) (length (c .scratch)) (r .w) (c .tmp) zero))
-            ∙ call-tmp-at s (cutOrder o r) (length (c .scratch)) (c .tmp) zero i j u v
-            ∙ prep-moved (s .depth) (s .tables) o kind _ r side i j;
-        outside =
-            λ k b out.
-            ap (λ (d : List ℤ). at d k) left-in
-            ∙ beside-fill (pos 0) (c .tmp) (r .w) (r .w) (r .h) _ k b (past (r .w) (r .w) (r .h) k (omega (arith, places .0)));
+            some-of _ (SameSide (o .w) (o .h)) (Has says (o .x) (o .y) (endlessPrep s o) i j) rs calls (p .sides) i j (p .cut .covers i j u v)
+            (λ r c side q. has-pixel r side c i j q);
+        each =
+            all-of _ (SameSide (o .w) (o .h)) (Prepped says (o .x) (o .y) (endlessPrep s o)) rs calls (p .sides) (λ r c side. call-prepped r side c);
       }
-
--- calls as the contracts of orders tell of them, each answering 0, leave each pixel of the block in a rectangle's intermediate
-pub all-prepped : (s : Setting) (o : Order) (rs : List Rect) → CutBlock o rs → (calls : Each (PrepCall (prepSays s true (o .kind)) (o .x) (o .y)) rs)
-    → AllPrepped (prepSays s true (o .kind)) (o .x) (o .y) (endlessPrep s o) (o .w) (o .h) rs calls
-all-prepped s o rs p calls =
-    record {
-      pixels =
-          λ i j u v.
-          some-of _ (SameSide (o .w) (o .h)) (Has (prepSays s true (o .kind)) (o .x) (o .y) (endlessPrep s o) i j) rs calls (p .sides) i j
-          (p .cut .covers i j u v) (holds-pixel i j);
-      each =
-          all-of _ (SameSide (o .w) (o .h)) (Prepped (prepSays s true (o .kind)) (o .x) (o .y) (endlessPrep s o)) rs calls (p .sides)
-          (λ r c side. call-prepped s o (p .kind) r side c);
-    } where
-      holds-pixel : (i j : ℕ) (r : Rect) (c : PrepCall (prepSays s true (o .kind)) (o .x) (o .y) r) → SameSide (o .w) (o .h) r → In r i j
-          → Has (prepSays s true (o .kind)) (o .x) (o .y) (endlessPrep s o) i j r c
-      holds-pixel i j r c side q =
-          let one = call-prepped s o (p .kind) r side c in
-          let a : r .x + (i - r .x) ≡ i = omega (arith, q) in
-          let b : r .y + (j - r .y) ≡ j = omega (arith, q) in
-          record {
-            covers = box-in r i j (q .left) (q .right) (q .top) (q .low);
-            within = omega (arith, q, one .long, one .within, row-le (r .w) {j = j - r .y} {y = r .h} (omega (arith, q)));
-            value = one .inside (i - r .x) (j - r .y) (omega (arith, q)) (omega (arith, q)) ∙ ap₂ (endlessPrep s o) a b;
-          }
