@@ -17,3 +17,4 @@ pub mod Warp
 pub mod Cut
 pub mod Order
 pub mod Window
+pub mod Fetch

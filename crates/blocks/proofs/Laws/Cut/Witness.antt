@@ -35,19 +35,19 @@ use Rattle.blocks.proofs.Laws.Cut.CFunctions as functions
 
 module _ (a b c d : ℕ) where
   -- a and b columns, c and d rows; the last is called first
-  abbrev r1 : Rect
+  abbrev pub r1 : Rect
   r1 = record { x = 0; y = 0; w = a; h = c }
 
-  abbrev r2 : Rect
+  abbrev pub r2 : Rect
   r2 = record { x = a; y = 0; w = b; h = c }
 
-  abbrev r3 : Rect
+  abbrev pub r3 : Rect
   r3 = record { x = 0; y = c; w = a; h = d }
 
-  abbrev r4 : Rect
+  abbrev pub r4 : Rect
   r4 = record { x = a; y = c; w = b; h = d }
 
-  abbrev four : List Rect
+  abbrev pub four : List Rect
   four = r4 ∷ r2 ∷ r3 ∷ r1 ∷ []
 
 or-true : (p q : Bool) → q ≡ true → p || q ≡ true
@@ -57,7 +57,7 @@ or-true false q e = e
 first-true : (p q : Bool) → p ≡ true → p || q ≡ true
 first-true p q e = rw e refl
 
-four-cut : (a b c d : ℕ) → Cut (a + b) (c + d) (four a b c d)
+pub four-cut : (a b c d : ℕ) → Cut (a + b) (c + d) (four a b c d)
 unfolding Each covered
 four-cut a b c d =
     record {
