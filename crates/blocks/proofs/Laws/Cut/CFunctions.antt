@@ -42,7 +42,8 @@ kind-unwarped (suc (suc (suc n))) mx my filterType a b c d e = absurd (omega ari
 module _ (s : Setting) (o : Order) (rs : List Rect) (block : CutBlock o rs) where
   put-named : (named : Bool) → named ≡ true → (stride : ℕ) (dst dst′ : List ℕ) → o .w ≤ stride
       → PutCalls (putSays s named (o .kind)) (o .x) (o .y) stride rs dst dst′ → Predicted (o .w) (o .h) stride (endlessPut s o) dst dst′
-  put-named true e stride dst dst′ carries calls = calls-predicted s o stride (putSays s true (o .kind)) (order-tells s (o .kind)) rs dst dst′ block carries calls
+  put-named true e stride dst dst′ carries calls =
+      calls-predicted s o stride (putSays s true (o .kind)) (order-tells s (o .kind)) rs dst dst′ block carries calls
   put-named false e stride dst dst′ carries calls = absurd (true≢false (sym e))
 
   prep-named : (named : Bool) → named ≡ true → (calls : Each (PrepCall (prepSays s named (o .kind)) (o .x) (o .y)) rs)

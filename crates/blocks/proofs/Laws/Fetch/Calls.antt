@@ -27,10 +27,12 @@ windowSays p kind x y w h scratch part apart scratch′ =
     × WindowAnswer p (record { kind = kind; w = w; h = h; x = x; y = y; mode = mode }) scratch 0 buffer place apart len scratch′
     × (part ≡ namedPart buffer place apart len (p .plane) scratch′)
 
--- emu_edge's call for the window, into scratch at any stride that it accepts
+-- emu_edge's call for the window, into scratch at any stride that it accepts, with the plane's sides as iw and ih. (A plane of iw x ih that has no frame is
+-- luma's of a frame of these sides.)
 abbrev pub edgeSays : LentPlane → (kind : ℕ) → FetchSays
 edgeSays p kind x y w h scratch part apart scratch′ =
-    EdgeAnswer (windowSide kind w) (windowSide kind h) (lentW p) (lentH p) (windowStart kind x) (windowStart kind y) scratch apart (p .plane) (p .stride) 0 scratch′
+    EdgeAnswer (windowSide kind w) (windowSide kind h) (lentW p) (lentH p) (windowStart kind x) (windowStart kind y)
+    scratch apart (p .plane) (p .stride) 0 scratch′
     × (part ≡ scratch′)
 
 -- either: each rectangle may be fetched in its own way

@@ -1,6 +1,9 @@
 -- What the contracts of the C functions that fetch or predict tell their callers, as the toolchain reads them: the premises of `CFunctions`, word for word.
 -- v has the parameters, z the number, e the parameters at the end. Assumes nothing.
-use mathlib.Core.Bool.{true}
+use mathlib.Core.Bool.{Bool, true}
+use mathlib.Core.List.{List}
+use Prim.Native.Nat.{ℕ}
+use lib.IntN.{ℤ}
 use denote.Ref.{now}
 use denote.Triple.Clauses.{AtExit}
 use contract.Lifetimes.{Lfts}
@@ -45,21 +48,28 @@ use Rattle.blocks.proofs.words.bilinear.hv_prep_bilin_16bpc.Reads as pr
 use Rattle.blocks.proofs.bytes.calls.hv_prep_bilin_8bpc.Kinds as prep-bilin-8bpc-kinds
 use Rattle.blocks.proofs.bytes.calls.hv_prep_bilin_8bpc.Reads as prep-bilin-8bpc-reads
 
+-- what hv_window of either set says of a call
+abbrev pub window : («luma_w» «luma_h» : ℕ) («ss_hor» «ss_ver» : Bool) («plane_no» : ℕ) (plane : List ℕ) («plane_stride» kind w h : ℕ) (x y : ℤ) (mode : ℕ)
+    (scratch : List ℕ) (r buffer place apart len : ℕ) (scratch′ : List ℕ) → Type 0
+window «luma_w» «luma_h» «ss_hor» «ss_ver» «plane_no» plane «plane_stride» kind w h x y mode scratch r buffer place apart len scratch′ =
+    WindowAnswer
+    (record {
+      frame = record { «luma_w» = «luma_w»; «luma_h» = «luma_h»; «ss_hor» = «ss_hor»; «ss_ver» = «ss_ver» };
+      planeNo = «plane_no»;
+      plane = plane;
+      stride = «plane_stride»;
+    })
+    (record { kind = kind; w = w; h = h; x = x; y = y; mode = mode })
+    scratch r buffer place apart len scratch′
+
 -- hv_window_16bpc
 pub told-window-16bpc : (κs : Lfts 6) (v : Dens κs window-16bpc-kinds.ps) (z : resT window-16bpc-kinds.r κs .Denot)
     (e : AtExit (endedOf 6 window-16bpc-kinds.ps window-16bpc-kinds.r) κs) → window-16bpc-reads.Learnt κs v z e
     → let («luma_w», («luma_h», («ss_hor», («ss_ver», («plane_no», (plane, («plane_stride», (kind, (w, own))))))))) = v in
     let (h, (x, (y, (mode, (scratch, (buffer, (place, (stride, (len, none))))))))) = own in
     let last = e .1 .1 .1 .1 .1 .1 .1 .1 .1 .1 .1 .1 .1 in
-    WindowAnswer
-    (record {
-      frame = record { «luma_w» = «luma_w»; «luma_h» = «luma_h»; «ss_hor» = «ss_hor»; «ss_ver» = «ss_ver» };
-      planeNo = «plane_no»;
-      plane = now plane;
-      stride = «plane_stride»;
-    })
-    (record { kind = kind; w = w; h = h; x = x; y = y; mode = mode })
-    (now scratch) z (now (last .1 .0)) (now (last .1 .1 .0)) (now (last .1 .1 .1 .0)) (now (last .1 .1 .1 .1 .0)) (now (last .0))
+    window «luma_w» «luma_h» «ss_hor» «ss_ver» «plane_no» (now plane) «plane_stride» kind w h x y mode (now scratch) z
+    (now (last .1 .0)) (now (last .1 .1 .0)) (now (last .1 .1 .1 .0)) (now (last .1 .1 .1 .1 .0)) (now (last .0))
 told-window-16bpc κs v z e told = told
 
 -- hv_window_8bpc
@@ -68,15 +78,8 @@ pub told-window-8bpc : (κs : Lfts 6) (v : Dens κs window-8bpc-kinds.ps) (z : r
     → let («luma_w», («luma_h», («ss_hor», («ss_ver», («plane_no», (plane, («plane_stride», (kind, (w, own))))))))) = v in
     let (h, (x, (y, (mode, (scratch, (buffer, (place, (stride, (len, none))))))))) = own in
     let last = e .1 .1 .1 .1 .1 .1 .1 .1 .1 .1 .1 .1 .1 in
-    WindowAnswer
-    (record {
-      frame = record { «luma_w» = «luma_w»; «luma_h» = «luma_h»; «ss_hor» = «ss_hor»; «ss_ver» = «ss_ver» };
-      planeNo = «plane_no»;
-      plane = now plane;
-      stride = «plane_stride»;
-    })
-    (record { kind = kind; w = w; h = h; x = x; y = y; mode = mode })
-    (now scratch) z (now (last .1 .0)) (now (last .1 .1 .0)) (now (last .1 .1 .1 .0)) (now (last .1 .1 .1 .1 .0)) (now (last .0))
+    window «luma_w» «luma_h» «ss_hor» «ss_ver» «plane_no» (now plane) «plane_stride» kind w h x y mode (now scratch) z
+    (now (last .1 .0)) (now (last .1 .1 .0)) (now (last .1 .1 .1 .0)) (now (last .1 .1 .1 .1 .0)) (now (last .0))
 told-window-8bpc κs v z e told = told
 
 -- hv_emu_edge_16bpc
@@ -128,7 +131,8 @@ pub told-put-8tap-16bpc : (κs : Lfts 4) (v : Dens κs put-8tap-16bpc-kinds.ps) 
     (e : AtExit (endedOf 4 put-8tap-16bpc-kinds.ps put-8tap-16bpc-kinds.r) κs) → put-8tap-16bpc-reads.Learnt κs v z e
     → let (depth, (dst, («dst_stride», (src, («src_off», («src_stride», (w, (h, (mx, own))))))))) = v in
     let (my, («filter_type», (subpel, (ext, none)))) = own in
-    Put8Answer (depthOk depth) (up depth) (now dst) «dst_stride» (now src) «src_off» «src_stride» w h mx my «filter_type» (now subpel) (now ext) z (now (e .1 .0))
+    Put8Answer (depthOk depth) (up depth) (now dst) «dst_stride» (now src) «src_off» «src_stride» w h mx my «filter_type»
+    (now subpel) (now ext) z (now (e .1 .0))
 told-put-8tap-16bpc κs v z e told = told
 
 -- hv_put_8tap_8bpc
@@ -136,7 +140,8 @@ pub told-put-8tap-8bpc : (κs : Lfts 4) (v : Dens κs put-8tap-8bpc-kinds.ps) (z
     (e : AtExit (endedOf 4 put-8tap-8bpc-kinds.ps put-8tap-8bpc-kinds.r) κs) → put-8tap-8bpc-reads.Learnt κs v z e
     → let (dst, («dst_stride», (src, («src_off», («src_stride», (w, (h, (mx, (my, own))))))))) = v in
     let («filter_type», (subpel, (ext, none))) = own in
-    Put8Answer true 8 (now dst) «dst_stride» (now src) «src_off» «src_stride» w h mx my «filter_type» (now subpel) (now ext) z (now (e .0))
+    Put8Answer true 8 (now dst) «dst_stride» (now src) «src_off» «src_stride» w h mx my «filter_type»
+    (now subpel) (now ext) z (now (e .0))
 told-put-8tap-8bpc κs v z e told = told
 
 -- hv_prep_8tap_16bpc
@@ -144,7 +149,8 @@ pub told-prep-8tap-16bpc : (κs : Lfts 4) (v : Dens κs prep-8tap-16bpc-kinds.ps
     (e : AtExit (endedOf 4 prep-8tap-16bpc-kinds.ps prep-8tap-16bpc-kinds.r) κs) → prep-8tap-16bpc-reads.Learnt κs v z e
     → let (depth, (tmp, («tmp_stride», (src, («src_off», («src_stride», (w, (h, (mx, own))))))))) = v in
     let (my, («filter_type», (subpel, (ext, none)))) = own in
-    Prep8Answer (depthOk depth) (up depth) (now tmp) «tmp_stride» (now src) «src_off» «src_stride» w h mx my «filter_type» (now subpel) (now ext) z (now (e .1 .0))
+    Prep8Answer (depthOk depth) (up depth) (now tmp) «tmp_stride» (now src) «src_off» «src_stride» w h mx my «filter_type»
+    (now subpel) (now ext) z (now (e .1 .0))
 told-prep-8tap-16bpc κs v z e told = told
 
 -- hv_prep_8tap_8bpc
@@ -152,7 +158,8 @@ pub told-prep-8tap-8bpc : (κs : Lfts 4) (v : Dens κs prep-8tap-8bpc-kinds.ps) 
     (e : AtExit (endedOf 4 prep-8tap-8bpc-kinds.ps prep-8tap-8bpc-kinds.r) κs) → prep-8tap-8bpc-reads.Learnt κs v z e
     → let (tmp, («tmp_stride», (src, («src_off», («src_stride», (w, (h, (mx, (my, own))))))))) = v in
     let («filter_type», (subpel, (ext, none))) = own in
-    Prep8Answer true 8 (now tmp) «tmp_stride» (now src) «src_off» «src_stride» w h mx my «filter_type» (now subpel) (now ext) z (now (e .0))
+    Prep8Answer true 8 (now tmp) «tmp_stride» (now src) «src_off» «src_stride» w h mx my «filter_type»
+    (now subpel) (now ext) z (now (e .0))
 told-prep-8tap-8bpc κs v z e told = told
 
 -- hv_put_bilin_16bpc
