@@ -22,8 +22,7 @@ use Rattle.blocks.specs.Order.{OrderPrepAnswer}
 use Rattle.blocks.specs.Cut.{cutOrder, callNumber, callDst, putRects, putNumber}
 use Rattle.blocks.specs.declared.order.Order.{Order}
 use Rattle.blocks.specs.declared.order.Kind.{Kind}
-use Rattle.blocks.proofs.Laws.Calls.Refuse.{met-all}
-use Rattle.blocks.proofs.Laws.Order.Ready.{order-met}
+use Rattle.blocks.proofs.Laws.Calls.Refuse.{all-met, met-all}
 use Rattle.blocks.proofs.Laws.Cut.Calls.{prep-moved, call-met, call-dst, begun, drawn, length-drawn}
 use Rattle.blocks.proofs.Laws.Cut.Demand.{CutBlock}
 use Rattle.blocks.proofs.Laws.Cut.Runs.{Leaves, Left, all-left, left-block, Ran, order-leaves, ran-left}
@@ -112,47 +111,11 @@ pub held-number : (s : Setting) (named : Bool) (o : Order) (sl dl dl′ ds : ℕ
     → orderNumber s named o sl dl′ ds ≡ 0
 unfolding holds
 held-number s named o sl dl dl′ ds e fits =
-    let m = order-met s named o sl dl ds e in
-    let a = m .shape in
-    let b = m .numbers in
-    let c = m .lent in
-    met-all (orderTests s named o sl dl′ ds) (
-      a .frame,
-      (
-        a .width,
-        (
-          a .height,
-          (
-            a .kind,
-            (
-              a .plane,
-              (
-                a .dst,
-                (
-                  b .deep,
-                  (
-                    b .names,
-                    (
-                      b .named,
-                      (
-                        b .across,
-                        (
-                          b .down,
-                          (
-                            b .motion,
-                            (c .subpel, (c .ext, (c .warp, (c .filters, (c .plane, (c .scratch, (le-leb ((o .h - 1) * ds + o .w) dl′ fits, tt))))))),
-                          ),
-                        ),
-                      ),
-                    ),
-                  ),
-                ),
-              ),
-            ),
-          ),
-        ),
-      ),
-    )
+    let (t1, (t2, (t3, (t4, (t5, (t6, (t7, (t8, (t9, (t10, (t11, (t12, (t13, (t14, (t15, (t16, (t17, (t18, (held, none))))))))))))))))))) =
+    all-met (orderTests s named o sl dl ds) e in
+    let fit = le-leb ((o .h - 1) * ds + o .w) dl′ fits in
+    met-all (orderTests s named o sl dl′ ds)
+    (t1, (t2, (t3, (t4, (t5, (t6, (t7, (t8, (t9, (t10, (t11, (t12, (t13, (t14, (t15, (t16, (t17, (t18, (fit, tt)))))))))))))))))))
 
 module _ {A : Type 0} (z : A) (s w h : ℕ) (f : ℕ → ℕ → A) where
   place : (d : List A) (p : ℕ) → p < length d → getD (fill d s w h f) p z ≡ pick (inBlock w h (p % s) (p / s)) (f (p % s) (p / s)) (getD d p z)
