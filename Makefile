@@ -1,7 +1,7 @@
 # make           prove every crate, and build into dist/ what there is
 # make test      the gate: compare with the Rust where its source is there, then rt ci, whose last line is the verdict
 # make compare   compare at length: N calls of each function at each depth, and N cut blocks of each kind, made from SEED
-# make wrong     try the wrong programs of wrong/, which the prover must refuse
+# make wrong     try the wrong programs of wrong/, which the prover must refuse, and write docs/wrong-programs.md
 # make bench     measure speed against the Rust
 # make sets      hold the byte half, which is made, to the 16-bit half, which is written (tools/sets writes it)
 # make clean     remove what the others made
@@ -59,7 +59,7 @@ target/draft/libblocks.a: crates.txt tools/draft-archive tools/kept-module $(she
 # The made half is held to the written one first, before anything is compiled from it. The verdict is the last line, so rt ci comes last (tools/timed-ci runs
 # it, and prints what each crate and edit took); it proves everything anew.
 test: sets $(if $(shell command -v cargo),$(DRAFT))
-	@if command -v python3 >/dev/null; then tools/reading; fi
+	@if command -v python3 >/dev/null; then tools/reading && tools/wrong-table --check; fi
 	@if command -v cc >/dev/null; then cc -std=c99 -Wall -Wextra -pedantic -Werror -fsyntax-only include/hemavolups.h; fi
 	@if command -v cargo >/dev/null; then cd bindings/rust && HEMAVOLUPS_ARCHIVE='$(abspath $(DRAFT))' cargo test --offline -q; \
 	    else echo "The Rust bindings were not tried: there is no cargo."; fi
