@@ -1,10 +1,11 @@
 //! Where the original and document 01 part, each call run on the original: for each test that document 01 refuses by, an
 //! accepted call, changed in what this test is about alone; then calls that show more of what the Rust does with refused
-//! ones, and accepted ones where a careless port would go another way.
+//! ones, and accepted ones where a careless port, or AV1's rules, would go another way.
 
 mod copied;
 mod filtered;
 mod motion;
+mod public;
 mod run;
 mod scaled;
 mod tests;
@@ -32,6 +33,7 @@ pub fn print() {
     table("Each test of each entry: an accepted call, changed in what the test is about alone", tests::cases());
     let more = [copied::cases(), filtered::cases(), scaled::cases(), motion::cases()];
     table("Further calls", more.concat());
+    table("Accepted calls about the places where AV1's rules part", public::cases());
 }
 
 /// Prints a table.
