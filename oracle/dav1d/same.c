@@ -41,7 +41,8 @@ static void round_of(const int depth) {
     for (int i = 0; i < 64 * 64; i++) other[i] = any(0, max), tmp1[i] = any(-32768, 32767), tmp2[i] = any(-32768, 32767), mask[i] = their_mask[i] = any(0, 64);
     const int w = any(1, 64), h = any(1, 64), mx = any(0, 15), my = any(0, 15), type = any(0, 2), all = 64 * 64, size = SIDE * SIDE;
     const int sx = any(0, 1023), sy = any(0, 1023), dx = any(512, 2048), dy = any(512, 2048), hor = any(0, 1), ver = hor & any(0, 1), sign = any(0, 1);
-    const int bw = any(1, 128), bh = any(1, 128), iw = any(1, SIDE), ih = any(1, SIDE), x = any(-300, 300), y = any(-300, 300), even_w = (w + 1) & ~1, even_h = (h + 1) & ~1;
+    const int bw = any(1, 128), bh = any(1, 128), iw = any(1, SIDE), ih = any(1, SIDE), x = any(-300, 300), y = any(-300, 300);
+    const int even_w = (w + 1) & ~1, even_h = (h + 1) & ~1;
     const int8_t *const subpel = dav1d_mc_subpel_filters[0][0];
     const int16_t abcd[4] = { any(-1000, 1000), any(-1000, 1000), any(-1000, 1000), any(-1000, 1000) };
     const int weight = any(-16, 32), wx = any(-40000, 90000), wy = any(-40000, 90000), both = type | type << 2;
