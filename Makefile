@@ -6,7 +6,7 @@
 # make sets      hold the byte half, which is made, to the 16-bit half, which is written (tools/sets writes it)
 # make clean     remove what the others made
 #
-# Nothing needs the network. Wanted: the kit (rt) and make; python3 for `make wrong`, tools/sets and tools/reading, cargo for what runs the Rust.
+# Nothing needs the network. Wanted: the kit (rt) and make; python3 for `make wrong`, tools/sets, tools/reading and tools/wrong-table, cargo for what runs the Rust.
 
 RAV2D_SRC ?= ../shared/docs/src
 N ?= 20000
