@@ -301,7 +301,7 @@ order-prep-tells s kind x y w h scratch tmp stride scratch′ tmp′ a =
     record { block = m .0; rows = m .1; left = a .2 }
 
 -- such a call can be made where its number doesn't refuse it
-pub prep-call : (s : Setting) (o : Order) (r : Rect) (scratch : List ℕ) (tmp : List ℤ)
+unfoldable pub prep-call : (s : Setting) (o : Order) (r : Rect) (scratch : List ℕ) (tmp : List ℤ)
     → callNumber s (cutOrder o r) (length scratch) (length tmp) (r .w) ≡ 0 → PrepCall (prepSays s true (o .kind)) (o .x) (o .y) r
 unfolding orderTmp orSame
 prep-call s o r scratch tmp e =
