@@ -1,0 +1,2 @@
+-- What the proof of the program's loops cites.
+pub mod Run
