@@ -3,7 +3,7 @@ use mathlib.Core.Path.{_≡_, refl, sym, ap, _∙_, subst}
 use mathlib.Core.Logic.{_⊎_, inl, inr, ⊎-elim}
 use mathlib.Core.Bool.{Bool, true, false, _||_, true≢false}
 use mathlib.Core.List.{List, [], _∷_, _++_}
-use Prim.Native.Nat.{ℕ, _+_, _*_, _/_, _%_, _≤_, _<_}
+use Prim.Native.Nat.{ℕ, _+_, _-_, _*_, _/_, _%_, _≤_, _<_}
 use native.Mathlib.Nat.{div-add-mod'}
 use native.Mathlib.Omega.{arith}
 use lib.Dec.{ltb}
@@ -19,16 +19,16 @@ use Rattle.rows.proofs.Laws.Cut.Cut.{In, box-in, beside-fill}
 use Rattle.blocks.specs.Order.{endlessPut}
 use Rattle.blocks.proofs.Laws.Cut.Places.{Predicted, PutSays, PutCalls}
 use Rattle.blocks.proofs.Laws.Cut.CFunctions as functions
-use Rattle.cut.specs.inner.Tiles.{least}
+use Rattle.cut.specs.inner.Tiles.{least, Left, Piece}
 
 -- ---- pieces of a side
 
-pub least-some : (whole : ℕ) → 0 < least whole
+least-some : (whole : ℕ) → 0 < least whole
 unfolding least
 least-some whole = by-lt 4 whole (λ u. rw (lt-ltb 4 whole u) (omega arith)) λ u. rw (le-ltb 4 whole u) (omega arith)
 
 -- a side that isn't empty has a piece
-pub least-side : (whole : ℕ) → 0 < whole → least whole ≤ whole
+least-side : (whole : ℕ) → 0 < whole → least whole ≤ whole
 unfolding least
 least-side whole some = by-lt 4 whole (λ u. rw (lt-ltb 4 whole u) u) λ u. rw (le-ltb 4 whole u) some
 
@@ -39,6 +39,23 @@ same-side whole n a b =
     by-lt 4 whole
     (λ u. lt-ltb 4 n (omega (arith, rw (lt-ltb 4 whole u) at a)) ∙ sym (lt-ltb 4 whole u))
     λ u. le-ltb 4 n (omega arith) ∙ sym (le-ltb 4 whole u)
+
+-- a side is cut up to the place p: none is left, or enough
+pub record Upto (whole p : ℕ) : Type 0 where
+  pub within : p ≤ whole
+  pub enough : p < whole → least whole ≤ whole - p
+
+pub upto-none : (whole : ℕ) → Upto whole 0
+upto-none whole = record { within = omega arith; enough = λ some. omega (arith, least-side whole some) }
+
+pub upto-left : {whole p : ℕ} → Upto whole p → p < whole → Left whole (whole - p)
+upto-left u some = record { enough = u .enough some; most = omega arith }
+
+pub upto-more : {whole p n : ℕ} → Upto whole p → p < whole → Piece whole (whole - p) n → Upto whole (p + n)
+upto-more u some a = record { within = omega (arith, a); enough = λ more. omega (arith, a .rest (omega arith)) }
+
+pub piece-some : {whole left n : ℕ} → Piece whole left n → 0 < n
+piece-some {whole} a = omega (arith, a, least-some whole)
 
 -- ---- lists of rectangles, one after the other
 
@@ -170,17 +187,17 @@ predicted-fill w h s f d e carries p = ext-getD 0 e (fill d s w h f) (p .long �
 
 -- ---- tiles of hv_order_put_16bpc
 
-module _ (depth : ℤ) («luma_w» «luma_h» : ℕ) («ss_hor» «ss_ver» : Bool) («plane_no» : ℕ) (plane : List ℕ) («plane_stride» kind : ℕ)
-    (mx my «filter_type» a b c d : ℤ) (subpel ext warp : List ℤ) (x y : ℤ) (w h stride : ℕ) (small : kind ≤ 2) (carries : w ≤ stride) where
-  -- they leave the block on the endless plane
+module _ (depth : ℤ) (lw lh : ℕ) (sh sv : Bool) (pn : ℕ) (plane : List ℕ) (ps kind : ℕ) (mx my ft a b c d : ℤ) (subpel ext warp : List ℤ)
+    (x y : ℤ) (w h stride : ℕ) (small : kind ≤ 2) (carries : w ≤ stride) where
+  -- they leave the block on the endless plane: the theorem about the C function, as an equation
   pub tiles-fill : (top : ℕ) (dst dst′ : List ℕ) → h ≤ top
-      → Tiled (functions.put16 depth «luma_w» «luma_h» «ss_hor» «ss_ver» «plane_no» plane «plane_stride» kind mx my «filter_type» a b c d subpel ext warp)
-      x y stride w h (record { x = 0; y = 0; w = w; h = top }) dst dst′
+      → Tiled (functions.put16 depth lw lh sh sv pn plane ps kind mx my ft a b c d subpel ext warp) x y stride w h (record { x = 0; y = 0; w = w; h = top })
+      dst dst′
       → dst′ ≡ fill dst stride w h
       (endlessPut
-      (functions.set16 depth «luma_w» «luma_h» «ss_hor» «ss_ver» «plane_no» plane «plane_stride» kind mx my «filter_type» a b c d subpel ext warp)
-      (functions.order16 depth «luma_w» «luma_h» «ss_hor» «ss_ver» «plane_no» plane «plane_stride» kind mx my «filter_type» a b c d subpel ext warp x y w h))
+      (functions.set16 depth lw lh sh sv pn plane ps kind mx my ft a b c d subpel ext warp)
+      (functions.order16 depth lw lh sh sv pn plane ps kind mx my ft a b c d subpel ext warp x y w h))
   tiles-fill top dst dst′ whole t =
       predicted-fill w h stride _ dst dst′ carries
-      (functions.cut-put-16bpc depth «luma_w» «luma_h» «ss_hor» «ss_ver» «plane_no» plane «plane_stride» kind mx my «filter_type» a b c d subpel ext warp x y w h
-      (t .tiles) small (tiled-cut _ _ _ _ _ _ top dst dst′ whole t) (t .sides) stride dst dst′ carries (t .calls))
+      (functions.cut-put-16bpc depth lw lh sh sv pn plane ps kind mx my ft a b c d subpel ext warp x y w h (t .tiles) small
+      (tiled-cut _ _ _ _ _ _ top dst dst′ whole t) (t .sides) stride dst dst′ carries (t .calls))

@@ -14,16 +14,17 @@ use Rattle.rows.specs.Cut.{Rect, Inside, SameSide}
 use Rattle.rows.proofs.Laws.Numbers.Signed.{back, fit}
 use Rattle.blocks.proofs.Laws.Calls.Refuse.{holds-met}
 use Rattle.blocks.proofs.Laws.Cut.CFunctions as functions
-use Rattle.cut.specs.inner.Tiles.{least}
-use Rattle.cut.proofs.Run.{least-some, least-side, same-side, Tiled, tiled-none, tiled-one, tiled-beside, tiled-below, one-call, tiles-fill}
+use Rattle.cut.proofs.Run.{same-side, Upto, upto-none, upto-left, upto-more, piece-some}
+use Rattle.cut.proofs.Run.{Tiled, tiled-none, tiled-one, tiled-beside, tiled-below, one-call, tiles-fill}
 use Rattle.cut.proofs.tiles.predict_in_tiles.Statement.{statement}
 use Rattle.cut.proofs.tiles.predict_in_tiles.Tie as tie
 
 -- in a row of tiles, the columns before `left` are predicted
 abbrev Inv-loop2 : tie.InvT-loop2
 Inv-loop2 depth lw lh sh sv pn plane ps kind x y w h mx my ft subpel ext warp tw th scratch₀ dst₀ s row top rows left₀ scratch dst left =
-    (left ≤ w) × (left < w → left + least w ≤ w) × (length scratch ≡ length scratch₀) × (length dst ≡ length dst₀)
-    × Tiled (functions.put16 (toZ w32 depth) lw lh sh sv pn plane ps kind (toZ w32 mx) (toZ w32 my) (toZ w32 ft) (pos 0) (pos 0) (pos 0) (pos 0) subpel ext warp)
+    Upto w left × (length scratch ≡ length scratch₀) × (length dst ≡ length dst₀)
+    × Tiled
+    (functions.put16 (toZ w32 depth) lw lh sh sv pn plane ps kind (toZ w32 mx) (toZ w32 my) (toZ w32 ft) (pos 0) (pos 0) (pos 0) (pos 0) subpel ext warp)
     (toZ w32 x) (toZ w32 y) s w h
     (record { x = 0; y = top; w = left; h = rows }) dst₀ dst
 
@@ -33,8 +34,9 @@ abbrev μ-loop2 : tie.MeasureT-loop2
 -- between rows of tiles, the rows above `top` are
 abbrev Inv-loop : tie.InvT-loop
 Inv-loop depth lw lh sh sv pn plane ps kind x y w h mx my ft subpel ext warp tw th scratch₀ dst₀ s row top₀ scratch dst top =
-    (top ≤ h) × (top < h → top + least h ≤ h) × (length scratch ≡ length scratch₀) × (length dst ≡ length dst₀)
-    × Tiled (functions.put16 (toZ w32 depth) lw lh sh sv pn plane ps kind (toZ w32 mx) (toZ w32 my) (toZ w32 ft) (pos 0) (pos 0) (pos 0) (pos 0) subpel ext warp)
+    Upto h top × (length scratch ≡ length scratch₀) × (length dst ≡ length dst₀)
+    × Tiled
+    (functions.put16 (toZ w32 depth) lw lh sh sv pn plane ps kind (toZ w32 mx) (toZ w32 my) (toZ w32 ft) (pos 0) (pos 0) (pos 0) (pos 0) subpel ext warp)
     (toZ w32 x) (toZ w32 y) s w h
     (record { x = 0; y = 0; w = w; h = top }) dst₀ dst
 
@@ -76,17 +78,10 @@ begun c =
     )
 
 loop-holds : tie.Need-loop-holds Inv-loop2 μ-loop2 Inv-loop μ-loop
-loop-holds c = (omega arith, λ some. omega (arith, least-side (entry c .args .h) some), refl, refl, tiled-none _ _ _ _ _ _ _ _ (λ i j q. omega (arith, q)))
-
-piece-requires : tie.Need-piece-requires Inv-loop2 μ-loop2 Inv-loop μ-loop
-piece-requires c κs = record { enough = omega (arith, c .before .loop .inv .1 (c .loop-test .taken)); most = omega arith }
+loop-holds c = (upto-none _, refl, refl, tiled-none _ _ _ _ _ _ _ _ (λ i j q. omega (arith, q)))
 
 loop2-holds : tie.Need-loop2-holds Inv-loop2 μ-loop2 Inv-loop μ-loop
-loop2-holds c =
-    (omega arith, λ some. omega (arith, least-side (entry (tests (c .before)) .args .w) some), refl, refl, tiled-none _ _ _ _ _ _ _ _ (λ i j q. omega (arith, q)))
-
-piece-requires-2 : tie.Need-piece-requires-2 Inv-loop2 μ-loop2 Inv-loop μ-loop
-piece-requires-2 c κs = record { enough = omega (arith, c .before .loop2 .inv .1 (c .loop2-test .taken)); most = omega arith }
+loop2-holds c = (upto-none _, refl, refl, tiled-none _ _ _ _ _ _ _ _ (λ i j q. omega (arith, q)))
 
 -- what a tile's call leaves in scratch and in dst, as long as they were
 abbrev scratch-after : tie.After-hv-order-put-16bpc Inv-loop2 μ-loop2 Inv-loop μ-loop → List ℕ
@@ -104,7 +99,8 @@ long : (c : tie.After-hv-order-put-16bpc Inv-loop2 μ-loop2 Inv-loop μ-loop) �
     (length (scratch-after c) ≡ length (t .scratch)) × (length (dst-after c) ≡ length (t .dst))
 long c =
     let t = tile c .before in let d = t .before .loop2 .dst in
-    (c .hv-order-put-16bpc .kept .1 .1 .1 .1 .1 .1 .1 .1 .1 .1 .1 .1 .1 .1 .1 .1 .1 .1 .1 .1 .1 .1 .1 .0, same-len-mid (begin t) (length d - begin t) d (part-after c) (c .hv-order-put-16bpc .kept .1 .1 .1 .1 .1 .1 .1 .1 .1 .1 .1 .1 .1 .1 .1 .1 .1 .1 .1 .1 .1 .1 .1 .1 .0))
+    let kept = c .hv-order-put-16bpc .kept .1 .1 .1 .1 .1 .1 .1 .1 .1 .1 .1 .1 .1 .1 .1 .1 .1 .1 .1 .1 .1 .1 .1 in
+    (kept .0, same-len-mid (begin t) (length d - begin t) d (part-after c) (kept .1 .0))
 
 same-length : tie.Need-same-length Inv-loop2 μ-loop2 Inv-loop μ-loop
 same-length c = omega (arith, long (c .before .before .before .before .before))
@@ -133,57 +129,48 @@ inside c =
       },
     )
 
-loop2-less : tie.Need-loop2-less Inv-loop2 μ-loop2 Inv-loop μ-loop
-loop2-less c =
-    let t = tile (called c) in
-    omega (arith, t .piece2 .ensures, least-some (entry (tests (row-of (t .before))) .args .w), t .before .loop2-test .taken)
-
 loop2-again : tie.Need-loop2-again Inv-loop2 μ-loop2 Inv-loop μ-loop
 loop2-again c =
-    let k = called c in let t = tile k in let m = k .before .before .before in
-    let l = t .before .before .loop2 in let across = t .piece2 .ensures in (
-      omega (arith, across),
-      λ some. omega (arith, across .rest (omega arith)),
+    let k = called c in let t = tile k in let m = k .before .before .before in let l = t .before .before .loop2 in (
+      upto-more (l .inv .0) (t .before .loop2-test .taken) (t .piece2 .ensures),
       omega (arith, long k),
       omega (arith, long k),
-      tiled-beside _ _ _ _ _ _ (rect k .y) (rect k .x) (rect k .w) (rect k .h) _ _ _ (l .inv .4)
+      tiled-beside _ _ _ _ _ _ (rect k .y) (rect k .x) (rect k .w) (rect k .h) _ _ _ (l .inv .3)
           (tiled-one _ _ _ _ _ _ (rect k) _ _ (inside k .0) (inside k .1)
-          (one-call _ _ _ _ _ _ (rect k) (k .hv-order-put-16bpc .result) (length (l .dst) - begin (t .before)) (l .dst) (l .scratch) (scratch-after k) (part-after k)
+          (one-call _ _ _ _ _ _ (rect k) (k .hv-order-put-16bpc .result) (length (l .dst) - begin (t .before)) (l .dst) (l .scratch)
+          (scratch-after k) (part-after k)
           (back (fit w64 (m .before .moved .ok)) ∙ m .before .moved .ensures)
           (back (fit w64 (m .moved2 .ok)) ∙ m .moved2 .ensures) (c .if4 .left) (k .hv-order-put-16bpc .ensures))),
     )
 
-loop-less : tie.Need-loop-less Inv-loop2 μ-loop2 Inv-loop μ-loop
-loop-less c =
-    let p = c .before .before in
-    omega (arith, p .piece .ensures, least-some (entry (tests (p .before)) .args .h), p .before .loop-test .taken)
-
 loop-again : tie.Need-loop-again Inv-loop2 μ-loop2 Inv-loop μ-loop
 loop-again c =
-    let p = c .before .before in let o = p .before in (
-      omega (arith, p .piece .ensures),
-      λ some. omega (arith, p .piece .ensures .rest (omega arith)),
+    let p = c .before .before in let o = p .before in let l = c .before .loop2 in (
+      upto-more (o .before .loop .inv .0) (o .loop-test .taken) (p .piece .ensures),
       omega arith,
       omega arith,
-      tiled-below _ _ _ _ _ _ (o .before .loop .top) (c .before .loop2 .left) (p .piece .result) _ _ _ (omega arith) (o .before .loop .inv .4) (c .before .loop2 .inv .4),
+      tiled-below _ _ _ _ _ _ (o .before .loop .top) (l .left) (p .piece .result) _ _ _ (omega arith) (o .before .loop .inv .3) (l .inv .3),
     )
 
 returns-5 : tie.Need-returns-5 Inv-loop2 μ-loop2 Inv-loop μ-loop
 returns-5 c zero =
     let e = c .before .before in let f = entry e .fits in
-    let t = rw (back (f .depth), back (f .mx), back (f .my), back (f .filter-type), back (f .x), back (f .y)) at (c .before .loop .inv .4) in
+    let t = rw (back (f .depth), back (f .mx), back (f .my), back (f .filter-type), back (f .x), back (f .y)) at (c .before .loop .inv .3) in
     let tested = e .before .before in
     tiles-fill _ _ _ _ _ _ _ _ _ _ _ _ _ _ _ _ _ _ _ _ _ _ _ _ (tested .if2 .left) (tested .before .if1 .left) (c .before .loop .top) _ _ (omega arith) t
 
 pub predict-in-tiles-spec : {M : Type 1} → statement M
 predict-in-tiles-spec = tie.close (tie.spec Inv-loop2 μ-loop2 Inv-loop μ-loop
     (λ c zero. absurd (omega arith)) (λ c zero. absurd (omega arith)) (λ c κs. search needs) (λ c zero. absurd (omega arith))  -- returns, holds-rows, returns
-    loop-holds (λ c. omega arith) piece-requires loop2-holds (λ c. omega arith) piece-requires-2  -- h - top, w - left
+    loop-holds (λ c. omega arith) (λ c κs. upto-left (c .before .loop .inv .0) (c .loop-test .taken))  -- piece(h, h - top, tile_h)
+    loop2-holds (λ c. omega arith) (λ c κs. upto-left (c .before .loop2 .inv .0) (c .loop2-test .taken))  -- piece(w, w - left, tile_w)
     (λ c. omega arith) (λ c. omega (arith, begun (c .before)))  -- top as usize * dst_stride
     (λ c. omega arith) (λ c. omega (arith, begun (c .before)))  -- + left as usize
     (λ c κs. search needs) (λ c κs. search needs) (λ c. omega arith) (λ c. omega arith)  -- moved twice, columns as usize, rows as usize
     (λ c. omega (arith, begun (tile-of c))) (λ c. begun (tile-of c) .0) (λ c. begun (tile-of c) .0) (λ c. search needs)  -- dst[at..]
     (λ c κs. search needs) same-length same-length-2 returns-4  -- hv-order-put-16bpc
-    (λ c. omega (arith, inside (called c) .0, entry (tests (row-of (tile (called c) .before))) .fits .w)) loop2-less loop2-again  -- left + columns
-    (λ c. omega (arith, c .before .before .piece .ensures, entry (tests (c .before .before .before)) .fits .h)) loop-less loop-again  -- top + rows
+    (λ c. omega (arith, inside (called c) .0, entry (tests (row-of (tile (called c) .before))) .fits .w))  -- left + columns
+    (λ c. let t = tile (called c) in omega (arith, piece-some (t .piece2 .ensures), t .before .loop2-test .taken)) loop2-again  -- loop2-less
+    (λ c. omega (arith, c .before .before .piece .ensures, entry (tests (c .before .before .before)) .fits .h))  -- top + rows
+    (λ c. let p = c .before .before in omega (arith, piece-some (p .piece .ensures), p .before .loop-test .taken)) loop-again  -- loop-less
     (λ c. omega arith) (λ c. omega arith) returns-5)  -- same-length
