@@ -10,13 +10,14 @@ use lib.Dec.{ltb}
 use lib.IntN.{ℤ, pos, _+ℤ_}
 use lib.ListN.{length, getD, take, drop}
 use lib.Seq.{ext-getD}
-use borrow.Author.Tests.{lt-ltb, le-ltb}
+use borrow.Author.Tests.{le-leb, lt-ltb, le-ltb}
 use Rattle.rows.specs.Places.{fill}
 use Rattle.rows.specs.Cut.{Rect, has, covered, Each, Inside, Cut, SameSide, begins}
 use Rattle.rows.proofs.Laws.Blocks.Places.{by-lt}
 use Rattle.rows.proofs.Laws.Blocks.Fill.{length-fill, fill-in}
 use Rattle.rows.proofs.Laws.Cut.Cut.{In, box-in, beside-fill}
 use Rattle.blocks.specs.Order.{endlessPut}
+use Rattle.blocks.specs.Cut.{putNumber}
 use Rattle.blocks.proofs.Laws.Cut.Places.{Predicted, PutSays, PutCalls}
 use Rattle.blocks.proofs.Laws.Cut.CFunctions as functions
 use Rattle.cut.specs.inner.Tiles.{least, Left, Piece}
@@ -201,3 +202,13 @@ module _ (depth : ℤ) (lw lh : ℕ) (sh sv : Bool) (pn : ℕ) (plane : List ℕ
       predicted-fill w h stride _ dst dst′ carries
       (functions.cut-put-16bpc depth lw lh sh sv pn plane ps kind mx my ft a b c d subpel ext warp x y w h (t .tiles) small
       (tiled-cut _ _ _ _ _ _ top dst dst′ whole t) (t .sides) stride dst dst′ carries (t .calls))
+
+  -- the number of a tile's call, whose place and lengths are the tile's
+  pub tile-number : (t : Rect) (x′ y′ : ℤ) (scratch lent scratch′ part : List ℕ) (sl dl r : ℕ) → x′ ≡ x +ℤ pos (t .x) → y′ ≡ y +ℤ pos (t .y)
+      → length scratch ≡ sl → length lent ≡ dl - begins stride t
+      → functions.put16 depth lw lh sh sv pn plane ps kind mx my ft a b c d subpel ext warp x′ y′ (t .w) (t .h) scratch lent stride r scratch′ part
+      → r ≡ putNumber
+      (functions.set16 depth lw lh sh sv pn plane ps kind mx my ft a b c d subpel ext warp)
+      (functions.order16 depth lw lh sh sv pn plane ps kind mx my ft a b c d subpel ext warp x y w h)
+      sl stride dl t
+  tile-number t x′ y′ scratch lent scratch′ part sl dl r ex ey es ed told = told .0 ∙ rw (le-leb kind 3 (omega arith), ex, ey, es, ed) refl

@@ -1,2 +1,3 @@
--- What the contracts of inner functions name.
+-- What the program answers, and what the contracts of its inner functions name.
+pub mod Answer
 pub mod inner

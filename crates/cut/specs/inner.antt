@@ -1,2 +1,2 @@
--- What the contracts of inner functions name: nobody need believe it.
+-- What only the contracts of inner functions name: nobody need believe it.
 pub mod Tiles

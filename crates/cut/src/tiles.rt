@@ -1,10 +1,11 @@
 // A block predicted tile by tile, through the C function that runs orders.
 ghost use mathlib.Core.Path.{_≡_};
 ghost use lib.IntN.{pos, _+ℤ_};
+ghost use lib.ListN.{length};
 ghost use Rattle.rows.specs.Numbers.{up};
-ghost use Rattle.rows.specs.Places.{fill};
 ghost use Rattle.blocks.specs.words.Depth.{depthOk};
-ghost use Rattle.blocks.specs.Order.{kindOf, endlessPut};
+ghost use Rattle.blocks.specs.Order.{kindOf};
+ghost use Rattle.cut.specs.Answer.{TilesAnswer};
 ghost use Rattle.cut.specs.inner.Tiles.{least, Left, Piece};
 use blocks::refuse::holds_rows;
 use blocks::words::order::hv_order_put_16bpc;
@@ -72,8 +73,7 @@ pub fn predict_in_tiles(
     dst: &mut [Pixel],
     dst_stride: usize,
 ) -> u32
-    ensures { λ r. ⌜ (r ≡ 0 → now (dst .exit) ≡ fill (now (dst .entry)) «dst_stride» w h
-        (endlessPut
+    ensures { λ r. ⌜ TilesAnswer
         (record {
           deep = depthOk depth;
           depth = up depth;
@@ -85,7 +85,8 @@ pub fn predict_in_tiles(
           };
           tables = record { subpel = now (subpel .entry); ext = now (ext .entry); warp = now (warp .entry) };
         })
-        (record { x = x; y = y; w = w; h = h; kind = kindOf kind mx my «filter_type» (pos 0) (pos 0) (pos 0) (pos 0) }))) ⌝ }
+        (record { x = x; y = y; w = w; h = h; kind = kindOf kind mx my «filter_type» (pos 0) (pos 0) (pos 0) (pos 0) })
+        kind (length (now (scratch .entry))) «dst_stride» (now (dst .entry)) r (now (dst .exit)) ⌝ }
 {
     let row = w as usize;
     if dst_stride < row {

@@ -4,18 +4,21 @@ use Prim.Native.Nat.{ℕ, _+_, _-_, _*_, _^_, _≤_, _<_}
 use native.Mathlib.Nat.{mul-le-mul-right}
 use native.Mathlib.Omega.{arith}
 use borrow.Author.Needs.{needs}
-use borrow.Author.Tests.{not-false}
+use borrow.Author.Tests.{not-false, not-true}
 use borrow.Rule.Slice.PartMut.{same-len-mid}
-use lib.IntN.{pos}
-use lib.ListN.{length, take, drop}
+use lib.IntN.{pos, _+ℤ_}
+use lib.ListN.{length, take, drop, length-take, length-drop}
 use mir.Syntax.{w32, w64}
 use mir.Val.{toZ}
 use Rattle.rows.specs.Cut.{Rect, Inside, SameSide}
 use Rattle.rows.proofs.Laws.Numbers.Signed.{back, fit}
 use Rattle.blocks.proofs.Laws.Calls.Refuse.{holds-met}
+use Rattle.blocks.proofs.Laws.Calls.Told.{passed}
 use Rattle.blocks.proofs.Laws.Cut.CFunctions as functions
+use Rattle.cut.specs.Answer.{Refusal, TilesAnswer, narrow, warped, short}
+use Rattle.cut.specs.Answer as answer
 use Rattle.cut.proofs.Run.{same-side, Upto, upto-none, upto-left, upto-more, piece-some}
-use Rattle.cut.proofs.Run.{Tiled, tiled-none, tiled-one, tiled-beside, tiled-below, one-call, tiles-fill}
+use Rattle.cut.proofs.Run.{Tiled, tiled-none, tiled-one, tiled-beside, tiled-below, one-call, tile-number, tiles-fill}
 use Rattle.cut.proofs.tiles.predict_in_tiles.Statement.{statement}
 use Rattle.cut.proofs.tiles.predict_in_tiles.Tie as tie
 
@@ -108,9 +111,6 @@ same-length c = omega (arith, long (c .before .before .before .before .before))
 same-length-2 : tie.Need-same-length-2 Inv-loop2 μ-loop2 Inv-loop μ-loop
 same-length-2 c = omega (arith, long (c .before .before .before .before .before))
 
-returns-4 : tie.Need-returns-4 Inv-loop2 μ-loop2 Inv-loop μ-loop
-returns-4 c zero = absurd (c .if4 .taken zero)
-
 -- a tile's rectangle, which is one of a cut
 abbrev rect : tie.After-hv-order-put-16bpc Inv-loop2 μ-loop2 Inv-loop μ-loop → Rect
 rect c =
@@ -129,9 +129,46 @@ inside c =
       },
     )
 
+-- where the call stands, on the plane
+place : (c : tie.After-hv-order-put-16bpc Inv-loop2 μ-loop2 Inv-loop μ-loop) → let m = c .before .before .before in let a = entry (tests (row-of (tile c .before))) .args in
+    (passed w64 (m .before .moved .result) ≡ passed w32 (a .x) +ℤ pos (rect c .x))
+    × (passed w64 (m .moved2 .result) ≡ passed w32 (a .y) +ℤ pos (rect c .y))
+place c =
+    let m = c .before .before .before in
+    (back (fit w64 (m .before .moved .ok)) ∙ m .before .moved .ensures, back (fit w64 (m .moved2 .ok)) ∙ m .moved2 .ensures)
+
+returns : tie.Need-returns Inv-loop2 μ-loop2 Inv-loop μ-loop
+returns c = record { done = λ z. absurd (omega arith); refused = λ n. narrow refl (c .if1 .taken) }
+
+returns-2 : tie.Need-returns-2 Inv-loop2 μ-loop2 Inv-loop μ-loop
+returns-2 c = record { done = λ z. absurd (omega arith); refused = λ n. warped refl (c .if2 .taken) }
+
+returns-3 : tie.Need-returns-3 Inv-loop2 μ-loop2 Inv-loop μ-loop
+returns-3 c = record { done = λ z. absurd (omega arith); refused = λ n. short refl (sym (c .before .holds-rows .ensures) ∙ not-true _ (c .if3 .taken)) }
+
+returns-4 : tie.Need-returns-4 Inv-loop2 μ-loop2 Inv-loop μ-loop
+returns-4 c =
+    let k = c .before .before .before .before .before in let t = tile k .before in let l = t .before .loop2 in
+    let e = tests (row-of t) in let f = entry e .fits in let a = entry e .args in
+    let lent : length (take (length (l .dst) - begin t) (drop (begin t) (l .dst))) ≡ length (a .dst .now) - begin t =
+    length-take (length (l .dst) - begin t) (drop (begin t) (l .dst)) ∙ omega (arith, length-drop (begin t) (l .dst)) in
+    let number = tile-number (passed w32 (a .depth)) (a .luma-w) (a .luma-h) (a .ss-hor) (a .ss-ver) (a .plane-no) (a .plane .now) (a .plane-stride) (a .kind)
+    (passed w32 (a .mx)) (passed w32 (a .my)) (passed w32 (a .filter-type)) (pos 0) (pos 0) (pos 0) (pos 0) (a .subpel .now) (a .ext .now) (a .warp .now)
+    (passed w32 (a .x)) (passed w32 (a .y)) (a .w) (a .h) (a .dst-stride) (e .before .before .if2 .left) (e .before .before .before .if1 .left)
+    (rect k) _ _ (l .scratch) (take (length (l .dst) - begin t) (drop (begin t) (l .dst))) (scratch-after k) (part-after k)
+    (length (a .scratch .now)) (length (a .dst .now)) (k .hv-order-put-16bpc .result) (place k .0) (place k .1) (omega arith) lent
+    (k .hv-order-put-16bpc .ensures) in
+    record {
+      done = λ z. absurd (c .if4 .taken z);
+      refused =
+          λ n.
+          answer.tile (rect k) (inside k .0) (inside k .1)
+          (rw (back (f .depth), back (f .mx), back (f .my), back (f .filter-type), back (f .x), back (f .y)) at number);
+    }
+
 loop2-again : tie.Need-loop2-again Inv-loop2 μ-loop2 Inv-loop μ-loop
 loop2-again c =
-    let k = called c in let t = tile k in let m = k .before .before .before in let l = t .before .before .loop2 in (
+    let k = called c in let t = tile k in let l = t .before .before .loop2 in (
       upto-more (l .inv .0) (t .before .loop2-test .taken) (t .piece2 .ensures),
       omega (arith, long k),
       omega (arith, long k),
@@ -139,8 +176,7 @@ loop2-again c =
           (tiled-one _ _ _ _ _ _ (rect k) _ _ (inside k .0) (inside k .1)
           (one-call _ _ _ _ _ _ (rect k) (k .hv-order-put-16bpc .result) (length (l .dst) - begin (t .before)) (l .dst) (l .scratch)
           (scratch-after k) (part-after k)
-          (back (fit w64 (m .before .moved .ok)) ∙ m .before .moved .ensures)
-          (back (fit w64 (m .moved2 .ok)) ∙ m .moved2 .ensures) (c .if4 .left) (k .hv-order-put-16bpc .ensures))),
+          (place k .0) (place k .1) (c .if4 .left) (k .hv-order-put-16bpc .ensures))),
     )
 
 loop-again : tie.Need-loop-again Inv-loop2 μ-loop2 Inv-loop μ-loop
@@ -153,15 +189,20 @@ loop-again c =
     )
 
 returns-5 : tie.Need-returns-5 Inv-loop2 μ-loop2 Inv-loop μ-loop
-returns-5 c zero =
+returns-5 c =
     let e = c .before .before in let f = entry e .fits in
     let t = rw (back (f .depth), back (f .mx), back (f .my), back (f .filter-type), back (f .x), back (f .y)) at (c .before .loop .inv .3) in
     let tested = e .before .before in
-    tiles-fill _ _ _ _ _ _ _ _ _ _ _ _ _ _ _ _ _ _ _ _ _ _ _ _ (tested .if2 .left) (tested .before .if1 .left) (c .before .loop .top) _ _ (omega arith) t
+    record {
+      done =
+          λ z.
+          tiles-fill _ _ _ _ _ _ _ _ _ _ _ _ _ _ _ _ _ _ _ _ _ _ _ _ (tested .if2 .left) (tested .before .if1 .left) (c .before .loop .top) _ _ (omega arith) t;
+      refused = λ n. absurd (n refl);
+    }
 
 pub predict-in-tiles-spec : {M : Type 1} → statement M
 predict-in-tiles-spec = tie.close (tie.spec Inv-loop2 μ-loop2 Inv-loop μ-loop
-    (λ c zero. absurd (omega arith)) (λ c zero. absurd (omega arith)) (λ c κs. search needs) (λ c zero. absurd (omega arith))  -- returns, holds-rows, returns
+    returns returns-2 (λ c κs. search needs) returns-3  -- holds-rows-requires
     loop-holds (λ c. omega arith) (λ c κs. upto-left (c .before .loop .inv .0) (c .loop-test .taken))  -- piece(h, h - top, tile_h)
     loop2-holds (λ c. omega arith) (λ c κs. upto-left (c .before .loop2 .inv .0) (c .loop2-test .taken))  -- piece(w, w - left, tile_w)
     (λ c. omega arith) (λ c. omega (arith, begun (c .before)))  -- top as usize * dst_stride
