@@ -44,8 +44,8 @@ fn moved(place: i32, by: u32) -> i64
 }
 
 // The copied, 8-tap or bilinear block of w x h whose first pixel is at x, y of the plane, cut into tiles of about tile_w x tile_h, each by a call of its own.
-// An answer of 0: dst has the block as the endless plane has it, and nothing else changed. Else it is 2, 3 or 6, where no call is made (dst's stride doesn't carry
-// the block, it is warped, dst doesn't hold it), or the number of the first tile that is refused; the tiles before that stay.
+// An answer of 0: dst has the block as the endless plane has it, and nothing else changed. Else it is 2, 3 or 6, where no call is made (dst's stride
+// doesn't carry the block, it is warped, dst doesn't hold it), or the number of the first tile that is refused; the tiles before that stay.
 // Places of 32 bits leave no block out: an order's is within 2^30.
 pub fn predict_in_tiles(
     depth: i32,

@@ -130,7 +130,8 @@ inside c =
     )
 
 -- where the call stands, on the plane
-place : (c : tie.After-hv-order-put-16bpc Inv-loop2 μ-loop2 Inv-loop μ-loop) → let m = c .before .before .before in let a = entry (tests (row-of (tile c .before))) .args in
+place : (c : tie.After-hv-order-put-16bpc Inv-loop2 μ-loop2 Inv-loop μ-loop) → let m = c .before .before .before in
+    let a = entry (tests (row-of (tile c .before))) .args in
     (passed w64 (m .before .moved .result) ≡ passed w32 (a .x) +ℤ pos (rect c .x))
     × (passed w64 (m .moved2 .result) ≡ passed w32 (a .y) +ℤ pos (rect c .y))
 place c =
