@@ -24,7 +24,7 @@ use Rattle.blocks.specs.Order.{Tables, Setting, putRule, putPicture}
 use Rattle.blocks.specs.declared.order.BilinMotion.{BilinMotion}
 use Rattle.blocks.specs.declared.order.Kind.the-variants.{Bilinear}
 use Rattle.blocks.proofs.Laws.Cut.Places.{Predicted, PutCalls, PrepCall, AllPrepped}
-use Rattle.blocks.proofs.Laws.Cut.Witness.{r1, r2, r3, r4, four, four-cut}
+use Rattle.blocks.proofs.Laws.Cut.Witness.Four.{r1, r2, r3, r4, four, four-cut}
 use Rattle.blocks.proofs.Laws.Fetch.Calls.{fetchSays, KernelSays, fetchThen}
 use Rattle.blocks.proofs.Laws.Fetch.Kernels.{putBilinKernel, prepBilinKernel, blockPut, blockPrep}
 use Rattle.blocks.proofs.Laws.Fetch.CFunctions.{words, bytes, fetch-cut-put-bilin-8bpc, fetch-cut-prep-bilin-16bpc}

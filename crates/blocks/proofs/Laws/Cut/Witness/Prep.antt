@@ -2,7 +2,7 @@
 use mathlib.Core.Path.{_≡_, refl}
 use mathlib.Core.Bool.{true, false}
 use mathlib.Core.List.{List, [], _∷_}
-use Prim.Native.Nat.{ℕ, _+_, _*_, _/_, _%_}
+use Prim.Native.Nat.{ℕ, _+_, _*_, _/_, _%_, _≤_}
 use lib.IntN.{ℤ, pos, negsuc}
 use Rattle.rows.specs.Numbers.{sumZ, low16, at}
 use Rattle.rows.specs.Places.{rowFrom, rowOf, paint, fillIn, fill, inBlock}
@@ -10,8 +10,8 @@ use Rattle.rows.specs.Copy.{prep}
 use Rattle.rows.specs.Bilinear.{bilin, R, along, down, bilinMid, prepBilin}
 use Rattle.rows.specs.Edge.{endless, aroundAt}
 use Rattle.rows.specs.Subpel.{filter, family, axis, S, tapped, mid, prep8}
-use Rattle.rows.specs.Cut.{Rect, Each}
-use Rattle.rows.proofs.Laws.Cut.Cut.{each-both}
+use Rattle.rows.specs.Cut.{Rect, Each, SameSide}
+use Rattle.rows.proofs.Laws.Cut.Cut.{each-map, each-both}
 use Rattle.blocks.specs.words.Depth.{depthOk}
 use Rattle.blocks.specs.Refuse.{need, sizeOk, strideOk, holds, wholeFilters}
 use Rattle.blocks.specs.Edge.{placeOk}
@@ -21,8 +21,9 @@ use Rattle.blocks.specs.Window.{planeSide, frameSizesOk, frameNamesOk, b
 use Rattle.blocks.specs.Order.{kindOf, kindSizeOk, motionOk, filtersOk, prepRule, prepPicture, endlessPrep}
 use Rattle.blocks.specs.Cut.{cutOrder}
 use Rattle.blocks.proofs.Laws.Cut.Demand.{prepNumber}
-use Rattle.blocks.proofs.Laws.Cut.Places.{PrepSays, PrepCall, prepSays, prep-call}
+use Rattle.blocks.proofs.Laws.Cut.Places.{PrepSays, PrepCall, AllPrepped, prepSays, prep-call}
 use Rattle.blocks.proofs.Laws.Cut.CFunctions as functions
+use Rattle.blocks.proofs.Laws.Cut.Witness.Four.{four-cut}
 use Rattle.blocks.proofs.Laws.Cut.Witness.Plane.{shades, odd, scratch, none}
 use Rattle.blocks.proofs.Laws.Cut.Witness.Cases as cases
 
@@ -134,3 +135,28 @@ prep-8bpc = (
   ran (cases.filtered 8 1) filtered8 (computed .2),
   ran (cases.bilinear 8 1) bilinear8 (computed .5),
 )
+
+-- and the theorems about the C functions speak of them: each pixel of the block is in the intermediate of a rectangle that has it
+module _ (t : cases.Case) (block : List ℤ) (small : t .kind ≤ 2) (sides : Each (SameSide (t .a + t .b) (t .c + t .d)) (cases.rects t)) where
+  pub prepped-16bpc : (calls : Called16 t block)
+      → AllPrepped
+      (functions.prep16 (pos (t .depth)) 2 2 false false 0 (shades (t .m)) 2 (t .kind) (pos (t .mx)) (pos (t .my)) none none none none none odd [] [])
+      (negsuc 0) (pos 0)
+      (endlessPrep
+      (functions.set16 (pos (t .depth)) 2 2 false false 0 (shades (t .m)) 2 (t .kind) (pos (t .mx)) (pos (t .my)) none none none none none odd [] [])
+      (cases.block t))
+      (t .a + t .b) (t .c + t .d) (cases.rects t) (each-map _ _ (cases.rects t) (λ r l. l .0) calls)
+  prepped-16bpc calls =
+      functions.cut-prep-16bpc (pos (t .depth)) 2 2 false false 0 (shades (t .m)) 2 (t .kind) (pos (t .mx)) (pos (t .my)) none none none none none odd [] []
+      (negsuc 0) (pos 0) (t .a + t .b) (t .c + t .d) (cases.rects t) small (four-cut (t .a) (t .b) (t .c) (t .d)) sides
+      (each-map _ _ (cases.rects t) (λ r l. l .0) calls)
+
+  pub prepped-8bpc : (calls : Called8 t block)
+      → AllPrepped (functions.prep8 2 2 false false 0 (shades (t .m)) 2 (t .kind) (pos (t .mx)) (pos (t .my)) none none none none none odd [] [])
+      (negsuc 0) (pos 0)
+      (endlessPrep (functions.set8 2 2 false false 0 (shades (t .m)) 2 (t .kind) (pos (t .mx)) (pos (t .my)) none none none none none odd [] []) (cases.block t))
+      (t .a + t .b) (t .c + t .d) (cases.rects t) (each-map _ _ (cases.rects t) (λ r l. l .0) calls)
+  prepped-8bpc calls =
+      functions.cut-prep-8bpc 2 2 false false 0 (shades (t .m)) 2 (t .kind) (pos (t .mx)) (pos (t .my)) none none none none none odd [] []
+      (negsuc 0) (pos 0) (t .a + t .b) (t .c + t .d) (cases.rects t) small (four-cut (t .a) (t .b) (t .c) (t .d)) sides
+      (each-map _ _ (cases.rects t) (λ r l. l .0) calls)
