@@ -10,7 +10,7 @@ use Rattle.blocks.proofs.Laws.Cut.Witness.Four.{four}
 use Rattle.blocks.proofs.Laws.Cut.Witness.Plane.{on, odd, order, nines, none}
 
 pub record Case : Type 0 where
-  -- and how bright the plane is
+  -- the depth, and how bright the plane is
   pub depth : ℕ
   pub m : ℕ
   -- as a C function takes them
