@@ -6,7 +6,7 @@
 # make sets      hold the byte half, which is made, to the 16-bit half, which is written (tools/sets writes it)
 # make clean     remove what the others made
 #
-# Nothing needs the network. Wanted: the kit (rt) and make; python3 for `make wrong`, tools/sets, tools/reading and tools/wrong-table, cargo for what runs the Rust.
+# Nothing needs the network. Wanted: the kit (rt) and make; python3 for `make wrong`, tools/sets, tools/reading, tools/equations and tools/wrong-table, cargo for what runs the Rust.
 
 RAV2D_SRC ?= ../shared/docs/src
 N ?= 20000
@@ -59,7 +59,7 @@ target/draft/libblocks.a: crates.txt tools/draft-archive tools/kept-module $(she
 # The made half is held to the written one first, before anything is compiled from it. The verdict is the last line, so rt ci comes last (tools/timed-ci runs
 # it, and prints what each crate and edit took); it proves everything anew.
 test: sets $(if $(shell command -v cargo),$(DRAFT))
-	@if command -v python3 >/dev/null; then tools/reading && tools/wrong-table --check; fi
+	@if command -v python3 >/dev/null; then tools/reading && tools/equations && tools/wrong-table --check; fi
 	@if command -v cc >/dev/null; then cc -std=c99 -Wall -Wextra -pedantic -Werror -fsyntax-only include/hemavolups.h; fi
 	@if command -v cargo >/dev/null; then cd bindings/rust && HEMAVOLUPS_ARCHIVE='$(abspath $(DRAFT))' cargo test --offline -q; \
 	    else echo "The Rust bindings were not tried: there is no cargo."; fi
