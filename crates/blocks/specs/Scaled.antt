@@ -11,6 +11,7 @@ use Rattle.rows.specs.Depth.{bitsOf, biasOf, maxOf}
 use Rattle.rows.specs.Places.{fill, around}
 use Rattle.rows.specs.Numbers.{up, between}
 use Rattle.rows.specs.Subpel.{Axis, family}
+use Rattle.rows.specs.Warp.{every}
 use Rattle.rows.specs.Scaled.{position, pixelOf, sixteenth, inFamily, putScaled, prepScaled, putBilinScaled, prepBilinScaled}
 use Rattle.blocks.specs.Refuse.{Test, size, stride, number, table, read, written, _asks_, lowest, orSame, sizeOk, blockSide, strideOk, holds, reads}
 use Rattle.blocks.specs.Subpel.{subpelOk}
@@ -27,11 +28,6 @@ stepOk v = between (pos 0) (pos 4096) v
 unfoldable pub scaledTypeOk : ℤ → Bool
 scaledTypeOk t = between (pos 0) (pos 2) t
 
--- g 0, g 1, .. g (n - 1) are all true
-unfoldable pub each : ℕ → (ℕ → Bool) → Bool
-each zero g = true
-each (suc n) g = each n g && g n
-
 -- "A place counts as read where the Rust fetches it, also at fraction 0". What is fetched for the column at position p, in n rows from the block's first on.
 -- 8-tap: in these, three rows above and four below, the pixel alone where the top four bits of its fraction are 0, otherwise all eight. Bilinear: in these
 -- and one row below, the pixel and the next
@@ -42,7 +38,7 @@ columnRead false sl o s n p = reads sl (o + pixelOf p) s 1 n 0 1 0 1
 -- every column is so fetched, in every row from the first to the one that the block's last row is in, also in a row that a step passes over
 unfoldable pub readsScaled : (eight : Bool) (sl o s w h : ℕ) (mx my dx dy : ℤ) → Bool
 readsScaled eight sl o s w h mx my dx dy =
-    each w (λ x. columnRead eight sl o s (1 + pixelOf (position (up my) (up dy) (h - 1))) (position (up mx) (up dx) x))
+    every w (λ x. columnRead eight sl o s (1 + pixelOf (position (up my) (up dy) (h - 1))) (position (up mx) (up dx) x))
 
 -- "Refusals: start, step and type are number 3, with the old order". typed and tabled are the outcomes of the type's and the table's tests, true for bilinear
 abbrev pub scaledTests : (eight deep typed tabled : Bool) (dl dstStride sl srcOff srcStride w h : ℕ) (mx my dx dy : ℤ) → List Test

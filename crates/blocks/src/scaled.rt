@@ -7,7 +7,7 @@ ghost use Rattle.rows.specs.Places.{rowOf};
 ghost use Rattle.rows.specs.Subpel.{family};
 ghost use Rattle.rows.specs.Scaled.{sixteenth, pixelOf, position, inFamily, prepDown};
 ghost use Rattle.blocks.specs.Refuse.{need, lowest};
-ghost use Rattle.blocks.specs.Scaled.{startOk, stepOk, scaledTypeOk, columnRead, readsScaled, each, scaledTests};
+ghost use Rattle.blocks.specs.Scaled.{startOk, stepOk, scaledTypeOk, columnRead, readsScaled, scaledTests};
 ghost use Rattle.blocks.specs.inner.Scaled.{scaledPlan, Turned, byParity};
 use crate::numbers::up32;
 use crate::refuse::held;

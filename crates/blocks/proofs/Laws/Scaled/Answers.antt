@@ -2,7 +2,8 @@
 use Rattle.blocks.proofs.Usual.{true, Bool, false, List, _≡_, refl, ℕ, pos, ℤ, negsuc, lowest, holds, strideOk, sizeOk, need, reads, unique}
 use Rattle.blocks.specs.words.Depth.{depthOk}
 use Rattle.blocks.specs.Subpel.{subpelOk}
-use Rattle.blocks.specs.Scaled.{startOk, stepOk, scaledTypeOk, each, columnRead, readsScaled, scaledTests}
+use Rattle.rows.specs.Warp.{every}
+use Rattle.blocks.specs.Scaled.{startOk, stepOk, scaledTypeOk, columnRead, readsScaled, scaledTests}
 use Rattle.blocks.specs.Scaled.{Put8ScaledAnswer, Prep8ScaledAnswer, PutBilinScaledAnswer, PrepBilinScaledAnswer}
 
 -- ---- two results that meet one answer are equal
@@ -34,24 +35,24 @@ abbrev eight : (deep : Bool) (sl o : ℕ) → ℕ
 eight deep sl o = lowest (scaledTests true deep (scaledTypeOk (pos 2)) (subpelOk 600) 64 8 sl o 22 8 8 (pos 960) (pos 320) (pos 2048) (pos 700))
 
 accepted-8 : eight true 286 69 ≡ 0
-unfolding need sizeOk strideOk holds reads startOk stepOk scaledTypeOk subpelOk each columnRead readsScaled
+unfolding need sizeOk strideOk holds reads startOk stepOk scaledTypeOk subpelOk every columnRead readsScaled
 accepted-8 = refl
 
 accepted-16 : eight (depthOk (pos 12)) 286 69 ≡ 0
-unfolding need sizeOk strideOk holds reads startOk stepOk scaledTypeOk subpelOk each columnRead readsScaled depthOk
+unfolding need sizeOk strideOk holds reads startOk stepOk scaledTypeOk subpelOk every columnRead readsScaled depthOk
 accepted-16 = refl
 
 -- one place less at either end, and an offset near 2^64
 one-less : eight true 285 69 ≡ 5
-unfolding need sizeOk strideOk holds reads startOk stepOk scaledTypeOk subpelOk each columnRead readsScaled
+unfolding need sizeOk strideOk holds reads startOk stepOk scaledTypeOk subpelOk every columnRead readsScaled
 one-less = refl
 
 one-before : eight true 286 68 ≡ 5
-unfolding need sizeOk strideOk holds reads startOk stepOk scaledTypeOk subpelOk each columnRead readsScaled
+unfolding need sizeOk strideOk holds reads startOk stepOk scaledTypeOk subpelOk every columnRead readsScaled
 one-before = refl
 
 far-off : eight true 286 18446744073709551615 ≡ 5
-unfolding need sizeOk strideOk holds reads startOk stepOk scaledTypeOk subpelOk each columnRead readsScaled
+unfolding need sizeOk strideOk holds reads startOk stepOk scaledTypeOk subpelOk every columnRead readsScaled
 far-off = refl
 
 -- by bilinear in a source of 16 x 7 that begins at the first pixel
@@ -59,28 +60,28 @@ abbrev two : (deep : Bool) (sl o : ℕ) → ℕ
 two deep sl o = lowest (scaledTests false deep true true 64 8 sl o 16 8 8 (pos 960) (pos 320) (pos 2048) (pos 700))
 
 bilin-accepted-8 : two true 112 0 ≡ 0
-unfolding need sizeOk strideOk holds reads startOk stepOk each columnRead readsScaled
+unfolding need sizeOk strideOk holds reads startOk stepOk every columnRead readsScaled
 bilin-accepted-8 = refl
 
 bilin-accepted-16 : two (depthOk (pos 10)) 112 0 ≡ 0
-unfolding need sizeOk strideOk holds reads startOk stepOk each columnRead readsScaled depthOk
+unfolding need sizeOk strideOk holds reads startOk stepOk every columnRead readsScaled depthOk
 bilin-accepted-16 = refl
 
 bilin-one-less : two true 111 0 ≡ 5
-unfolding need sizeOk strideOk holds reads startOk stepOk each columnRead readsScaled
+unfolding need sizeOk strideOk holds reads startOk stepOk every columnRead readsScaled
 bilin-one-less = refl
 
 bilin-one-on : two true 112 1 ≡ 5
-unfolding need sizeOk strideOk holds reads startOk stepOk each columnRead readsScaled
+unfolding need sizeOk strideOk holds reads startOk stepOk every columnRead readsScaled
 bilin-one-on = refl
 
 bilin-far-off : two true 112 18446744073709551615 ≡ 5
-unfolding need sizeOk strideOk holds reads startOk stepOk each columnRead readsScaled
+unfolding need sizeOk strideOk holds reads startOk stepOk every columnRead readsScaled
 bilin-far-off = refl
 
 -- at a step of one pixel: from 4 and 6 sixteenths on, the source of 15 x 15 that 8-tap takes at these fractions
 step-accepted : lowest (scaledTests true true (scaledTypeOk (pos 0)) (subpelOk 600) 64 8 225 48 15 8 8 (pos 256) (pos 384) (pos 1024) (pos 1024)) ≡ 0
-unfolding need sizeOk strideOk holds reads startOk stepOk scaledTypeOk subpelOk each columnRead readsScaled
+unfolding need sizeOk strideOk holds reads startOk stepOk scaledTypeOk subpelOk every columnRead readsScaled
 step-accepted = refl
 
 -- ---- the limits of the numbers: two rows of w columns, in a destination and a source that hold all that these calls use
@@ -89,58 +90,58 @@ numbers w mx my dx dy t tl = lowest (scaledTests true true (scaledTypeOk t) (sub
 
 -- starts of 1023, steps of 4096 and type 2 are accepted, and 0 for each
 most : numbers 2 (pos 1023) (pos 1023) (pos 4096) (pos 4096) (pos 2) 600 ≡ 0
-unfolding need sizeOk strideOk holds reads startOk stepOk scaledTypeOk subpelOk each columnRead readsScaled
+unfolding need sizeOk strideOk holds reads startOk stepOk scaledTypeOk subpelOk every columnRead readsScaled
 most = refl
 
 least : numbers 2 (pos 0) (pos 0) (pos 0) (pos 0) (pos 0) 600 ≡ 0
-unfolding need sizeOk strideOk holds reads startOk stepOk scaledTypeOk subpelOk each columnRead readsScaled
+unfolding need sizeOk strideOk holds reads startOk stepOk scaledTypeOk subpelOk every columnRead readsScaled
 least = refl
 
 -- one more, or one less than 0
 start-across : numbers 2 (pos 1024) (pos 0) (pos 1024) (pos 1024) (pos 0) 600 ≡ 3
-unfolding need sizeOk strideOk holds reads startOk stepOk scaledTypeOk subpelOk each columnRead readsScaled
+unfolding need sizeOk strideOk holds reads startOk stepOk scaledTypeOk subpelOk every columnRead readsScaled
 start-across = refl
 
 start-down : numbers 2 (pos 0) (pos 1024) (pos 1024) (pos 1024) (pos 0) 600 ≡ 3
-unfolding need sizeOk strideOk holds reads startOk stepOk scaledTypeOk subpelOk each columnRead readsScaled
+unfolding need sizeOk strideOk holds reads startOk stepOk scaledTypeOk subpelOk every columnRead readsScaled
 start-down = refl
 
 start-below : numbers 2 (negsuc 0) (pos 0) (pos 1024) (pos 1024) (pos 0) 600 ≡ 3
-unfolding need sizeOk strideOk holds reads startOk stepOk scaledTypeOk subpelOk each columnRead readsScaled
+unfolding need sizeOk strideOk holds reads startOk stepOk scaledTypeOk subpelOk every columnRead readsScaled
 start-below = refl
 
 step-across : numbers 2 (pos 0) (pos 0) (pos 4097) (pos 1024) (pos 0) 600 ≡ 3
-unfolding need sizeOk strideOk holds reads startOk stepOk scaledTypeOk subpelOk each columnRead readsScaled
+unfolding need sizeOk strideOk holds reads startOk stepOk scaledTypeOk subpelOk every columnRead readsScaled
 step-across = refl
 
 step-down : numbers 2 (pos 0) (pos 0) (pos 1024) (pos 4097) (pos 0) 600 ≡ 3
-unfolding need sizeOk strideOk holds reads startOk stepOk scaledTypeOk subpelOk each columnRead readsScaled
+unfolding need sizeOk strideOk holds reads startOk stepOk scaledTypeOk subpelOk every columnRead readsScaled
 step-down = refl
 
 step-below : numbers 2 (pos 0) (pos 0) (pos 1024) (negsuc 0) (pos 0) 600 ≡ 3
-unfolding need sizeOk strideOk holds reads startOk stepOk scaledTypeOk subpelOk each columnRead readsScaled
+unfolding need sizeOk strideOk holds reads startOk stepOk scaledTypeOk subpelOk every columnRead readsScaled
 step-below = refl
 
 -- "Types 0 to 2 only": -1, which 8-tap has, isn't one
 type-ext : numbers 2 (pos 0) (pos 0) (pos 1024) (pos 1024) (negsuc 0) 600 ≡ 3
-unfolding need sizeOk strideOk holds reads startOk stepOk scaledTypeOk subpelOk each columnRead readsScaled
+unfolding need sizeOk strideOk holds reads startOk stepOk scaledTypeOk subpelOk every columnRead readsScaled
 type-ext = refl
 
 type-3 : numbers 2 (pos 0) (pos 0) (pos 1024) (pos 1024) (pos 3) 600 ≡ 3
-unfolding need sizeOk strideOk holds reads startOk stepOk scaledTypeOk subpelOk each columnRead readsScaled
+unfolding need sizeOk strideOk holds reads startOk stepOk scaledTypeOk subpelOk every columnRead readsScaled
 type-3 = refl
 
 -- the table's length is tested where no fraction asks for a filter
 whole-table : numbers 2 (pos 0) (pos 0) (pos 1024) (pos 1024) (pos 0) 720 ≡ 4
-unfolding need sizeOk strideOk holds reads startOk stepOk scaledTypeOk subpelOk each columnRead readsScaled
+unfolding need sizeOk strideOk holds reads startOk stepOk scaledTypeOk subpelOk every columnRead readsScaled
 whole-table = refl
 
 wide-64 : numbers 64 (pos 0) (pos 0) (pos 0) (pos 0) (pos 0) 600 ≡ 0
-unfolding need sizeOk strideOk holds reads startOk stepOk scaledTypeOk subpelOk each columnRead readsScaled
+unfolding need sizeOk strideOk holds reads startOk stepOk scaledTypeOk subpelOk every columnRead readsScaled
 wide-64 = refl
 
 wide-65 : numbers 65 (pos 0) (pos 0) (pos 0) (pos 0) (pos 0) 600 ≡ 1
-unfolding need sizeOk strideOk holds reads startOk stepOk scaledTypeOk subpelOk each columnRead readsScaled
+unfolding need sizeOk strideOk holds reads startOk stepOk scaledTypeOk subpelOk every columnRead readsScaled
 wide-65 = refl
 
 -- ---- the least and the greatest pixel of a row needn't be those of the first and the last column: one row of two columns, in a source of 8 x 8
@@ -158,15 +159,15 @@ first-too = refl
 
 -- so what would do for column 1 doesn't, nor does one place less than column 0 reads
 greatest-short : pair 61 27 (pos 960) (pos 64) ≡ 5
-unfolding need sizeOk strideOk holds reads startOk stepOk scaledTypeOk subpelOk each columnRead readsScaled
+unfolding need sizeOk strideOk holds reads startOk stepOk scaledTypeOk subpelOk every columnRead readsScaled
 greatest-short = refl
 
 greatest-less : pair 63 27 (pos 960) (pos 64) ≡ 5
-unfolding need sizeOk strideOk holds reads startOk stepOk scaledTypeOk subpelOk each columnRead readsScaled
+unfolding need sizeOk strideOk holds reads startOk stepOk scaledTypeOk subpelOk every columnRead readsScaled
 greatest-less = refl
 
 greatest-first : pair 64 27 (pos 960) (pos 64) ≡ 0
-unfolding need sizeOk strideOk holds reads startOk stepOk scaledTypeOk subpelOk each columnRead readsScaled
+unfolding need sizeOk strideOk holds reads startOk stepOk scaledTypeOk subpelOk every columnRead readsScaled
 greatest-first = refl
 
 -- from 0 at a step of 1088, column 0 is in pixel 0 at fraction 0; column 1 is in pixel 1, and reads from pixel -2 on
@@ -180,13 +181,13 @@ last-too = refl
 
 -- so an offset that would do for column 0 doesn't, nor does one less than column 1 reads
 least-short : pair 64 24 (pos 0) (pos 1088) ≡ 5
-unfolding need sizeOk strideOk holds reads startOk stepOk scaledTypeOk subpelOk each columnRead readsScaled
+unfolding need sizeOk strideOk holds reads startOk stepOk scaledTypeOk subpelOk every columnRead readsScaled
 least-short = refl
 
 least-less : pair 64 25 (pos 0) (pos 1088) ≡ 5
-unfolding need sizeOk strideOk holds reads startOk stepOk scaledTypeOk subpelOk each columnRead readsScaled
+unfolding need sizeOk strideOk holds reads startOk stepOk scaledTypeOk subpelOk every columnRead readsScaled
 least-less = refl
 
 least-last : pair 64 26 (pos 0) (pos 1088) ≡ 0
-unfolding need sizeOk strideOk holds reads startOk stepOk scaledTypeOk subpelOk each columnRead readsScaled
+unfolding need sizeOk strideOk holds reads startOk stepOk scaledTypeOk subpelOk every columnRead readsScaled
 least-last = refl

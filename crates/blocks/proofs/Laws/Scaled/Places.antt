@@ -3,9 +3,11 @@
 use Rattle.blocks.proofs.Usual.{true, Bool, false, inr, _≡_, _∙_, refl, sym, ℕ, _≤_, _*_, _+_, _-_, _<_, mul-le-mul-right, add-mul, arith, ℤ, up, by-lt}
 use mathlib.Core.Logic.{_⊎_, inl, ⊎-elim}
 use Rattle.rows.specs.Scaled.{position, pixelOf, sixteenth}
-use Rattle.blocks.specs.Scaled.{each, columnRead, readsScaled}
+use Rattle.blocks.specs.Scaled.{columnRead, readsScaled}
+use Rattle.rows.specs.Warp.{every}
 use Rattle.blocks.proofs.Laws.Scaled.Pairs.{position-le}
-use Rattle.blocks.proofs.Laws.Scaled.Ready.{each-at, each-all, each-none, taps-read, read-taps, row-taps, pair-read, read-pair}
+use Rattle.blocks.proofs.Laws.Warp.Corners.{every-at, all-every}
+use Rattle.blocks.proofs.Laws.Scaled.Ready.{every-none, taps-read, read-taps, row-taps, pair-read, read-pair}
 
 -- the row that the last row of h is in
 abbrev pub lastRow : (my dy : ℤ) (h : ℕ) → ℕ
@@ -34,7 +36,7 @@ AllInside sl o s w h mx my dx dy =
 pub accepted-inside : (sl o s w h : ℕ) (mx my dx dy : ℤ) → readsScaled true sl o s w h mx my dx dy ≡ true → AllInside sl o s w h mx my dx dy
 unfolding readsScaled
 accepted-inside sl o s w h mx my dx dy e x b a l r f =
-    let t = taps-read sl o s (lastRow my dy h) (columnAt mx dx x) (each-at w _ e x l) in
+    let t = taps-read sl o s (lastRow my dy h) (columnAt mx dx x) (every-at w _ e x l) in
     let q = row-taps (lastRow my dy h) s b r in
     ⊎-elim (λ g. record { low = omega arith; high = omega arith }) (λ g. record { low = omega arith; high = omega arith }) f
 
@@ -42,7 +44,7 @@ pub inside-accepted : (sl o s w h : ℕ) (mx my dx dy : ℤ) → AllInside sl o 
 unfolding readsScaled
 inside-accepted sl o s w h mx my dx dy i =
     let n = lastRow my dy h in
-    each-all w _
+    all-every w _
     (λ x l.
     let p = columnAt mx dx x in
     let m = add-mul (n + 4) 3 s in
@@ -65,22 +67,22 @@ AllPairsInside sl o s w h mx my dx dy =
 pub accepted-pairs : (sl o s w h : ℕ) (mx my dx dy : ℤ) → readsScaled false sl o s w h mx my dx dy ≡ true → AllPairsInside sl o s w h mx my dx dy
 unfolding readsScaled
 accepted-pairs sl o s w h mx my dx dy e x b a l r f =
-    omega (arith, pair-read sl o s (lastRow my dy h) (columnAt mx dx x) (each-at w _ e x l), mul-le-mul-right s r)
+    omega (arith, pair-read sl o s (lastRow my dy h) (columnAt mx dx x) (every-at w _ e x l), mul-le-mul-right s r)
 
 pub pairs-accepted : (sl o s w h : ℕ) (mx my dx dy : ℤ) → AllPairsInside sl o s w h mx my dx dy → readsScaled false sl o s w h mx my dx dy ≡ true
 unfolding readsScaled
 pairs-accepted sl o s w h mx my dx dy i =
     let n = lastRow my dy h in
-    each-all w _ (λ x l. read-pair sl o s n (columnAt mx dx x) (omega (arith, i x (n + 1) 1 l (omega arith) (omega arith))))
+    all-every w _ (λ x l. read-pair sl o s n (columnAt mx dx x) (omega (arith, i x (n + 1) 1 l (omega arith) (omega arith))))
 
 -- columns never fall: they are all inside exactly where the last is
 pub last-column : (sl o s n w start step : ℕ) → 1 ≤ w
-    → columnRead false sl o s (1 + n) (position start step (w - 1)) ≡ each w (λ x. columnRead false sl o s (1 + n) (position start step x))
+    → columnRead false sl o s (1 + n) (position start step (w - 1)) ≡ every w (λ x. columnRead false sl o s (1 + n) (position start step x))
 last-column sl o s n w start step h = by-test (columnRead false sl o s (1 + n) (position start step (w - 1))) refl where
   by-test : (t : Bool) → columnRead false sl o s (1 + n) (position start step (w - 1)) ≡ t
-      → columnRead false sl o s (1 + n) (position start step (w - 1)) ≡ each w (λ x. columnRead false sl o s (1 + n) (position start step x))
+      → columnRead false sl o s (1 + n) (position start step (w - 1)) ≡ every w (λ x. columnRead false sl o s (1 + n) (position start step x))
   by-test true e =
       let last = pair-read sl o s n (position start step (w - 1)) e in
       e
-      ∙ sym (each-all w _ λ x l. read-pair sl o s n (position start step x) (omega (arith, last, position-le start step {x = x} {y = w - 1} (omega arith))))
-  by-test false e = e ∙ sym (each-none w _ (w - 1) (omega arith) e)
+      ∙ sym (all-every w _ λ x l. read-pair sl o s n (position start step x) (omega (arith, last, position-le start step {x = x} {y = w - 1} (omega arith))))
+  by-test false e = e ∙ sym (every-none w _ (w - 1) (omega arith) e)

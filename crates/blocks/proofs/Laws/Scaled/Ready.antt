@@ -9,26 +9,16 @@ use Rattle.rows.specs.Scaled.{position, pixelOf, sixteenth}
 use Rattle.rows.specs.inner.Scaled.{Steps}
 use Rattle.blocks.specs.Refuse.{table}
 use Rattle.blocks.specs.Subpel.{subpelOk}
-use Rattle.blocks.specs.Scaled.{startOk, stepOk, scaledTypeOk, each, columnRead, readsScaled, scaledTests}
+use Rattle.blocks.specs.Scaled.{startOk, stepOk, scaledTypeOk, columnRead, readsScaled, scaledTests}
 use Rattle.blocks.specs.inner.Scaled.{scaledPlan, Filtered, Paired}
 use Rattle.blocks.proofs.Laws.Calls.Refuse.{both-met, reads-met, met-reads, reads-past}
 use Rattle.blocks.proofs.Laws.Subpel.Ready.{family-le}
+use Rattle.blocks.proofs.Laws.Warp.Corners.{every-at}
+use Rattle.rows.specs.Warp.{every}
 
 -- ---- all of n are true
-pub each-at : (n : ℕ) (g : ℕ → Bool) → each n g ≡ true → (x : ℕ) → x < n → g x ≡ true
-unfolding each
-each-at zero g e x b = absurd (omega arith)
-each-at (suc n) g e x b =
-    let p = and-true (each n g) (g n) e in
-    by-lt x n (λ c. each-at n g (p .0) x c) λ c. let q : x ≡ n = omega arith in rw q (p .1)
-
-pub each-all : (n : ℕ) (g : ℕ → Bool) → ((x : ℕ) → x < n → g x ≡ true) → each n g ≡ true
-unfolding each
-each-all zero g h = refl
-each-all (suc n) g h = rw (each-all n g (λ x b. h x (omega arith))) (h n (omega arith))
-
-pub each-none : (n : ℕ) (g : ℕ → Bool) (x : ℕ) → x < n → g x ≡ false → each n g ≡ false
-each-none n g x b e = by-test (each n g) (λ h. cc (each-at n g h x b)) where
+pub every-none : (n : ℕ) (g : ℕ → Bool) (x : ℕ) → x < n → g x ≡ false → every n g ≡ false
+every-none n g x b e = by-test (every n g) (λ h. cc (every-at n g h x b)) where
   by-test : (a : Bool) → (a ≡ true → a ≡ false) → a ≡ false
   by-test true f = f refl
   by-test false f = refl
@@ -164,7 +154,7 @@ pub filtered-ready : (sl tl o ss w h : ℕ) (mx my dx dy t : ℤ) (B : ℕ) → 
 unfolding readsScaled scaledTypeOk scaledPlan
 filtered-ready sl tl o ss w h mx my dx dy t B e b across down type tl600 =
     let n = pixelOf (position (up my) (up dy) (h - 1)) in
-    let column : (x : ℕ) → x < w → TapsRead sl o ss n (position (up mx) (up dx) x) = λ x l. taps-read sl o ss n _ (each-at w _ e x l) in
+    let column : (x : ℕ) → x < w → TapsRead sl o ss n (position (up mx) (up dx) x) = λ x l. taps-read sl o ss n _ (every-at w _ e x l) in
     let below : 3 * ss ≤ o = omega (arith, column 0 (omega arith)) in (
       below,
       record {
@@ -193,7 +183,7 @@ paired-ready sl o ss w h mx my dx dy t B e b across down two =
       even = two;
       fetched = λ k i r l.
           let m : k ≤ n + 1 = omega arith in
-          omega (arith, pair-read sl o ss n (position (up mx) (up dx) i) (each-at w _ e i l), mul-le-mul-right ss m);
+          omega (arith, pair-read sl o ss n (position (up mx) (up dx) i) (every-at w _ e i l), mul-le-mul-right ss m);
     }
 
 -- ---- what the rows rely on where no test refuses

@@ -18,7 +18,8 @@ use Rattle.blocks.specs.Scaled.{Put8ScaledAnswer, Prep8ScaledAnswer, Put
 use Rattle.blocks.proofs.Laws.Calls.Answer.{same-answer}
 use Rattle.blocks.proofs.Laws.Calls.Refuse.{met-reads}
 use Rattle.blocks.proofs.Laws.words.Depth.{depth-high}
-use Rattle.blocks.proofs.Laws.Scaled.Ready.{each-at, taps-read, pair-read}
+use Rattle.blocks.proofs.Laws.Scaled.Ready.{taps-read, pair-read}
+use Rattle.blocks.proofs.Laws.Warp.Corners.{every-at}
 use Rattle.blocks.proofs.Laws.StepOfOne.Positions.{step-one, put-one, prep-one}
 use Rattle.blocks.proofs.Laws.StepOfOne.Eight.{NearAxis, put8-one, prep8-one}
 
@@ -91,8 +92,8 @@ module _ (sl o s w h f g : ℕ) (w1 : 1 ≤ w) (h1 : 1 ≤ h) (f15 : f ≤ 15) (
   unfolding readsScaled
   reads-met8 e =
       let n = pixelOf (position (64 * g) 1024 (h - 1)) in
-      let first = taps-read sl o s n (position (64 * f) 1024 0) (each-at w _ e 0 (omega arith)) in
-      let last = taps-read sl o s n (position (64 * f) 1024 (w - 1)) (each-at w _ e (w - 1) (omega arith)) in
+      let first = taps-read sl o s n (position (64 * f) 1024 0) (every-at w _ e 0 (omega arith)) in
+      let last = taps-read sl o s n (position (64 * f) 1024 (w - 1)) (every-at w _ e (w - 1) (omega arith)) in
       let a = step-one f 0 f15 in
       let b = step-one f (w - 1) f15 in
       let c = step-one g (h - 1) g15 in
@@ -105,7 +106,7 @@ module _ (sl o s w h f g : ℕ) (w1 : 1 ≤ w) (h1 : 1 ≤ h) (f15 : f ≤ 15) (
   unfolding readsScaled
   reads-met2 e =
       let n = pixelOf (position (64 * g) 1024 (h - 1)) in
-      let last = pair-read sl o s n (position (64 * f) 1024 (w - 1)) (each-at w _ e (w - 1) (omega arith)) in
+      let last = pair-read sl o s n (position (64 * f) 1024 (w - 1)) (every-at w _ e (w - 1) (omega arith)) in
       let b = step-one f (w - 1) f15 in
       let c = step-one g (h - 1) g15 in
       let down : (h - 1 + min g 1) * s ≤ (n + 1) * s = mul-le-mul-right s (omega arith) in

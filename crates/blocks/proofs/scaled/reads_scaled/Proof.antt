@@ -3,14 +3,15 @@ use mathlib.Core.Bool.{not}
 use native.Mathlib.Nat.{mul-le-mul}
 use native.Mathlib.Numerals.{add-one}
 use Rattle.rows.specs.Scaled.{position}
-use Rattle.blocks.specs.Scaled.{each, columnRead, readsScaled}
+use Rattle.blocks.specs.Scaled.{columnRead, readsScaled}
+use Rattle.rows.specs.Warp.{every}
 use Rattle.blocks.proofs.Laws.Scaled.Places.{last-column}
-use Rattle.blocks.proofs.Laws.Scaled.Ready.{each-none, column-past}
+use Rattle.blocks.proofs.Laws.Scaled.Ready.{every-none, column-past}
 use Rattle.blocks.proofs.scaled.reads_scaled.Tie as tie
 
 abbrev Inv-loop : tie.InvT-loop
 Inv-loop taps l w h rows start step ok₀ x₀ ok x =
-    (x ≤ w) × (ok ≡ each x (λ k. columnRead taps (l .sl) (l .«src_off») (l .«src_stride») rows (position start step k)))
+    (x ≤ w) × (ok ≡ every x (λ k. columnRead taps (l .sl) (l .«src_off») (l .«src_stride») rows (position start step k)))
 
 abbrev μ-loop : tie.MeasureT-loop
 μ-loop taps l w h rows start step ok₀ x₀ ok x = w - x
@@ -49,7 +50,7 @@ returns : tie.Need-returns Inv-loop μ-loop
 unfolding readsScaled
 returns c =
     let a = c .before .before .args in
-    sym (each-none (a .w) _ 0 (omega arith) (column-past (a .taps) (a .l .sl) (a .l .«src_off») (a .l .«src_stride») _ _ (omega arith)))
+    sym (every-none (a .w) _ 0 (omega arith) (column-past (a .taps) (a .l .sl) (a .l .«src_off») (a .l .«src_stride») _ _ (omega arith)))
 
 column-read-requires : tie.Need-column-read-requires Inv-loop μ-loop
 column-read-requires c κs =
@@ -75,7 +76,7 @@ column-read-requires-2 c κs =
     omega (arith, across b, column c, down d, last-row d)
 
 loop-again : tie.Need-loop-again Inv-loop μ-loop
-unfolding each
+unfolding every
 loop-again c =
     let l = c .before .before .loop in
     (omega arith, rw (c .column-read2 .ensures, add-one (l .x), l .inv .1) refl)
@@ -90,7 +91,7 @@ returns-3 c =
     rw (l .inv .1, e, across b .0, across b .1, down d .0, down d .1) refl
 
 pub reads-scaled-spec : {M : Type 1} → Rattle.blocks.proofs.scaled.reads_scaled.Statement.statement M
-unfolding each
+unfolding every
 reads-scaled-spec = tie.close (tie.spec Inv-loop μ-loop returns
     (λ c κs. search needs) (λ c. search needs) (λ c. search needs) (λ c κs. search needs) (λ c. search needs)  -- above, cast-rows, sub-rows, above, cast-rows
     (λ c. omega (arith, last-row c)) (λ c. omega (arith, down c, last-row c)) (λ c. omega (arith, down c, last-row c))  -- mul-rows, add-rows, add-rows-2
