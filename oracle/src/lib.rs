@@ -19,6 +19,8 @@ pub mod record;
 pub mod refuse;
 pub mod rng;
 pub mod rules;
+#[cfg(feature = "stack")]
+pub mod stack;
 pub mod tables;
 pub mod tally;
 pub mod worked;

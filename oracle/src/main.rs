@@ -2,7 +2,7 @@
 //! original against document 01's rules. `oracle guard [N] [SEED]`: the C functions on buffers at unreadable pages, and on
 //! null slices. `oracle cut [N] [SEED]`: blocks cut into rectangles, which `compare` does too. `oracle differences`: where
 //! the original and document 01 part. `oracle record N SEED FILE`: the list of the original's answers that the program
-//! `replay` reads.
+//! `replay` reads. `oracle stack [N] [SEED]`, if it was built for that (bench/stack): the stack that the C functions use.
 
 use std::process::ExitCode;
 
@@ -21,6 +21,8 @@ fn main() -> ExitCode {
         ["compare", numbers @ ..] => amount(numbers).map_or_else(usage, compare::library),
         ["guard", numbers @ ..] => amount(numbers).map_or_else(usage, guard::run),
         ["cut", numbers @ ..] => amount(numbers).map_or_else(usage, cut::run),
+        #[cfg(feature = "stack")]
+        ["stack", numbers @ ..] => amount(numbers).map_or_else(usage, oracle::stack::run),
         ["differences"] => {
             differences::print();
             true

@@ -1,6 +1,9 @@
 //! The library's C functions. Each entry is a trait: `Linked` has the archive's functions, and anything else can stand in
 //! for them. A slice is a pointer, then its length in elements; P is the set's pixel. The answer is the number.
 
+#[cfg(feature = "stack")]
+pub mod stack;
+
 /// The functions of the archive that was linked.
 pub struct Linked;
 
@@ -63,7 +66,12 @@ macro_rules! link {
                         unsafe extern "C" {
                             fn $function($($told: i32,)? $($name: $type),*) -> u32;
                         }
-                        $function($($told,)? $($name),*)
+                        #[cfg(feature = "stack")]
+                        let top = stack::paint();
+                        let number = $function($($told,)? $($name),*);
+                        #[cfg(feature = "stack")]
+                        stack::note(stringify!($function), top);
+                        number
                     }
                     #[cfg(not($function))]
                     {
