@@ -1,5 +1,6 @@
 -- What only the contracts of inner functions name, and no C function's: nobody need believe it.
 pub mod Ready
+pub mod Groups
 pub mod Scaled
 pub mod Subpel
 pub mod Search

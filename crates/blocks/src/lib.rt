@@ -6,6 +6,7 @@ pub mod combine;
 pub mod copy;
 pub mod edge;
 pub mod frame;
+pub mod groups;
 pub mod numbers;
 pub mod order;
 pub mod plane_row;

@@ -5,3 +5,4 @@ pub mod Lines
 pub mod Cases
 pub mod Answers
 pub mod Places
+pub mod Both

@@ -68,3 +68,12 @@ prepLine B P f n (suc s) x = minus16 (low16 (tapped f (half n) n (λ t. pos (x t
 -- these pixels, for column i of row j of rows s apart
 abbrev pub along : List ℕ → (start s step i j : ℕ) → ℕ → ℕ
 along src start s step i j t = getD src (start + j * s + i + t * step) 0
+
+-- the first of two passes: column i of row j of the plan's intermediates
+abbrev pub firstPass : Plan → (B : ℕ) → List ℕ → (s i j : ℕ) → ℤ
+firstPass p B src s i j = prepLine B 0 (p .first) (p .bits - B) (p .step) (along src (p .start) s (p .step) i j)
+
+-- the plan from another place on
+abbrev pub planFrom : Plan → (start : ℕ) → Plan
+planFrom p start =
+    record { bits = p .bits; both = p .both; start = start; step = p .step; round = p .round; first = p .first; second = p .second }

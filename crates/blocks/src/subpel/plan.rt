@@ -6,7 +6,7 @@ ghost use Rattle.rows.specs.Numbers.{up};
 ghost use Rattle.rows.specs.Subpel.{filterBits};
 ghost use Rattle.blocks.specs.Refuse.{need, lowest, reads, wholeFilters};
 ghost use Rattle.blocks.specs.Subpel.{typeOk, fractionOk, subpelOk, filterIn, on, subpelTests};
-ghost use Rattle.blocks.specs.inner.Subpel.{axisOf, filterOf, Held, tapsOf, byOne, planOf};
+ghost use Rattle.blocks.specs.inner.Subpel.{axisOf, filterOf, Held, tapsOf, byOne, planOf, planFrom};
 use crate::numbers::on_axis;
 use crate::numbers::up32;
 use crate::refuse::Layout;
@@ -224,5 +224,22 @@ pub fn plan_8tap(
         round,
         first: f,
         second: g,
+    }
+}
+
+// The same from another place of the source on.
+pub fn plan_from(p: Plan, start: usize) -> Plan
+    ensures { λ r. ⌜ r ≡ planFrom p start ⌝ }
+{
+    let first = p.first;
+    let second = p.second;
+    Plan {
+        bits: p.bits,
+        both: p.both,
+        start,
+        step: p.step,
+        round: p.round,
+        first,
+        second,
     }
 }

@@ -10,17 +10,18 @@ ghost use Rattle.blocks.specs.inner.Ready.{Block, Rows, Taps};
 ghost use Rattle.blocks.specs.Subpel.{put8Rule, prep8Rule, Put8Answer, Prep8Answer};
 use super::depth::depth_numbers;
 use super::depth::depth_ok;
-use super::subpel::lines::mid_lines;
+use super::subpel::both::prep_8tap_both;
+use super::subpel::both::put_8tap_both;
 use super::subpel::lines::prep_lines;
 use super::subpel::lines::put_lines;
 use crate::refuse::DepthNumbers;
 use crate::refuse::Layout;
-use crate::subpel::lines::mid_prep_lines;
 use crate::subpel::plan::SubpelMotion;
 use crate::subpel::plan::check_8tap;
 use crate::subpel::plan::plan_8tap;
 use rows::words::pixel::Pixel;
 
+pub mod both;
 pub mod lines;
 
 // The block: by one filter at most, or by the horizontal filter into an array of intermediates, and from there by the vertical.
@@ -48,11 +49,7 @@ pub fn put_8tap_rows(
     let s = l.src_stride;
     let p = plan_8tap(o, s, w, h, m, bits, subpel, ext);
     if p.both {
-        let n = p.bits;
-        let g = p.second;
-        let mut mid = [0i16; 4544];
-        prep_lines(&mut mid, 64, src, s, p, bits, 0, w, h + 7);
-        mid_lines(dst, l.dst_stride, &mid, &g, n + bits, d.max, w, h);
+        put_8tap_both(d, dst, l.dst_stride, src, s, p, w, h);
         return;
     }
     put_lines(dst, l.dst_stride, src, s, p, d.max, w, h);
@@ -83,11 +80,7 @@ pub fn prep_8tap_rows(
     let s = l.src_stride;
     let p = plan_8tap(o, s, w, h, m, bits, subpel, ext);
     if p.both {
-        let n = p.bits;
-        let g = p.second;
-        let mut mid = [0i16; 4544];
-        prep_lines(&mut mid, 64, src, s, p, bits, 0, w, h + 7);
-        mid_prep_lines(tmp, l.dst_stride, &mid, &g, n, d.bias, w, h);
+        prep_8tap_both(d, tmp, l.dst_stride, src, s, p, w, h);
         return;
     }
     prep_lines(tmp, l.dst_stride, src, s, p, bits, d.bias, w, h);

@@ -8,7 +8,7 @@ use Rattle.rows.proofs.Laws.Filters.Taps.{tapped-same}
 use Rattle.rows.proofs.Laws.Numbers.Low.{low16-again}
 use Rattle.blocks.specs.inner.Ready.{Taps, Lines}
 use Rattle.blocks.specs.Subpel.{put8Rule, prep8Rule}
-use Rattle.blocks.specs.inner.Subpel.{tapsOf, planOf, putLine, prepLine, along}
+use Rattle.blocks.specs.inner.Subpel.{tapsOf, planOf, putLine, prepLine, along, firstPass}
 use Rattle.blocks.specs.declared.subpel.plan.Plan.{Plan}
 use Rattle.blocks.proofs.Laws.Subpel.Choice.{bits-fit}
 use Rattle.blocks.proofs.Laws.Subpel.Lines.{put-some, prep-some, half-le}
@@ -129,13 +129,6 @@ module _ (src : List ℕ) (o s B N : ℕ) (f : List ℤ) (q : 3 * s + 3 ≤ o) (
   unfolding mid around prepLine
   first u = low16-again _ ∙ ap low16 (tapped-same f _ (N - B) _ _ λ a b. ap (px src) (omega arith))
 
--- the intermediates, filled by the picture G, are read as that
-module _ (m₀ : List ℤ) (w h : ℕ) (G : ℕ → ℕ → ℤ) (wide : w ≤ 64) (room : (h + 6) * 64 + w ≤ length m₀) where
-  mid-read : (i j u : ℕ) → i < w → j < h → u < 8 → at (fill m₀ 64 w (h + 7) G) (j * 64 + i + u * 64) ≡ G i (j + u)
-  mid-read i j u a b c =
-      let e : j * 64 + i + u * 64 ≡ (j + u) * 64 + i = omega arith in
-      ap (at (fill m₀ 64 w (h + 7) G)) e ∙ fill-in (pos 0) 64 m₀ w (h + 7) G i (j + u) wide a (omega arith) (omega arith)
-
 -- ---- the block, of a plan
 pub record Planned (subpel ext : List ℤ) (o s w h : ℕ) (mx my t : ℤ) (B : ℕ) (p : Plan) : Type 0 where
   pub is : p ≡ planOf o s w h subpel ext t (filterBits t) B (up mx) (up my)
@@ -158,12 +151,12 @@ module _ {subpel ext : List ℤ} {o s w h : ℕ} {mx my t : ℤ} {B : ℕ} {p : 
   pub one-ready : {dl ds : ℕ} → Rows dl ds w h → p .both ≡ false → Lines dl ds sl (p .start) s (p .step) w h
   one-ready r e = record { w1 = b .w1; dst = r; src = rw e at reach }
 
-  -- with both, into the intermediates, and from them
-  pub first-ready : p .both ≡ true → Lines 4544 64 sl (p .start) s (p .step) w (h + 7)
-  first-ready e = record { w1 = b .w1; dst = record { wide = b .w64; most = omega arith; fits = omega (arith, b) }; src = rw e at reach }
+  -- with both, the first filter's rows are seven more than the block's
+  two : p .both ≡ true → Both o s w h subpel ext t (filterBits t) B (up mx) (up my) p
+  two e = rw (z .is) (is-both o s w h subpel ext t (filterBits t) B (up mx) (up my) (rw (← z .is) e))
 
-  pub second-ready : {dl ds l : ℕ} → Rows dl ds w h → l ≡ 4544 → Lines dl ds l 0 64 64 w h
-  second-ready r e = record { w1 = b .w1; dst = r; src = omega (arith, b) }
+  pub both-reach : p .both ≡ true → p .start + (h + 7 - 1) * s + (w + 7 * p .step) ≤ sl
+  both-reach e = let r : p .start + (h + 7 - 1) * s + w + 7 * p .step ≤ sl = rw e at reach in omega arith
 
   module _ (src : List ℕ) where
     pub put-block : p .both ≡ false → (M ds : ℕ) → 0 < ds → (d : List ℕ)
@@ -182,32 +175,26 @@ module _ {subpel ext : List ℤ} {o s w h : ℕ} {mx my t : ℤ} {B : ℕ} {p : 
         fill-same (pos 0) ts some d w h _ _ λ i j x y.
         rw (bits z, z .is) (prep-one subpel ext src o s w h t (filterBits t) B (omega (arith, b, k)) P (up mx) (up my) (k .before) (rw (← z .is) e) i j)
 
-    -- with both, the sum over the intermediates m is the sum over the rule's
-    module _ (e : p .both ≡ true) (m₀ : List ℤ) {m : List ℤ} (long : length m₀ ≡ 4544)
-        (is : m ≡ fill m₀ 64 w (h + 7) (λ i j. prepLine B 0 (p .first) (p .bits - B) (p .step) (along src (p .start) s (p .step) i j))) where
-      two : Both o s w h subpel ext t (filterBits t) B (up mx) (up my) p
-      two = rw (z .is) (is-both o s w h subpel ext t (filterBits t) B (up mx) (up my) (rw (← z .is) e))
-
-      summed : (r c i j : ℕ) → i < w → j < h
-          → tapped (p .second) r c (λ u. at m (j * 64 + i + u * 64)) ≡ tapped (p .second) r c (mid B (p .bits) (p .first) (around 3 src o s i j))
-      summed r c i j x y =
-          let v = rw (two .across, two .down) at (k .before) in
-          tapped-same (p .second) r c _ _ λ u c.
-          ap (λ (l : List ℤ). at l (j * 64 + i + u * 64)) is
-          ∙ mid-read m₀ w h _ (b .w64) (omega (arith, b)) i j u x y c
-          ∙ rw (two .step, two .start) (first src o s B (p .bits) (p .first) (omega arith) i j u)
+    -- with both, the second filter's sum is the rule's
+    module _ (e : p .both ≡ true) where
+      summed : (r c i j : ℕ)
+          → tapped (p .second) r c (λ u. firstPass p B src s i (j + u))
+          ≡ tapped (p .second) r c (mid B (p .bits) (p .first) (around 3 src o s i j))
+      summed r c i j =
+          let v = rw (two e .across, two e .down) at (k .before) in
+          tapped-same (p .second) r c _ _ λ u c. rw (two e .step, two e .start) (first src o s B (p .bits) (p .first) (omega arith) i j u)
 
       pub put-two : (M ds : ℕ) → 0 < ds → (d : List ℕ)
-          → fill d ds w h (λ i j. clip M (tapped (p .second) (half (p .bits + B)) (p .bits + B) (λ u. at m (j * 64 + i + u * 64))))
+          → fill d ds w h (λ i j. clip M (tapped (p .second) (half (p .bits + B)) (p .bits + B) (λ u. firstPass p B src s i (j + u))))
           ≡ fill d ds w h (λ i j. put8Rule M B subpel ext mx my t w h (around 3 src o s i j))
       unfolding put8Rule put8
       put-two M ds some d =
-          fill-same 0 ds some d w h _ _ λ i j x y. rw (← bits z, ← two .first, ← two .second) (ap (clip M) (summed _ _ i j x y))
+          fill-same 0 ds some d w h _ _ λ i j x y. rw (← bits z, ← two e .first, ← two e .second) (ap (clip M) (summed _ _ i j))
 
       pub prep-two : (P ts : ℕ) → 0 < ts → (d : List ℤ)
-          → fill d ts w h (λ i j. minus16 (low16 (tapped (p .second) (half (p .bits)) (p .bits) (λ u. at m (j * 64 + i + u * 64)))) (pos P))
+          → fill d ts w h (λ i j. minus16 (low16 (tapped (p .second) (half (p .bits)) (p .bits) (λ u. firstPass p B src s i (j + u)))) (pos P))
           ≡ fill d ts w h (λ i j. prep8Rule B P subpel ext mx my t w h (around 3 src o s i j))
       unfolding prep8Rule prep8
       prep-two P ts some d =
           fill-same (pos 0) ts some d w h _ _ λ i j x y.
-          rw (← bits z, ← two .first, ← two .second) (ap (λ (v : ℤ). minus16 (low16 v) (pos P)) (summed _ _ i j x y))
+          rw (← bits z, ← two e .first, ← two e .second) (ap (λ (v : ℤ). minus16 (low16 v) (pos P)) (summed _ _ i j))

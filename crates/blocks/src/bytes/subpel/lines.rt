@@ -137,24 +137,24 @@ pub fn prep_lines(
     }
 }
 
-// The rows of a block by the second filter, from rows of intermediates 64 apart.
+// The second pass: the rows of a block by the filter down the columns, from rows of intermediates 64 apart.
 pub fn mid_lines(
     dst: &mut [Pixel],
     dst_stride: usize,
     mid: &[i16],
     f: &[i8; 8],
+    near: bool,
     n: u32,
     max: u16,
     w: usize,
     h: usize,
 )
-    requires { ⌜ Lines (length (now dst)) «dst_stride» (length (now mid)) 0 64 64 w h × (1 ≤ n) × (n ≤ 11) × MaxOk max ⌝ }
+    requires { ⌜ Lines (length (now dst)) «dst_stride» (length (now mid)) 0 64 64 w h × (near ≡ true → Near (now f)) × (1 ≤ n) × (n ≤ 11) × MaxOk max ⌝ }
     ensures { λ _. ⌜ now (dst .exit)
         ≡ fill (now (dst .entry)) «dst_stride» w h
         (λ i j. clip max (tapped (now (f .entry)) (half n) n (λ t. at (now (mid .entry)) (j * 64 + i + t * 64)))) ⌝ }
 {
     let r = half_power(n);
-    let near = is_near(f);
     let mut y = 0;
     while y < h {
         let d = y * dst_stride;

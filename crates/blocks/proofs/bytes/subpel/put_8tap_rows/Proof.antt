@@ -1,6 +1,6 @@
 -- Made from crates/blocks/proofs/words/subpel/put_8tap_rows/Proof.antt by tools/sets: change that.
-use Rattle.blocks.proofs.Usual.{_∙_, refl, arith, needs}
-use Rattle.blocks.proofs.Laws.Subpel.Cases.{Planned, bits-in, round-in, one-ready, first-ready, second-ready, put-block, put-two}
+use Rattle.blocks.proofs.Usual.{_∙_, arith, needs}
+use Rattle.blocks.proofs.Laws.Subpel.Cases.{Planned, bits-in, round-in, one-ready, both-reach, put-block, put-two}
 use Rattle.blocks.proofs.bytes.subpel.put_8tap_rows.Tie as tie
 
 abbrev begin : tie.After-plan-8tap → tie.Start
@@ -13,22 +13,16 @@ planned c = record { is = c .plan-8tap .ensures }
 plan-8tap-requires : tie.Need-plan-8tap-requires
 plan-8tap-requires c κs = let s = c .before .before in (omega arith, s .pre .2 .before, s .pre .2 .across, s .pre .2 .down)
 
-prep-lines-requires : tie.Need-prep-lines-requires
-prep-lines-requires c κs =
-    let t = c .before .before in let d = t .before in let s = begin d in let n = bits-in (planned d) in
-    (first-ready (planned d) (s .pre .0) (s .pre .2) (t .if1 .taken), n .0, n .1, s .pre .3, omega arith)
-
-mid-lines-requires : tie.Need-mid-lines-requires
-mid-lines-requires c κs =
-    let m = c .before .before .before .before in let d = m .before .before .before .before in let s = begin d in let n = bits-in (planned d) in
-    (second-ready (planned d) (s .pre .0) (s .pre .2) (s .pre .1) (m .prep-lines .kept .0), omega (arith, s .pre .3), omega (arith, s .pre .3), s .pre .5)
+put-8tap-both-requires : tie.Need-put-8tap-both-requires
+put-8tap-both-requires c κs =
+    let t = c .before in let d = t .before in let s = begin d in let n = bits-in (planned d) in
+    (s .pre .0, s .pre .1, both-reach (planned d) (s .pre .0) (s .pre .2) (t .if1 .taken), n .0, n .1, s .pre .3, s .pre .5)
 
 returns : tie.Need-returns
 returns c =
-    let m = c .before .before .before .before .before .before .before in let t = m .before .before .before in let d = t .before in let s = begin d in
-    c .before .before .mid-lines .ensures
-    ∙ put-two (planned d) (s .pre .0) (s .pre .2) (s .args .src .now) (t .if1 .taken) _ refl (m .prep-lines .ensures) _ _
-    (omega (arith, s .pre .0, s .pre .1)) _
+    let m = c .before .before in let t = m .before .before in let d = t .before in let s = begin d in
+    m .put-8tap-both .ensures
+    ∙ put-two (planned d) (s .pre .0) (s .pre .2) (s .args .src .now) (t .if1 .taken) _ _ (omega (arith, s .pre .0, s .pre .1)) _
 
 put-lines-requires-last : tie.Need-put-lines-requires
 put-lines-requires-last c κs =
@@ -44,6 +38,4 @@ returns-2 c =
 
 pub put-8tap-rows-spec : {M : Type 1} → Rattle.blocks.proofs.bytes.subpel.put_8tap_rows.Statement.statement M
 put-8tap-rows-spec = tie.close (tie.spec
-    plan-8tap-requires (λ c. search needs) (λ c. search needs) prep-lines-requires (λ c. search needs)  -- &mut mid, h + 7, &mid
-    (λ c. let d = c .before .before .before .before .before .before .before .before in omega (arith, bits-in (planned d), begin d .pre .3))  -- n + bits
-    mid-lines-requires (λ c. search needs) returns put-lines-requires-last (λ c. search needs) returns-2)  -- same-length
+    plan-8tap-requires put-8tap-both-requires (λ c. search needs) returns put-lines-requires-last (λ c. search needs) returns-2)  -- same-length

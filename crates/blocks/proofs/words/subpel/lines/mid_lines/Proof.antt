@@ -1,19 +1,18 @@
-use Rattle.blocks.proofs.Usual.{true, _≡_, _∙_, sym, _*_, _+_, _-_, arith, needs, leb-true, length, at, clip, half, Filled, filled-none, block-loop}
+use Rattle.blocks.proofs.Usual.{_*_, _+_, _-_, arith, needs, length, at, clip, half, Filled, filled-none, block-loop}
 use Rattle.blocks.proofs.Usual.{filled-more}
-use Rattle.rows.specs.inner.Subpel.{Near}
 use Rattle.rows.specs.Subpel.{tapped}
 use Rattle.blocks.proofs.Laws.Subpel.Lines.{Turn, turn}
 use Rattle.blocks.proofs.words.subpel.lines.mid_lines.Tie as tie
 
 abbrev Inv-loop : tie.InvT-loop
-Inv-loop dst₀ ds mid f n max w h r near y₀ dst y = Filled ds w (λ i j. clip max (tapped f (half n) n (λ t. at mid (j * 64 + i + t * 64)))) dst₀ h y dst
+Inv-loop dst₀ ds mid f near n max w h r y₀ dst y = Filled ds w (λ i j. clip max (tapped f (half n) n (λ t. at mid (j * 64 + i + t * 64)))) dst₀ h y dst
 
 abbrev μ-loop : tie.MeasureT-loop
-μ-loop dst₀ ds mid f n max w h r near y₀ dst y = h - y
+μ-loop dst₀ ds mid f near n max w h r y₀ dst y = h - y
 
 -- the function's entry, from a turn of the loop
 abbrev entry : tie.In-loop Inv-loop μ-loop → tie.Start Inv-loop μ-loop
-entry c = c .before .before .before .before .before
+entry c = c .before .before .before .before
 
 row : (c : tie.In-loop Inv-loop μ-loop) → let a = entry c .args in
     Turn (c .before .loop .dst) (a .dst-stride) (length (a .mid .now)) 0 64 64 (a .w) (c .before .loop .y)
@@ -23,20 +22,15 @@ loop-again : tie.Need-loop-again Inv-loop μ-loop
 loop-again c =
     let t = c .before .before .before .before in
     filled-more 0 _ (t .before .loop .inv) (entry t .pre .0 .w1) (entry t .pre .0 .dst) (t .loop-test .taken)
-    (rw (t .before .before .before .half-power .ensures .0) at (c .before .before .mid-row .ensures))
-
--- where the taps are said to be near, they are
-near : (c : tie.In-loop Inv-loop μ-loop) → c .before .before .is-near .result ≡ true → Near (entry c .args .f .now)
-near c e = leb-true _ _ (sym (c .before .before .is-near .ensures) ∙ e)
+    (rw (t .before .before .half-power .ensures .0) at (c .before .before .mid-row .ensures))
 
 mid-row-requires : tie.Need-mid-row-requires Inv-loop μ-loop
-mid-row-requires c κs = let t = c .before in let p = entry t .pre in (omega (arith, row t), omega arith, omega (arith, p), near t, p .3)
+mid-row-requires c κs = let t = c .before in let p = entry t .pre in (omega (arith, row t), omega arith, omega (arith, p), p .1, p .4)
 
 pub mid-lines-spec : {M : Type 1} → Rattle.blocks.proofs.words.subpel.lines.mid_lines.Statement.statement M
 mid-lines-spec = tie.close (tie.spec Inv-loop μ-loop
     (λ c κs. search needs)  -- half-power
-    (λ c κs. search needs)  -- is-near
-    (λ c. filled-none 0 _ _ _ _ _ (omega (arith, c .before .before .before .pre .0 .dst)))  -- loop-holds
+    (λ c. filled-none 0 _ _ _ _ _ (omega (arith, c .before .before .pre .0 .dst)))  -- loop-holds
     (λ c. omega (arith, row c)) (λ c. omega (arith, row c))  -- y * dst_stride, d + w
     (λ c. omega (arith, row c))  -- words: 2 * d
     (λ c. omega (arith, row c)) (λ c. omega (arith, row c)) (λ c. omega (arith, row c))  -- dst[d..d + w]
