@@ -21,6 +21,8 @@ use crate::bilinear::LastRounding;
 use crate::bilinear::PairWay;
 use crate::bilinear::check_bilin;
 use crate::bilinear::mid_bilin_prep_rows;
+use crate::groups::carry;
+use crate::groups::eight_at_most;
 use crate::numbers::up32;
 use crate::refuse::DepthNumbers;
 use rows::bytes::bilinear::mid_bilin_row;
@@ -111,7 +113,7 @@ fn mid_bilin_rows(
     }
 }
 
-// Both axes: along the rows into intermediates, a row more than the block has, then down their columns.
+// Both axes, eight rows at a time: along the rows into intermediates, behind the row that was carried over, then down their columns.
 fn put_bilin_both(
     d: DepthNumbers,
     dst: &mut [Pixel],
@@ -127,14 +129,26 @@ fn put_bilin_both(
     ensures { λ _. ⌜ now (dst .exit) ≡ fill (now (dst .entry)) ds w h (λ i j. putBilin (d .max) (d .bits) f g (around 0 (now (src .entry)) 0 ss i j)) ⌝ }
 {
     let b = bits_of(d.bits);
-    let mut mid = [0i16; 4160];
     let by = PairWay {
         step: 1,
         f,
         n: 4 - b,
     };
-    prep_bilin_axis(&mut mid, 64, src, ss, w, h + 1, by, 0);
-    mid_bilin_rows(dst, ds, &mid, w, h, g, 4 + b, d.max);
+    let mut mid = [0i16; 576];
+    prep_bilin_axis(&mut mid, 64, src, ss, w, 1, by, 0);
+    let mut y = 0;
+    while y < h {
+        let k = eight_at_most(h - y);
+        let o = (y + 1) * ss;
+        prep_bilin_axis(&mut mid[64..576], 64, &src[o..src.len()], ss, w, k, by, 0);
+        let a = y * ds;
+        let e = a + (k - 1) * ds + w;
+        mid_bilin_rows(&mut dst[a..e], ds, &mid, w, k, g, 4 + b, d.max);
+        y += k;
+        if y < h {
+            carry(&mut mid, 64);
+        }
+    }
 }
 
 // The same into intermediates.
@@ -154,14 +168,26 @@ fn prep_bilin_both(
 {
     let b = bits_of(d.bits);
     let p = bias_of(d.bias);
-    let mut mid = [0i16; 4160];
     let by = PairWay {
         step: 1,
         f,
         n: 4 - b,
     };
-    prep_bilin_axis(&mut mid, 64, src, ss, w, h + 1, by, 0);
-    mid_bilin_prep_rows(tmp, ts, &mid, w, h, g, 4, p as i16);
+    let mut mid = [0i16; 576];
+    prep_bilin_axis(&mut mid, 64, src, ss, w, 1, by, 0);
+    let mut y = 0;
+    while y < h {
+        let k = eight_at_most(h - y);
+        let o = (y + 1) * ss;
+        prep_bilin_axis(&mut mid[64..576], 64, &src[o..src.len()], ss, w, k, by, 0);
+        let a = y * ts;
+        let e = a + (k - 1) * ts + w;
+        mid_bilin_prep_rows(&mut tmp[a..e], ts, &mid, w, k, g, 4, p as i16);
+        y += k;
+        if y < h {
+            carry(&mut mid, 64);
+        }
+    }
 }
 
 // The block in its four cases: both fractions, the horizontal alone, the vertical alone, none.

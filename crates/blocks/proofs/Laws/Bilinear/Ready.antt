@@ -60,6 +60,9 @@ module _ {dl ds sl ss w h f g : ℕ} (p : Bilin dl ds sl ss w h f g) where
   reads-of : (x y : ℕ) → min f 1 ≡ x → min g 1 ≡ y → (h + y - 1) * ss + (w + x) ≤ sl
   reads-of x y a b = rw (← a, ← b) (p .fits)
 
+  pub reads-both : 0 < f → 0 < g → (h + 1 - 1) * ss + (w + 1) ≤ sl
+  reads-both a b = reads-of 1 1 (omega arith) (omega arith)
+
   pub copied : f ≡ 0 → g ≡ 0 → Block w h × Rows dl ds w h × Rows sl ss w h
   copied a b =
       let e : h + 0 - 1 ≡ h - 1 = omega arith in
@@ -77,22 +80,6 @@ module _ {dl ds sl ss w h f g : ℕ} (p : Bilin dl ds sl ss w h f g) where
         let e : h + 1 - 1 ≡ h - 1 + 1 = omega (arith, p .block) in
         let r = rw e at (reads-of 0 1 (omega arith) (omega arith)) in
         record { w1 = p .block .w1; dst = p .dst; src = omega arith; f15 = p .g15; n8 = n8 }
-
-    -- both: the first pass into ml intermediates, and the second from there
-    module _ (ml : ℕ) (room : 4160 ≤ ml) where
-      pub first : 0 < f → 0 < g → Pairs ml 64 sl ss 1 w (h + 1) f n
-      first a b =
-          let r = reads-of 1 1 (omega arith) (omega arith) in
-          record {
-            w1 = p .block .w1;
-            dst = record { wide = p .block .w64; most = omega arith; fits = omega (arith, p .block) };
-            src = r;
-            f15 = p .f15;
-            n8 = n8;
-          }
-
-      pub second : Pairs dl ds ml 64 64 w h g n
-      second = record { w1 = p .block .w1; dst = p .dst; src = omega (arith, p .block); f15 = p .g15; n8 = n8 }
 
 -- what put adds for its two shifts is below what they shift out, 2^(4-B) x 2^B
 pub halves-small : (B : ℕ) → B ≤ 4 → half (4 - B) + half B * 2 ^ (4 - B) ≤ 15

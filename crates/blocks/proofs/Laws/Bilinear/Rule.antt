@@ -1,10 +1,9 @@
 -- Bilinear blocks: what the rows compute, pass by pass, is the pixel rule on the pixels around a place. Assumes nothing.
-use Rattle.blocks.proofs.Usual.{List, _≡_, _∙_, refl, sym, ap, ap₂, ℕ, _≤_, _*_, _+_, _-_, _<_, _^_, suc, zero, arith, pos, ℤ, _+ℤ_, length, getD, shrZ}
-use Rattle.blocks.proofs.Usual.{at, clip, minus16, px, low16, pixel, fill, around, fill-same, fill-in}
+use Rattle.blocks.proofs.Usual.{List, _≡_, _∙_, refl, sym, ap, ap₂, ℕ, _*_, _+_, _-_, _<_, _^_, suc, zero, arith, pos, ℤ, _+ℤ_, length, getD, shrZ}
+use Rattle.blocks.proofs.Usual.{clip, minus16, px, low16, pixel, fill, around, fill-same}
 use Rattle.rows.specs.Copy.{put, prep}
 use Rattle.rows.specs.Bilinear.{bilin, R, along, down, bilinMid, putBilin, prepBilin}
 use Rattle.rows.specs.inner.Bilinear.{bilinAt}
-use Rattle.rows.proofs.Laws.Numbers.Low.{low16-again}
 use Rattle.rows.proofs.Laws.Filters.Bilinear.{shr-none}
 use Rattle.blocks.specs.inner.Ready.{Bilin}
 
@@ -24,7 +23,7 @@ module _ (M B : ℕ) (q : ℕ → ℕ → ℕ) where
   put-v f zero a b = absurd (omega arith)
   put-v f (suc g) a b = rw a refl
 
-  put-hv : (f g : ℕ) → 0 < f → 0 < g → putBilin M B f g q ≡ clip M (R (4 + B) (bilin (bilinMid B f q 0) (bilinMid B f q 1) g))
+  pub put-hv : (f g : ℕ) → 0 < f → 0 < g → putBilin M B f g q ≡ clip M (R (4 + B) (bilin (bilinMid B f q 0) (bilinMid B f q 1) g))
   unfolding putBilin
   put-hv zero g a b = absurd (omega arith)
   put-hv (suc f) zero a b = absurd (omega arith)
@@ -45,7 +44,7 @@ module _ (B P : ℕ) (q : ℕ → ℕ → ℕ) where
   prep-v f zero a b = absurd (omega arith)
   prep-v f (suc g) a b = rw a refl
 
-  prep-hv : (f g : ℕ) → 0 < f → 0 < g → prepBilin B P f g q ≡ minus16 (low16 (R 4 (bilin (bilinMid B f q 0) (bilinMid B f q 1) g))) (pos P)
+  pub prep-hv : (f g : ℕ) → 0 < f → 0 < g → prepBilin B P f g q ≡ minus16 (low16 (R 4 (bilin (bilinMid B f q 0) (bilinMid B f q 1) g))) (pos P)
   unfolding prepBilin
   prep-hv zero g a b = absurd (omega arith)
   prep-hv (suc f) zero a b = absurd (omega arith)
@@ -57,7 +56,7 @@ module _ (src : List ℕ) (s : ℕ) where
   unfolding around
   here i j = ap (λ (p : ℕ). getD src p 0) (omega arith)
 
-  along-row : (f i j b p : ℕ) → p ≡ (j + b) * s + i → bilinAt (px src) p 1 f ≡ along f (around 0 src 0 s i j) b
+  pub along-row : (f i j b p : ℕ) → p ≡ (j + b) * s + i → bilinAt (px src) p 1 f ≡ along f (around 0 src 0 s i j) b
   unfolding along around
   along-row f i j b p e = ap₂ (λ (p r : ℕ). bilin (px src p) (px src r) f) (omega arith) (omega arith)
 
@@ -65,26 +64,7 @@ module _ (src : List ℕ) (s : ℕ) where
   unfolding down around
   down-column f i j = ap₂ (λ (p r : ℕ). bilin (px src p) (px src r) f) (omega arith) (omega arith)
 
-  -- the intermediates that a first pass filled, minus nothing
-  abbrev mids : (B : ℕ) → List ℤ → (w h f : ℕ) → List ℤ
-  mids B m₀ w h f = fill m₀ 64 w (h + 1) (λ i j. minus16 (low16 (R (4 - B) (bilinAt (px src) (j * s + i) 1 f))) (pos 0))
-
-  -- are read by the second as "both R(4-B) kept as low16"
-  module _ (B : ℕ) (m₀ : List ℤ) (w h f : ℕ) (wide : w ≤ 64) (most : h ≤ 64) (room : 4160 ≤ length m₀) where
-    mid-at : (i j b p : ℕ) → p ≡ (j + b) * 64 + i → i < w → j + b < h + 1 → at (mids B m₀ w h f) p ≡ bilinMid B f (around 0 src 0 s i j) b
-    unfolding bilinMid
-    mid-at i j b p e x y =
-        ap (at (mids B m₀ w h f)) e
-        ∙ fill-in (pos 0) 64 m₀ w (h + 1) _ i (j + b) wide x y (omega arith)
-        ∙ low16-again _
-        ∙ ap (λ (v : ℤ). low16 (R (4 - B) v)) (along-row f i j b _ refl)
-
-    pub mid-pair : (g i j : ℕ) → i < w → j < h
-        → bilinAt (at (mids B m₀ w h f)) (j * 64 + i) 64 g ≡ bilin (bilinMid B f (around 0 src 0 s i j) 0) (bilinMid B f (around 0 src 0 s i j) 1) g
-    mid-pair g i j x y =
-        ap₂ (λ (a b : ℤ). bilin a b g) (mid-at i j 0 _ (omega arith) x (omega arith)) (mid-at i j 1 _ (omega arith) x (omega arith))
-
--- ---- the block in each case
+-- ---- the block in each case of one axis or none
 module _ (M B : ℕ) (src d : List ℕ) {s ds w h f g : ℕ} (p : Bilin (length d) ds (length src) s w h f g) where
   put-same : (rule : ℕ → ℕ → ℕ) → ((i j : ℕ) → i < w → j < h → rule i j ≡ putBilin M B f g (around 0 src 0 s i j))
       → fill d ds w h rule ≡ fill d ds w h (λ i j. putBilin M B f g (around 0 src 0 s i j))
@@ -104,13 +84,6 @@ module _ (M B : ℕ) (src d : List ℕ) {s ds w h f g : ℕ} (p : Bilin (length 
       → fill d ds w h (λ i j. clip M (shrZ (R 4 (bilinAt (px src) (j * s + i) s g) +ℤ pos 0) (2 ^ 0)))
       ≡ fill d ds w h (λ i j. putBilin M B f g (around 0 src 0 s i j))
   put-downward a b = put-same _ λ i j x y. ap (clip M) (shr-none _ ∙ ap (R 4) (down-column src s g i j)) ∙ sym (put-v M B _ f g a b)
-
-  pub put-twice : 0 < f → 0 < g → (m₀ : List ℤ) → 4160 ≤ length m₀
-      → fill d ds w h (λ i j. clip M (R (4 + B) (bilinAt (at (mids src s B m₀ w h f)) (j * 64 + i) 64 g)))
-      ≡ fill d ds w h (λ i j. putBilin M B f g (around 0 src 0 s i j))
-  put-twice a b m₀ room =
-      put-same _ λ i j x y.
-      ap (λ (v : ℤ). clip M (R (4 + B) v)) (mid-pair src s B m₀ w h f (p .block .w64) (p .block .h64) room g i j x y) ∙ sym (put-hv M B _ f g a b)
 
 module _ (B P : ℕ) (src : List ℕ) (d : List ℤ) {s ds w h f g : ℕ} (p : Bilin (length d) ds (length src) s w h f g) where
   prep-same : (rule : ℕ → ℕ → ℤ) → ((i j : ℕ) → i < w → j < h → rule i j ≡ prepBilin B P f g (around 0 src 0 s i j))
@@ -132,11 +105,3 @@ module _ (B P : ℕ) (src : List ℕ) (d : List ℤ) {s ds w h f g : ℕ} (p : B
       ≡ fill d ds w h (λ i j. prepBilin B P f g (around 0 src 0 s i j))
   prep-downward a b =
       prep-same _ λ i j x y. ap (λ (v : ℤ). minus16 (low16 (R (4 - B) v)) (pos P)) (down-column src s g i j) ∙ sym (prep-v B P _ f g a b)
-
-  pub prep-twice : 0 < f → 0 < g → (m₀ : List ℤ) → 4160 ≤ length m₀
-      → fill d ds w h (λ i j. minus16 (low16 (R 4 (bilinAt (at (mids src s B m₀ w h f)) (j * 64 + i) 64 g))) (pos P))
-      ≡ fill d ds w h (λ i j. prepBilin B P f g (around 0 src 0 s i j))
-  prep-twice a b m₀ room =
-      prep-same _ λ i j x y.
-      ap (λ (v : ℤ). minus16 (low16 (R 4 v)) (pos P)) (mid-pair src s B m₀ w h f (p .block .w64) (p .block .h64) room g i j x y)
-      ∙ sym (prep-hv B P _ f g a b)

@@ -1,40 +1,118 @@
 -- Made from crates/blocks/proofs/words/bilinear/prep_bilin_both/Proof.antt by tools/sets: change that.
-use Rattle.blocks.proofs.Usual.{_≡_, _∙_, ap, arith, needs, pos, w16, toZ, backn}
-use Rattle.blocks.proofs.Laws.Bilinear.Ready.{first, second}
-use Rattle.blocks.proofs.Laws.Bilinear.Rule.{prep-twice}
+use Rattle.blocks.proofs.Usual.{_≡_, refl, sym, ℕ, _*_, _+_, _-_, arith, needs, length, splice, around, Filled, filled-none, filled-all}
+use Rattle.blocks.proofs.Usual.{pos, w16, SFits, backn}
+use Rattle.rows.specs.Bilinear.{prepBilin}
+use Rattle.blocks.proofs.Laws.Loops.Groups.{Grouped, Group, HoldsRows, holds-first, filled-group, grouped-next, grouped-last}
+use Rattle.blocks.proofs.Laws.Bilinear.Both.{firstMid, first-held, prep-held, bilin-group, row-pairs, first-pairs, second-pairs}
 use Rattle.blocks.proofs.bytes.bilinear.prep_bilin_both.Tie as tie
 
--- the function's entry, from where the intermediates are there
-abbrev entry : tie.After-mid → tie.Start
-entry c = c .before .before .before .before
+abbrev Inv-loop : tie.InvT-loop
+Inv-loop tmp₀ ts src ss w h f g b p by mid₀ y₀ tmp mid y =
+    Grouped 1 576 ts w (λ i j. prepBilin b p f g (around 0 src 0 ss i j)) (firstMid (4 - b) f src ss) tmp₀ h tmp mid y
 
--- B and P, as the rows take them
-depth : (c : tie.After-mid) → let d = entry c .args .d in
-    (c .before .before .bits-of .result ≡ d .bits) × (toZ w16 (c .before .bias-of .result) ≡ pos (d .bias))
-depth c =
-    let p = c .before .bias-of in
-    (c .before .before .bits-of .ensures, backn w16 (p .result) (omega (arith, p .ensures, entry c .pre .4)) ∙ ap pos (p .ensures))
+abbrev μ-loop : tie.MeasureT-loop
+μ-loop tmp₀ ts src ss w h f g b p by mid₀ y₀ tmp mid y = h - y
 
-first-requires : tie.Need-prep-bilin-axis-requires
-first-requires c κs = let p = entry c .pre in (first (p .0) _ (omega (arith, p .3)) _ (omega arith) (p .1) (p .2), omega (arith, p .3))
+-- from a turn of the loop that knows how many rows it makes: the function's entry, B and P as the rows take them
+abbrev entry : tie.After-eight-at-most Inv-loop μ-loop → tie.Start Inv-loop μ-loop
+entry k = k .before .before .before .before .before .before .before .before .before
 
-second-requires : tie.Need-mid-bilin-prep-rows-requires
+abbrev bits : tie.After-eight-at-most Inv-loop μ-loop → ℕ
+bits k = k .before .before .before .before .before .before .before .bits-of .result
+
+abbrev bias : tie.After-eight-at-most Inv-loop μ-loop → ℕ
+bias k = k .before .before .before .before .before .before .bias-of .result
+
+low : (k : tie.After-eight-at-most Inv-loop μ-loop) → SFits w16 (pos (bias k))
+low k = omega (arith, k .before .before .before .before .before .before .bias-of .ensures, entry k .pre .4)
+
+turn : (k : tie.After-eight-at-most Inv-loop μ-loop) → let a = entry k .args in
+    Group (length (a .tmp .now)) (a .ts) (length (a .src .now)) 0 (a .ss) 1 (a .w + 1) (a .w) (a .h) (k .before .before .loop .y) (k .eight-at-most .result)
+turn k = let p = entry k .pre in bilin-group (p .0) (p .1) (p .2) _ _ (k .before .loop-test .taken) (k .eight-at-most .ensures)
+
+-- the array after a turn's first pass: as long as it was, and with the rows that the second reads
+made : (f : tie.After-prep-bilin-axis2 Inv-loop μ-loop) → let k = f .before .before .before in let a = entry k .args in let l = k .before .before .loop in
+    let m = splice (l .mid) 64 576 (f .prep-bilin-axis2 .last .0) in
+    (length m ≡ 576) × HoldsRows (a .w) (firstMid (4 - bits k) (a .f) (a .src .now) (a .ss)) m (l .y) (1 + k .eight-at-most .result)
+made f =
+    let k = f .before .before .before in let a = entry k .args in let i = k .before .before .loop .inv in
+    first-held (4 - bits k) (a .f) (a .src .now) (a .ss) (k .eight-at-most .result) (entry k .pre .0 .block .w64) (turn k .most) (i .long)
+    (i .rows (k .before .loop-test .taken)) (f .prep-bilin-axis2 .ensures)
+
+-- the destination after its second
+written : (m : tie.After-mid-bilin-prep-rows Inv-loop μ-loop) → let k = m .before .before .before .before .before .before .before in let a = entry k .args in
+    let l = k .before .before .loop in let y = l .y in let n = k .eight-at-most .result in
+    Filled (a .ts) (a .w) (λ i j. prepBilin (bits k) (bias k) (a .f) (a .g) (around 0 (a .src .now) 0 (a .ss) i j)) (a .tmp .now) (a .h) (y + n)
+    (splice (l .tmp) (y * a .ts) (y * a .ts + (n - 1) * a .ts + a .w) (m .mid-bilin-prep-rows .last .0))
+written m =
+    let k = m .before .before .before .before .before .before .before in let a = entry k .args in let p = entry k .pre in
+    let t = turn k in let n = k .eight-at-most .result in
+    filled-group (pos 0) (k .before .before .loop .inv .dst) (p .0 .dst) (p .0 .block .w1) n (t .some) (t .left) _
+    (λ i j u v. prep-held (bits k) (a .f) (a .src .now) (a .ss) n (made (m .before .before .before .before) .1) (p .1) (p .2) i j u v
+    (bias k) _ (backn w16 (bias k) (omega (arith, low k))))
+    _ refl _ (m .mid-bilin-prep-rows .ensures)
+
+first-requires : tie.Need-prep-bilin-axis-requires Inv-loop μ-loop
+first-requires c κs = let p = c .before .before .before .before .pre in (row-pairs (p .0) (p .1) (p .2) _ _ (omega arith) (omega arith), omega arith)
+
+first-requires-2 : tie.Need-prep-bilin-axis-requires-2 Inv-loop μ-loop
+first-requires-2 c κs =
+    let k = c .before .before in let s = entry k in let l = k .before .before .loop in
+    (first-pairs (s .args .src .now) (s .pre .0) (turn k) _ (omega arith) (l .mid) (l .inv .long), omega arith)
+
+second-requires : tie.Need-mid-bilin-prep-rows-requires Inv-loop μ-loop
 second-requires c κs =
-    let m = c .before .before .before in let s = entry (m .before) in
-    second (s .pre .0) _ (omega (arith, s .pre .3)) _ (omega (arith, m .prep-bilin-axis .kept .0))
+    let k = c .before .before .before .before .before .before in let s = entry k in let i = k .before .before .loop .inv in
+    second-pairs (s .args .src .now) (s .pre .0) (turn k) _ (omega arith) (pos 0) _ (i .dst .len) refl (made (c .before .before .before) .0)
 
-returns : tie.Need-returns
+loop-holds : tie.Need-loop-holds Inv-loop μ-loop
+loop-holds c =
+    let p = c .before .before .before .before .before .before .pre .0 in let first = c .before .prep-bilin-axis in
+    record {
+      dst = filled-none (pos 0) _ _ _ _ _ (omega (arith, p .block, p .dst));
+      long = first .kept .0;
+      rows = λ lt. holds-first (p .block .w64) _ 1 (omega arith) (first .ensures);
+    }
+
+loop-again : tie.Need-loop-again Inv-loop μ-loop
+loop-again c =
+    let m = c .before .before .before .before .before in let k = m .before .before .before .before .before .before .before in
+    let f = made (m .before .before .before .before) in
+    grouped-next (k .eight-at-most .result) (turn k .whole (c .before .before .before .if1 .taken)) (entry k .pre .0 .block .w64) (omega arith) (written m)
+    (f .0) (f .1) (c .before .carry .ensures)
+
+loop-again-2 : tie.Need-loop-again-2 Inv-loop μ-loop
+loop-again-2 c = let m = c .before .before in grouped-last (omega (arith, c .if1 .left)) (written m) (made (m .before .before .before .before) .0)
+
+returns : tie.Need-returns Inv-loop μ-loop
 returns c =
-    let r = c .before in
-    let m = r .before .before .before .before in
-    let s = entry (m .before) in let a = s .args in
-    let d = depth (m .before) in
-    rw (m .prep-bilin-axis .ensures, d .0, d .1) at (r .mid-bilin-prep-rows .ensures)
-    ∙ prep-twice (a .d .bits) (a .d .bias) (a .src .now) (a .tmp .now) (s .pre .0) (s .pre .1) (s .pre .2) _ (omega arith)
+    let b = c .before .before .before .before .before .before .bits-of in let p = c .before .before .before .before .before .bias-of in
+    rw (b .ensures, p .ensures) at (filled-all (c .before .loop .inv .dst) (omega arith))
+
+-- where the rows of the turn were counted, from where its first pass is made
+abbrev counted : tie.After-mid4 Inv-loop μ-loop → tie.After-eight-at-most Inv-loop μ-loop
+counted c = c .before .before .before .before
 
 pub prep-bilin-both-spec : {M : Type 1} → Rattle.blocks.proofs.bytes.bilinear.prep_bilin_both.Statement.statement M
-prep-bilin-both-spec = tie.close (tie.spec
-    (λ c κs. search needs) (λ c κs. search needs) (λ c. search needs) (λ c. search needs)  -- bits-of, bias-of, 4 - b, slice-aggregate-prep-bilin-axis
-    (λ c. omega (arith, entry c .pre .0 .block))  -- add-prep-bilin-axis
-    first-requires (λ c. search needs)  -- slice-aggregate-mid-bilin-prep-rows
-    (λ c. search needs) second-requires (λ c. search needs) returns)  -- cast-mid-bilin-prep-rows, same-length
+prep-bilin-both-spec = tie.close (tie.spec Inv-loop μ-loop
+    (λ c κs. search needs) (λ c κs. search needs) (λ c. search needs)  -- bits-of, bias-of, 4 - b
+    (λ c. refl) first-requires loop-holds  -- slice-aggregate-prep-bilin-axis
+    (λ c. omega (arith, c .before .loop .inv .dst)) (λ c κs. search needs)  -- h - y, eight-at-most
+    (λ c. omega (arith, turn c, entry c .pre .0 .block)) (λ c. omega (arith, turn c, entry c .good))  -- o
+    (λ c. omega arith) (λ c. omega (arith, c .before .before .loop .inv .long)) (λ c. omega (arith, c .before .before .loop .inv .long))  -- mid[64..576]
+    (λ c. omega (arith, turn (c .before))) (λ c. omega (arith, turn (c .before))) (λ c. omega (arith, turn (c .before))) first-requires-2  -- src[o..src.len()]
+    (λ c. omega (arith, turn (counted c), entry (counted c) .good)) (λ c. omega (arith, turn (counted c)))  -- a, k - 1
+    (λ c. omega (arith, turn (counted c), entry (counted c) .good)) (λ c. omega (arith, turn (counted c), entry (counted c) .good))  -- e
+    (λ c. omega (arith, turn (counted c), entry (counted c) .good))
+    (λ c. omega (arith, turn (counted c), entry (counted c) .good))  -- places of two bytes
+    (λ c. omega (arith, turn (counted c))) (λ c. omega (arith, turn (counted c), counted c .before .before .loop .inv .dst))  -- tmp[a..e]
+    (λ c. omega (arith, turn (counted c), counted c .before .before .loop .inv .dst))
+    (λ c. sym (made (c .before .before .before) .0))  -- slice-aggregate-mid-bilin-prep-rows
+    (λ c. low (c .before .before .before .before .before .before)) second-requires  -- p as i16
+    (λ c. let k = c .before .before .before .before .before .before .before .before in omega (arith, turn k, entry k .pre .0 .block))  -- y + k
+    (λ c. sym (made (c .before .before .before .before .before .before .before) .0))  -- slice-aggregate-carry
+    (λ c κs. (omega arith, omega (arith, made (c .before .before .before .before .before .before .before) .0)))  -- carry
+    (λ c. omega (arith, turn (c .before .before .before .before .before .before .before .before .before .before .before .before)))  -- loop-less
+    loop-again
+    (λ c. omega (arith, turn (c .before .before .before .before .before .before .before .before .before))) loop-again-2  -- loop-less-2
+    (λ c. c .before .loop .inv .dst .len) returns)  -- same-length
