@@ -18,6 +18,12 @@
  * - A bool is 0 or 1.
  * - 8-tap and the scaled functions take src_off before src_stride, warp takes src_stride before src_off.
  *
+ * Stack and threads. The library has no variables of its own and allocates nothing: what a call keeps is on its stack,
+ * at most 4096 bytes. 8-tap and orders need up to 4 KB, the scaled functions and bilinear up to 2 KB, all others up to
+ * 1 KB; measured on x86-64, with what is handed over on the stack (docs/PERFORMANCE.md). Any number of threads may
+ * call any functions at the same time, and a call may be made from within a signal's handler. What a call writes, its
+ * scratch too, is that call's alone while it runs: one scratch for each thread.
+ *
  * Words used below:
  * - Strides, offsets and places count elements, not bytes. A stride is from the row that it carries (a source's w, a
  *   plane's width) to 32768, also where there is a single row. A buffer of rows holds (rows - 1) x stride + row
