@@ -18,10 +18,10 @@
  * - A bool is 0 or 1.
  * - 8-tap and the scaled functions take src_off before src_stride, warp takes src_stride before src_off.
  *
- * Stack and threads. The library has no variables of its own and allocates nothing: what a call keeps is on its stack,
- * at most 4096 bytes. 8-tap and orders need up to 4 KB, the scaled functions and bilinear up to 2 KB, all others up to
- * 1 KB; measured on x86-64, with what is handed over on the stack (docs/PERFORMANCE.md). Any number of threads may
- * call any functions at the same time, and a call may be made from within a signal's handler. What a call writes, its
+ * Stack and threads. The library has no variables of its own and allocates nothing: what a call keeps is on its stack.
+ * In the calls measured on x86-64, with what is handed over on the stack, 8-tap and orders used less than 4 KB,
+ * bilinear and the scaled functions less than 2 KB, all others less than 1 KB (docs/PERFORMANCE.md, "The stack"). Calls
+ * share nothing but what they are lent, so any threads may call any functions at the same time. What a call writes, its
  * scratch too, is that call's alone while it runs: one scratch for each thread.
  *
  * Words used below:
