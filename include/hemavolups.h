@@ -21,8 +21,8 @@
  * Stack and threads. The library has no variables of its own and allocates nothing: what a call keeps is on its stack.
  * In the calls measured on x86-64, with what is handed over on the stack, 8-tap and orders used less than 4 KB,
  * bilinear and the scaled functions less than 2 KB, all others less than 1 KB (docs/PERFORMANCE.md, "The stack"). Calls
- * share nothing but what they are lent, so any threads may call any functions at the same time. What a call writes, its
- * scratch too, is that call's alone while it runs: one scratch for each thread.
+ * share nothing but what they are lent: the functions are re-entrant, and any threads may call them at the same time.
+ * What a call writes, its scratch too, is that call's alone while it runs: one scratch for each thread.
  *
  * Words used below:
  * - Strides, offsets and places count elements, not bytes. A stride is from the row that it carries (a source's w, a
