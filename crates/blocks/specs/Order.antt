@@ -18,7 +18,8 @@ use Rattle.blocks.specs.Refuse.{holdsAll, wholeFilters}
 use Rattle.blocks.specs.Edge.{placeOk}
 use Rattle.blocks.specs.Subpel.{typeOk, sixteenthOk, fractionOk, subpelOk, filterIn, put8Rule, prep8Rule}
 use Rattle.blocks.specs.Warp.{warpPlaceOk}
-use Rattle.blocks.specs.Window.{frameSizesOk, frameNamesOk, LentPlane, lentW, lentH, before, windowSide, Asked, scratchOf}
+use Rattle.blocks.specs.Window.{frameSizesOk, frameNamesOk, LentPlane, lentW, lentH, before, windowSide, Asked}
+use Rattle.blocks.specs.Window.{alwaysScratch, planeIfInside, scratchOf}
 use Rattle.blocks.specs.declared.order.Order.{Order}
 use Rattle.blocks.specs.declared.order.Kind.{Kind}
 use Rattle.blocks.specs.declared.order.Kind.the-variants.{Copy, Subpel, Bilinear, Warp}
@@ -72,9 +73,15 @@ pub record Setting : Type 0 where
   pub lent : LentPlane
   pub tables : Tables
 
--- "through a window in the default mode", which is 0
+-- "through a window in the default mode"; "The 8-tap and bilinear order runners .. ask for mode 1 by name" (E12)
+abbrev pub modeOf : Kind → ℕ
+modeOf Copy = alwaysScratch
+modeOf (Subpel m) = planeIfInside
+modeOf (Bilinear m) = planeIfInside
+modeOf (Warp s) = alwaysScratch
+
 abbrev pub askedBy : Order → Asked
-askedBy o = record { kind = kindNumber (o .kind); w = o .w; h = o .h; x = o .x; y = o .y; mode = 0 }
+askedBy o = record { kind = kindNumber (o .kind); w = o .w; h = o .h; x = o .x; y = o .y; mode = modeOf (o .kind) }
 
 -- named says that the kind's number was one of the four. sl is the length of scratch, dl of dst (or tmp)
 abbrev pub orderTests : Setting → (named : Bool) (o : Order) (sl dl dstStride : ℕ) → List Test

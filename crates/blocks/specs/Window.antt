@@ -113,9 +113,15 @@ areaOf p q =
 unfoldable pub inside : ℤ → (n side : ℕ) → Bool
 inside x n side = leZ (pos 0) x && leZ (x +ℤ pos n) (pos side)
 
--- "Mode 0 is the default: if the whole window is inside the plane, the answer is a part of the lent plane"; "Mode 1 always uses scratch"
+-- "Mode 0 becomes always scratch, and mode 1 becomes a part of the plane where the window is inside it" (E12); 0 is still the default
+abbrev pub alwaysScratch : ℕ
+alwaysScratch = 0
+
+abbrev pub planeIfInside : ℕ
+planeIfInside = 1
+
 unfoldable pub isPlanes : (mode : ℕ) → Area → Bool
-isPlanes mode a = eqb mode 0 && (inside (a .left) (a .ww) (a .iw) && inside (a .top) (a .wh) (a .ih))
+isPlanes mode a = eqb mode planeIfInside && (inside (a .left) (a .ww) (a .iw) && inside (a .top) (a .wh) (a .ih))
 
 abbrev pub ownPlane : LentPlane → Asked → Bool
 ownPlane p q = isPlanes (q .mode) (areaOf p q)

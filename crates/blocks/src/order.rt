@@ -8,7 +8,7 @@ ghost use Rattle.blocks.specs.Refuse.{need, sizeOk, blockSide, strideOk,
 ghost use Rattle.blocks.specs.Edge.{placeOk};
 ghost use Rattle.blocks.specs.Subpel.{subpelOk};
 ghost use Rattle.blocks.specs.Window.{planeW, frameSizesOk, frameNamesOk};
-ghost use Rattle.blocks.specs.Order.{kindNumber, kindOf, kindSizeOk, motionOk, filtersOk, Tables, orderNumber};
+ghost use Rattle.blocks.specs.Order.{kindNumber, modeOf, kindOf, kindSizeOk, motionOk, filtersOk, Tables, orderNumber};
 ghost use Rattle.blocks.specs.inner.Order.{settingOf, lengthsOf};
 use crate::bilinear::sixteenth_ok;
 use crate::edge::places;
@@ -27,6 +27,8 @@ use crate::subpel::plan::fraction_ok;
 use crate::subpel::plan::type_ok;
 use crate::warp::Shears;
 use crate::warp::filters_there;
+use crate::window::ALWAYS_SCRATCH;
+use crate::window::PLANE_IF_INSIDE;
 use crate::window::window_held;
 
 // The motion of a bilinear block: the two fractions.
@@ -97,6 +99,18 @@ pub fn kind_number(k: Kind) -> u32
         Kind::Subpel(_) => 1,
         Kind::Bilinear(_) => 2,
         Kind::Warp(_) => 3,
+    }
+}
+
+// The mode of a kind's window: 8-tap and bilinear spare a copy where the plane has it, the others take the default.
+pub fn mode_of(k: Kind) -> u32
+    ensures { λ r. ⌜ r ≡ modeOf k ⌝ }
+{
+    match k {
+        Kind::Copy => ALWAYS_SCRATCH,
+        Kind::Subpel(_) => PLANE_IF_INSIDE,
+        Kind::Bilinear(_) => PLANE_IF_INSIDE,
+        Kind::Warp(_) => ALWAYS_SCRATCH,
     }
 }
 

@@ -112,12 +112,17 @@ fn inside(x: i64, n: usize, side: usize) -> bool
     (0 <= x) & (x + n as i64 <= side as i64)
 }
 
+// The modes of a window: in scratch whatever the plane has, or a part of the plane where the window is inside it. Orders ask for one by its name.
+pub const ALWAYS_SCRATCH: u32 = 0;
+
+pub const PLANE_IF_INSIDE: u32 = 1;
+
 // An area is the plane's own.
 fn is_planes(a: Area, mode: u32) -> bool
     requires { ⌜ Ranged a ⌝ }
     ensures { λ r. ⌜ r ≡ isPlanes mode a ⌝ }
 {
-    (mode == 0) & (inside(a.left, a.ww, a.iw) & inside(a.top, a.wh, a.ih))
+    (mode == PLANE_IF_INSIDE) & (inside(a.left, a.ww, a.iw) & inside(a.top, a.wh, a.ih))
 }
 
 // The places that h rows of w take at the stride s.

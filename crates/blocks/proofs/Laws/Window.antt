@@ -7,3 +7,4 @@ pub mod OddPictures
 pub mod Places
 pub mod Predict
 pub mod Suffices
+pub mod Modes

@@ -7,7 +7,7 @@ use lib.ListN.{length}
 use Rattle.blocks.specs.Refuse.{orSame}
 use Rattle.blocks.specs.Window.{LentPlane, areaOf, noPart}
 use Rattle.blocks.specs.inner.Window.{lentOf, areaAt}
-use Rattle.blocks.specs.Order.{Tables, Setting, askedBy, orderNumber, orderScratch}
+use Rattle.blocks.specs.Order.{Tables, Setting, modeOf, askedBy, orderNumber, orderScratch}
 use Rattle.blocks.specs.declared.frame.Reference.{Reference}
 use Rattle.blocks.specs.declared.window.Part.{Part}
 use Rattle.blocks.specs.declared.order.Order.{Order}
@@ -23,7 +23,7 @@ lengthsOf t = record { subpel = length (t .subpel); ext = length (t .ext); warp 
 
 -- the part that an order reads: where its tests give another number than 0, that number and zeros
 unfoldable pub orderPart : (verdict : ℕ) → LentPlane → Order → Part
-orderPart verdict p o = orSame verdict (areaAt (areaOf p (askedBy o)) 0 (p .stride)) (noPart verdict)
+orderPart verdict p o = orSame verdict (areaAt (areaOf p (askedBy o)) (modeOf (o .kind)) (p .stride)) (noPart verdict)
 
 -- what the tests and the window of an order gave: the part r, which has the tests' number, and scratch as it was filled
 pub record OrderWindow (deep named : Bool) (lent : Reference) (plane : List ℕ) (o : Order) (t : TableLengths) (scratch : List ℕ) (dl dstStride : ℕ) (r : Part)

@@ -19,7 +19,7 @@ use Rattle.blocks.specs.Edge.{placeOk}
 use Rattle.blocks.specs.WMask.{flagsOk}
 use Rattle.blocks.specs.Subpel.{sixteenthOk}
 use Rattle.blocks.specs.Window.{LentPlane, planeSide, frameSizesOk, frameNamesOk, before, after, inside, isPlanes, windowAt, windowOf, fetched}
-use Rattle.blocks.specs.Window.{scratchOf, partOf}
+use Rattle.blocks.specs.Window.{alwaysScratch, planeIfInside, scratchOf, partOf}
 use Rattle.blocks.specs.Order.{Tables, Setting, putRule, putPicture}
 use Rattle.blocks.specs.declared.order.BilinMotion.{BilinMotion}
 use Rattle.blocks.specs.declared.order.Kind.the-variants.{Bilinear}
@@ -80,28 +80,28 @@ f3 = 220 ∷ 220 ∷ 120 ∷ 0 ∷ 70 ∷ 70 ∷ 230 ∷ 0 ∷ []
 abbrev f1 : List ℕ
 f1 = 100 ∷ 100 ∷ 60 ∷ 20 ∷ 20 ∷ 160 ∷ 220 ∷ 220 ∷ 120 ∷ []
 
--- inside the plane, in mode 1: in scratch, six places at the stride 3
-by-mode-1 : Fetched (r4 2 2 2 1) (zeros 6) f4 3 f4
+-- inside the plane, in mode 0: in scratch, six places at the stride 3
+by-mode-0 : Fetched (r4 2 2 2 1) (zeros 6) f4 3 f4
 unfolding windowOf windowAt fetched scratchOf partOf isPlanes inside orSame need sizeOk strideOk holds placeOk flagsOk planeSide frameSizesOk frameNamesOk
     before after fill fillIn paint inBlock rowOf rowFrom edge endless
-by-mode-1 = inl (1, 2, 0, 6, ((refl, refl, refl, refl, refl), refl), refl)
+by-mode-0 = inl (alwaysScratch, 2, 0, 6, ((refl, refl, refl, refl, refl), refl), refl)
 
--- inside too, in mode 0: the plane's own part, from place 5 on, at the plane's stride; scratch stays
-by-mode-0 : Fetched (r2 2 2 2 1) (zeros 9) f2 4 (zeros 9)
+-- inside too, in mode 1: the plane's own part, from place 5 on, at the plane's stride; scratch stays
+by-mode-1 : Fetched (r2 2 2 2 1) (zeros 9) f2 4 (zeros 9)
 unfolding windowOf windowAt fetched scratchOf partOf isPlanes inside orSame need sizeOk strideOk holds placeOk flagsOk planeSide frameSizesOk frameNamesOk
     before after fill fillIn paint inBlock rowOf rowFrom edge endless
-by-mode-0 = inl (0, 1, 5, 11, ((refl, refl, refl, refl, refl), refl), refl)
+by-mode-1 = inl (planeIfInside, 1, 5, 11, ((refl, refl, refl, refl, refl), refl), refl)
 
 -- across the border, by emu_edge, whose rows stand four apart
 by-emu-edge : Fetched (r3 2 2 2 1) (zeros 8) f3 4 f3
 unfolding orSame need sizeOk strideOk holds placeOk planeSide before after fill fillIn paint inBlock rowOf rowFrom edge endless
 by-emu-edge = inr ((refl, refl), refl)
 
--- across the border, in mode 0: in scratch
+-- across the border, in mode 1: in scratch
 over-border : Fetched (r1 2 2 2 1) (zeros 9) f1 3 f1
 unfolding windowOf windowAt fetched scratchOf partOf isPlanes inside orSame need sizeOk strideOk holds placeOk flagsOk planeSide frameSizesOk frameNamesOk
     before after fill fillIn paint inBlock rowOf rowFrom edge endless
-over-border = inl (0, 2, 0, 9, ((refl, refl, refl, refl, refl), refl), refl)
+over-border = inl (planeIfInside, 2, 0, 9, ((refl, refl, refl, refl, refl), refl), refl)
 
 -- ---- run as put, by hv_put_bilin_8bpc
 abbrev putting : KernelSays ℕ
@@ -149,8 +149,8 @@ unfolding PutCalls rowOf rowFrom
 put-calls =
     let last : Putting (r1 2 2 2 1 ∷ []) d3 = (7, zeros 9, f1, p1, (f1, 3, over-border, put-each .3), refl) in
     let third : Putting (r3 2 2 2 1 ∷ r1 2 2 2 1 ∷ []) d2 = (2, zeros 8, f3, p3, (f3, 4, by-emu-edge, put-each .2), last) in
-    let second : Putting (r2 2 2 2 1 ∷ r3 2 2 2 1 ∷ r1 2 2 2 1 ∷ []) d1 = (7, zeros 9, zeros 9, p2, (f2, 4, by-mode-0, put-each .1), third) in
-    (2, zeros 6, f4, p4, (f4, 3, by-mode-1, put-each .0), second)
+    let second : Putting (r2 2 2 2 1 ∷ r3 2 2 2 1 ∷ r1 2 2 2 1 ∷ []) d1 = (7, zeros 9, zeros 9, p2, (f2, 4, by-mode-1, put-each .1), third) in
+    (2, zeros 6, f4, p4, (f4, 3, by-mode-0, put-each .0), second)
 
 -- the block itself, worked out on the endless plane
 block : fill d0 5 4 3 (blockPut (bytes lent none) (Bilinear motion) x y 4 3) ≡ d4
@@ -187,9 +187,9 @@ prep-each = ((refl, refl), (refl, refl), (refl, refl), (refl, refl))
 pub prep-calls : Each (PrepCall (fetchThen lent 2 prepping) x y) rects
 unfolding Each
 prep-calls = (
-  record { scratch = zeros 6; scratch′ = f4; tmp = empty 2; tmp′ = t4; told = (f4, 3, by-mode-1, prep-each .0) },
+  record { scratch = zeros 6; scratch′ = f4; tmp = empty 2; tmp′ = t4; told = (f4, 3, by-mode-0, prep-each .0) },
   (
-    record { scratch = zeros 9; scratch′ = zeros 9; tmp = empty 4; tmp′ = t2; told = (f2, 4, by-mode-0, prep-each .1) },
+    record { scratch = zeros 9; scratch′ = zeros 9; tmp = empty 4; tmp′ = t2; told = (f2, 4, by-mode-1, prep-each .1) },
     (
       record { scratch = zeros 8; scratch′ = f3; tmp = empty 2; tmp′ = t3; told = (f3, 4, by-emu-edge, prep-each .2) },
       (record { scratch = zeros 9; scratch′ = f1; tmp = empty 4; tmp′ = t1; told = (f1, 3, over-border, prep-each .3) }, tt),

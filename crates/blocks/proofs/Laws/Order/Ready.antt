@@ -9,7 +9,7 @@ use Rattle.blocks.specs.Edge.{placeOk}
 use Rattle.blocks.specs.Subpel.{subpelOk}
 use Rattle.blocks.specs.Warp.{warpPlaceOk}
 use Rattle.blocks.specs.Window.{windowSide}
-use Rattle.blocks.specs.Order.{kindNumber, askedBy, orderNumber}
+use Rattle.blocks.specs.Order.{kindNumber, modeOf, askedBy, orderNumber}
 use Rattle.blocks.specs.inner.Ready.{Windowed}
 use Rattle.blocks.proofs.Laws.Calls.Refuse.{then, both-met}
 use Rattle.blocks.proofs.Laws.Warp.Ready.{place-met}
@@ -146,7 +146,7 @@ module _ {s : Setting} {named : Bool} {o : Order} {sl dl ds : ℕ} (m : OrderMet
         kind = four (o .kind);
         across = m .numbers .across;
         down = m .numbers .down;
-        mode = refl;
+        mode = either (o .kind);
         plane = m .lent .plane;
         scratch = m .lent .scratch;
       }) where
@@ -155,6 +155,12 @@ module _ {s : Setting} {named : Bool} {o : Order} {sl dl ds : ℕ} (m : OrderMet
         four (Subpel m) = refl
         four (Bilinear m) = refl
         four (Warp s) = refl
+
+        either : (k : Kind) → leb (modeOf k) 1 ≡ true
+        either Copy = refl
+        either (Subpel m) = refl
+        either (Bilinear m) = refl
+        either (Warp s) = refl
 
   pub order-block : Block (o .w) (o .h)
   order-block = shape-block (m .shape)

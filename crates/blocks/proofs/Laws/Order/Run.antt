@@ -5,7 +5,7 @@ use Rattle.blocks.proofs.Usual.{done, refused}
 use Rattle.blocks.specs.inner.Ready.{Windowed, PartIn}
 use Rattle.blocks.specs.Window.{noPart, aroundPart}
 use Rattle.blocks.specs.inner.Window.{areaAt, areaFetched}
-use Rattle.blocks.specs.Order.{kindNumber, askedBy, prepRule, putPicture, prepPicture, planeOf, orderNumber}
+use Rattle.blocks.specs.Order.{kindNumber, modeOf, askedBy, prepRule, putPicture, prepPicture, planeOf, orderNumber}
 use Rattle.blocks.specs.Order.{orderScratch, orderTmp, OrderPutAnswer, OrderPrepAnswer}
 use Rattle.blocks.specs.inner.Order.{settingOf, lengthsOf, orderPart, OrderWindow}
 use Rattle.blocks.proofs.Laws.Window.Ready.{no-part-of, answer-number, window-number, window-is, Accepted, accepted-scratch, scratch-kept}
@@ -75,14 +75,15 @@ module _ (s : Setting) (named : Bool) (o : Order) (scratch : List ℕ) (dl ds : 
   pub order-accepted : Accepted (s .lent) (askedBy o) (length scratch)
   order-accepted = record { is = order-window (order-met s named o (length scratch) dl ds z) }
 
-  pub fetched-part : {a : Area} {r : Part} → a ≡ areaOf (s .lent) (askedBy o) → r ≡ areaAt a 0 (s .lent .stride)
+  pub fetched-part : {a : Area} {r : Part} → a ≡ areaOf (s .lent) (askedBy o) → r ≡ areaAt a (modeOf (o .kind)) (s .lent .stride)
       → r ≡ orderPart (orderNumber s named o (length scratch) dl ds) (s .lent) o
   unfolding orderPart
   fetched-part is e = e ∙ rw is (sym (done _ _ _ z))
 
 -- and leaves in scratch what its window's call does
 pub fetched-scratch : (p : LentPlane) (o : Order) (scratch : List ℕ) {a : Area} {r : Part} {d : List ℕ} → Accepted p (askedBy o) (length scratch)
-    → a ≡ areaOf p (askedBy o) → r ≡ areaAt a 0 (p .stride) → d ≡ areaFetched a (p .plane) (p .stride) 0 scratch → d ≡ orderScratch (r .number) p o scratch
+    → a ≡ areaOf p (askedBy o) → r ≡ areaAt a (modeOf (o .kind)) (p .stride)
+    → d ≡ areaFetched a (p .plane) (p .stride) (modeOf (o .kind)) scratch → d ≡ orderScratch (r .number) p o scratch
 unfolding orderScratch
 fetched-scratch p o scratch ok is e full = accepted-scratch ok is scratch e full
 

@@ -3,7 +3,7 @@ use Rattle.blocks.proofs.Usual.{true, List, _≡_, _∙_, refl, sym, ap
 use Rattle.blocks.proofs.Usual.{before, frameNamesOk, after, windowOf, frameSizesOk, planeSide, isPlanes, windowAt, scratchOf, rowAt}
 use Rattle.blocks.specs.Edge.{placeOk}
 use Rattle.blocks.specs.WMask.{flagsOk}
-use Rattle.blocks.specs.Window.{inside}
+use Rattle.blocks.specs.Window.{alwaysScratch, planeIfInside, inside}
 use Rattle.blocks.specs.Window.{PartAnswer, WindowAnswer}
 use Rattle.blocks.specs.declared.window.Part.{Part}
 
@@ -40,21 +40,21 @@ abbrev bilinAt : (x : ℤ) (mode : ℕ) → Asked
 bilinAt x mode = record { kind = 2; w = 3; h = 2; x = x; y = pos 2; mode = mode }
 
 -- at column 5, with its margins, it ends with the plane's columns and rows and is the plane's own
-window-own : windowOf lent (bilinAt (pos 5) 0) 12 ≡ record { number = 0; buffer = 1; place = 25; stride = 10; len = 24 }
+window-own : windowOf lent (bilinAt (pos 5) planeIfInside) 12 ≡ record { number = 0; buffer = 1; place = 25; stride = 10; len = 24 }
 unfolding windowOf windowAt orSame need sizeOk strideOk placeOk holds flagsOk planeSide frameSizesOk frameNamesOk before after isPlanes inside rowOf rowFrom
 window-own = refl
 
--- in mode 1 it is in scratch, and so it is in mode 0 a column further right
-window-fetched : windowOf lent (bilinAt (pos 5) 1) 12 ≡ record { number = 0; buffer = 2; place = 0; stride = 4; len = 12 }
+-- in the default mode it is in scratch, and so it is in the other a column further right
+window-fetched : windowOf lent (bilinAt (pos 5) alwaysScratch) 12 ≡ record { number = 0; buffer = 2; place = 0; stride = 4; len = 12 }
 unfolding windowOf windowAt orSame need sizeOk strideOk placeOk holds flagsOk planeSide frameSizesOk frameNamesOk before after isPlanes inside rowOf rowFrom
 window-fetched = refl
 
-window-beside : windowOf lent (bilinAt (pos 6) 0) 12 ≡ record { number = 0; buffer = 2; place = 0; stride = 4; len = 12 }
+window-beside : windowOf lent (bilinAt (pos 6) planeIfInside) 12 ≡ record { number = 0; buffer = 2; place = 0; stride = 4; len = 12 }
 unfolding windowOf windowAt orSame need sizeOk strideOk placeOk holds flagsOk planeSide frameSizesOk frameNamesOk before after isPlanes inside rowOf rowFrom
 window-beside = refl
 
 -- with one place of scratch less it is refused
-window-short : windowOf lent (bilinAt (pos 5) 0) 11 ≡ record { number = 6; buffer = 0; place = 0; stride = 0; len = 0 }
+window-short : windowOf lent (bilinAt (pos 5) planeIfInside) 11 ≡ record { number = 6; buffer = 0; place = 0; stride = 0; len = 0 }
 unfolding windowOf windowAt orSame need sizeOk strideOk placeOk holds flagsOk planeSide frameSizesOk frameNamesOk before after isPlanes inside rowOf rowFrom
 window-short = refl
 

@@ -9,7 +9,7 @@ use Rattle.rows.proofs.Laws.Numbers.Signed.{clip-up}
 use Rattle.rows.proofs.Laws.Blocks.Places.{span-length, span-at}
 use Rattle.blocks.specs.Refuse.{partLen}
 use Rattle.blocks.specs.inner.Ready.{Fetch, PartIn}
-use Rattle.blocks.specs.Window.{windowSide, inside, ownPlane, noPart}
+use Rattle.blocks.specs.Window.{windowSide, planeIfInside, inside, ownPlane, noPart}
 use Rattle.blocks.specs.Window.{fetched, aroundPart}
 use Rattle.blocks.specs.Order.{planeOf}
 use Rattle.blocks.proofs.Laws.Window.Ready.{window-ready, window-number}
@@ -34,7 +34,7 @@ inside-met x n side e =
 pub planes-met : (mode : ℕ) (a : Area) → isPlanes mode a ≡ true → Inside (a .left) (a .ww) (a .iw) × Inside (a .top) (a .wh) (a .ih)
 unfolding isPlanes
 planes-met mode a e =
-    let r = and-true (inside (a .left) (a .ww) (a .iw)) (inside (a .top) (a .wh) (a .ih)) (and-true (eqb mode 0) _ e .1) in
+    let r = and-true (inside (a .left) (a .ww) (a .iw)) (inside (a .top) (a .wh) (a .ih)) (and-true (eqb mode planeIfInside) _ e .1) in
     (inside-met (a .left) (a .ww) (a .iw) (r .0), inside-met (a .top) (a .wh) (a .ih) (r .1))
 
 -- there, the nearest column is the column itself

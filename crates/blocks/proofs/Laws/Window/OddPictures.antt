@@ -10,7 +10,7 @@ use Rattle.rows.proofs.Laws.Numbers.Signed.{clip-up}
 use Rattle.rows.proofs.Laws.Blocks.Places.{span-at}
 use Rattle.blocks.specs.Edge.{placeOk}
 use Rattle.blocks.specs.WMask.{flagsOk}
-use Rattle.blocks.specs.Window.{planeW, planeH}
+use Rattle.blocks.specs.Window.{planeW, planeH, planeIfInside}
 use Rattle.blocks.specs.Window.{inside, ownPlane, rowTests, PartAnswer, WindowAnswer}
 use Rattle.blocks.proofs.Laws.Window.Ready.{side-le, met-window, window-number}
 use Rattle.blocks.proofs.Laws.Window.Holds.{part-pixel}
@@ -222,7 +222,7 @@ cropped-lent plane h =
 
 -- its last pixel, in column 320 of row 4, is the last of 5 rows of 321; it is handed out, and so is the row with it
 cropped-window : (plane : List ℕ) → length plane ≡ 1605
-    → windowOf (croppedPlane plane) (onePixel 320 4 0) 1 ≡ record { number = 0; buffer = 1; place = 1604; stride = 321; len = 1 }
+    → windowOf (croppedPlane plane) (onePixel 320 4 planeIfInside) 1 ≡ record { number = 0; buffer = 1; place = 1604; stride = 321; len = 1 }
 unfolding windowOf windowAt orSame need sizeOk strideOk placeOk holds flagsOk planeSide frameSizesOk frameNamesOk before after isPlanes inside
 cropped-window plane l = rw l refl
 

@@ -4,7 +4,7 @@ use Rattle.blocks.proofs.Usual.{holds, Rows, Block, le-leb, false, pos,
 use Rattle.blocks.proofs.Usual.{windowOf, frameSizesOk, planeSide, isPlanes, windowAt, wholeFilters, lowest}
 use Rattle.blocks.specs.Edge.{placeOk}
 use Rattle.blocks.specs.WMask.{flagsOk}
-use Rattle.blocks.specs.Window.{inside}
+use Rattle.blocks.specs.Window.{alwaysScratch, planeIfInside, inside}
 use Rattle.blocks.specs.Copy.{putTests, prepTests}
 use Rattle.blocks.specs.Subpel.{on, typeOk, sixteenthOk, fractionOk, subpelOk, filterIn, subpelTests}
 use Rattle.blocks.specs.Bilinear.{bilinTests}
@@ -67,7 +67,7 @@ part-warp x y {src} {s} deep dl ds m tl p =
     let k : Block 8 8 = record { w1 = omega arith; w64 = omega arith; h1 = omega arith; h64 = omega arith } in
     rw (rows-read (length src) s 8 8 3 4 3 4 3 4 k (p .rows) (omega arith) (omega arith) (omega arith) (omega arith)) refl
 
--- ---- both calls are accepted: an 8-tap block of 8 x 8 on a plane of 16 x 16, in mode 0 from the plane itself and in mode 1 from scratch
+-- ---- both calls are accepted: an 8-tap block of 8 x 8 on a plane of 16 x 16, in mode 1 from the plane itself and in mode 0 from scratch
 abbrev square : LentPlane
 square =
     record {
@@ -83,12 +83,12 @@ middle mode = askedIn mode (blockAt (pos 4) (pos 4) 8 8 (Subpel (record { mx = p
 abbrev eight : (sl apart : ℕ) → ℕ
 eight sl apart = lowest (subpelTests true 64 8 sl (3 * apart + 3) apart 8 8 (pos 4) (pos 6) (pos 0) 600 0)
 
-own-then-8tap : (windowOf square (middle 0) 225 ≡ record { number = 0; buffer = 1; place = 17; stride = 16; len = 239 }) × (eight 239 16 ≡ 0)
+own-then-8tap : (windowOf square (middle planeIfInside) 225 ≡ record { number = 0; buffer = 1; place = 17; stride = 16; len = 239 }) × (eight 239 16 ≡ 0)
 unfolding windowOf windowAt orSame need sizeOk strideOk placeOk holds reads flagsOk planeSide frameSizesOk frameNamesOk before after isPlanes inside rowOf
     rowFrom wholeFilters typeOk sixteenthOk fractionOk subpelOk filterIn
 own-then-8tap = (refl, refl)
 
-scratch-then-8tap : (windowOf square (middle 1) 225 ≡ record { number = 0; buffer = 2; place = 0; stride = 15; len = 225 }) × (eight 225 15 ≡ 0)
+scratch-then-8tap : (windowOf square (middle alwaysScratch) 225 ≡ record { number = 0; buffer = 2; place = 0; stride = 15; len = 225 }) × (eight 225 15 ≡ 0)
 unfolding windowOf windowAt orSame need sizeOk strideOk placeOk holds reads flagsOk planeSide frameSizesOk frameNamesOk before after isPlanes inside rowOf
     rowFrom wholeFilters typeOk sixteenthOk fractionOk subpelOk filterIn
 scratch-then-8tap = (refl, refl)

@@ -8,11 +8,12 @@ use crate::order::Order;
 use crate::order::TableLengths;
 use crate::order::check_order;
 use crate::order::kind_number;
+use crate::order::mode_of;
 use crate::window::Part;
 use crate::window::no_part;
 use rows::bytes::pixel::Pixel;
 
-// An order's tests, and its window in the default mode where none refuses: the part that the kind's rows read. dl is the length of what is written.
+// An order's tests, and its window in its kind's mode where none refuses: the part that the kind's rows read. dl is the length of what is written.
 pub fn order_window(
     deep: bool,
     named: bool,
@@ -43,5 +44,6 @@ pub fn order_window(
     let k = o.kind;
     let n = kind_number(k);
     let a = area_of(lent, n, o.w, o.h, o.x, o.y);
-    fetch(a, plane, lent.stride, 0, scratch)
+    let mode = mode_of(k);
+    fetch(a, plane, lent.stride, mode, scratch)
 }

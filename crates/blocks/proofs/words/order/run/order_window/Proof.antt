@@ -34,7 +34,7 @@ area-is c =
     rw (k .kind-number .ensures, told-back w64 g, told-back w64 (g .1)) at (c .area-of .ensures (a .plane .now) 0)
 
 fetch-requires : tie.Need-fetch-requires
-fetch-requires c κs = let a = c .before in accepted-ready (accepted (a .before .before .before .before)) (area-is a)
+fetch-requires c κs = let a = c .before .before in accepted-ready (accepted (a .before .before .before .before)) (area-is a)
 
 returns : tie.Need-returns
 returns c =
@@ -47,13 +47,14 @@ returns c =
 
 returns-2 : tie.Need-returns-2
 returns-2 c =
-    let g = c .before .before in let a = g .before .before in let e = a .before .before .before .before in let s = entry (e .before) in
+    let g = c .before .before in let m = g .before .before in let a = m .before in
+    let e = a .before .before .before .before in let s = entry (e .before) in
+    let (at, full) = rw (m .mode-of .ensures) at (g .fetch .ensures) in
     record {
-      part = λ depth tables l.
-          fetched-part (tested s depth tables) _ _ (s .args .scratch .now) _ _ (none e depth tables l) (area-is a) (g .fetch .ensures .0);
-      full = fetched-scratch _ _ _ (accepted e) (area-is a) (g .fetch .ensures .0) (g .fetch .ensures .1);
+      part = λ depth tables l. fetched-part (tested s depth tables) _ _ (s .args .scratch .now) _ _ (none e depth tables l) (area-is a) at;
+      full = fetched-scratch _ _ _ (accepted e) (area-is a) at full;
     }
 
 pub order-window-spec : {M : Type 1} → Rattle.blocks.proofs.words.order.run.order_window.Statement.statement M
 order-window-spec = tie.close (tie.spec (λ c κs. search needs) (λ c κs. search needs) returns (λ c κs. search needs)  -- check-order, no-part, kind-number
-    area-of-requires fetch-requires (λ c. search needs) returns-2)  -- same-length
+    area-of-requires (λ c κs. search needs) fetch-requires (λ c. search needs) returns-2)  -- mode-of, same-length
