@@ -308,9 +308,16 @@ enum hv_plane_no { HV_LUMA = 0, HV_CHROMA = 1 };
 /* How a block is predicted. Any other kind is HV_NUMBER. */
 enum hv_kind { HV_COPY = 0, HV_8TAP = 1, HV_BILINEAR = 2, HV_WARP = 3 };
 
-/* Where a window is taken from: from the plane if it lies inside, else from scratch; or always from scratch. Any other
- * mode is HV_NUMBER. */
-enum hv_mode { HV_PLANE_IF_INSIDE = 0, HV_ALWAYS_SCRATCH = 1 };
+/*
+ * Where a window is taken from: always from scratch, which is the default; or from the plane if it lies inside, else
+ * from scratch. Any other mode is HV_NUMBER. A window in scratch stays as it is whatever becomes of the plane; one that
+ * is a part of the plane is only good until the plane's memory is written again.
+ *
+ * WARNING: these two numbers have changed places (CHANGELOG.md, request E12): 0 was HV_PLANE_IF_INSIDE, 1 was
+ * HV_ALWAYS_SCRATCH. A caller that passes the names has to be compiled again, with this header. One that passes a bare
+ * 0 or 1 now gets the other mode, and is answered HV_DONE as before.
+ */
+enum hv_mode { HV_ALWAYS_SCRATCH = 0, HV_PLANE_IF_INSIDE = 1 };
 
 /* The buffer that holds an answer. */
 enum hv_buffer { HV_IN_PLANE = 1, HV_IN_SCRATCH = 2 };
@@ -346,13 +353,15 @@ uint32_t hv_row_16bpc(size_t luma_w, size_t luma_h, bool ss_hor, bool ss_ver, ui
     size_t *stride, size_t *len);
 
 /*
- * Orders: predict a block from a plane that goes on for ever, through a window of the mode HV_PLANE_IF_INSIDE. x, y is
- * the reference's place of the block's first pixel, whole motion included, within +-2^30. mx, my, filter_type and a, b,
- * c, d are those of the kernel of this kind; what it doesn't take isn't looked at. A warp is 8 x 8. Of the tables each
- * length is tested, whatever the kind. Scratch must hold the window.
+ * Orders: predict a block from a plane that goes on for ever, through a window. x, y is the reference's place of the
+ * block's first pixel, whole motion included, within +-2^30. mx, my, filter_type and a, b, c, d are those of the kernel
+ * of this kind; what it doesn't take isn't looked at. A warp is 8 x 8. Of the tables each length is tested, whatever
+ * the kind. Scratch must hold the window. The kind decides the window's mode: HV_COPY and HV_WARP take the default,
+ * HV_ALWAYS_SCRATCH, and so write the window into scratch always, inside the plane too; HV_8TAP and HV_BILINEAR take
+ * HV_PLANE_IF_INSIDE, and so write it there only where it isn't inside the plane.
  */
 
-/* Predicts a block of pixels. Writes dst, and scratch where the window isn't inside the plane. Numbers 1 2 3 4 5 6. */
+/* Predicts a block of pixels. Writes dst, and scratch as said above. Numbers 1 2 3 4 5 6. */
 uint32_t hv_order_put_8bpc(size_t luma_w, size_t luma_h, bool ss_hor, bool ss_ver, uint32_t plane_no,
     const uint8_t *plane, size_t plane_len, size_t plane_stride, uint32_t kind, int64_t x, int64_t y, size_t w,
     size_t h, int32_t mx, int32_t my, int32_t filter_type, int16_t a, int16_t b, int16_t c, int16_t d,

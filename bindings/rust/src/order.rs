@@ -74,8 +74,9 @@ impl Kind {
 }
 
 impl Order {
-    /// Predicts the block's pixels into `dst`, which begins at its first pixel. Scratch has to hold the block's window,
-    /// and changes where the window isn't inside the plane.
+    /// Predicts the block's pixels into `dst`, which begins at its first pixel. Scratch has to hold the block's window.
+    /// A copied or warped block's window is always written there (`Mode::AlwaysScratch`, the default), an 8-tap or
+    /// bilinear one's where it isn't inside the plane (`Mode::PlaneIfInside`).
     ///
     /// ```
     /// use hemavolups::{BilinMotion, Eight, Frame, Kind, Order, Plane, PlaneName, SCRATCH_LEN, Tables};

@@ -41,13 +41,14 @@ pub struct Plane<'a, P> {
     pub stride: usize,
 }
 
-/// Where a window is taken from.
-#[derive(Clone, Copy, Debug, PartialEq, Eq)]
+/// Where a window is taken from. Their numbers have changed places (CHANGELOG.md, E12): 0 was `PlaneIfInside`.
+#[derive(Clone, Copy, Debug, Default, PartialEq, Eq)]
 pub enum Mode {
+    /// Always from scratch, which stays as it is whatever becomes of the plane.
+    #[default]
+    AlwaysScratch = 0,
     /// From the plane if the window lies inside, else from scratch.
-    PlaneIfInside = 0,
-    /// Always from scratch.
-    AlwaysScratch = 1,
+    PlaneIfInside = 1,
 }
 
 /// A lent buffer.
@@ -101,6 +102,8 @@ impl<'a, P: Pixel> Plane<'a, P> {
     /// let mut scratch = [0; 4];
     ///
     /// let inside = Order { x: 1, y: 0, w: 2, h: 2, kind: Kind::Copy };
+    /// let window = plane.window(&inside, Mode::default(), &mut scratch)?;
+    /// assert_eq!((window.buffer, window.stride, window.pixels), (Buffer::Scratch, 2, &[2, 3, 5, 6][..]));
     /// let window = plane.window(&inside, Mode::PlaneIfInside, &mut scratch)?;
     /// assert_eq!((window.buffer, window.stride, window.pixels), (Buffer::Plane, 3, &[2, 3, 4, 5, 6][..]));
     ///
