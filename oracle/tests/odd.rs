@@ -7,7 +7,7 @@ use oracle::answer::{Answer, Buffer, Px, Room};
 use oracle::ask::Answers;
 use oracle::calls::Call;
 use oracle::calls::order::{Motion, Order, OrderPrep, OrderPut};
-use oracle::calls::window::{Block, Reference, Row, Window};
+use oracle::calls::window::{ALWAYS_SCRATCH, Block, PLANE_IF_INSIDE, Reference, Row, Window};
 use oracle::compare::{expected, one_entry};
 use oracle::lend::Places;
 use oracle::library::Library;
@@ -94,8 +94,8 @@ where
     let corner = from.plane[4 * W + LAST];
     let block = Block { kind: 0, x: LAST as i64, y: 4, w: 1, h: 1 };
     let window = |mode| answer(&Window { from: from.clone(), block, mode, scratch: Room(vec![P::low(0)]) });
-    assert_eq!(window(0).results, [1, 4 * 321 + 320, 321, 1]);
-    assert_eq!(window(1), Answer::done(vec![2, 0, 1, 1], vec![P::buffer(Room(vec![corner]))]));
+    assert_eq!(window(PLANE_IF_INSIDE).results, [1, 4 * 321 + 320, 321, 1]);
+    assert_eq!(window(ALWAYS_SCRATCH), Answer::done(vec![2, 0, 1, 1], vec![P::buffer(Room(vec![corner]))]));
     for row in 0..5 {
         assert_eq!(answer(&Row { from: from.clone(), row }).results, [1, row * 321, 321, 321]);
     }

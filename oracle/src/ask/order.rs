@@ -9,6 +9,7 @@ use crate::calls::order::{Order, OrderPrep, OrderPut};
 use crate::calls::window::{Area, Reference, Row, Window};
 use crate::kernels::{self, Fetched};
 use crate::rules::Rules;
+use crate::rules::order::mode;
 use crate::rules::window::{self, filled, in_plane, part};
 
 /// The pixels of an area, without gaps, as emu_edge fetches them.
@@ -39,8 +40,8 @@ impl<P: Px> Answers<Row<P>> for Original {
 /// What the order's kernel reads, a part of the plane or what emu_edge fetched, and scratch after the order.
 fn fetched<P: Px>(order: &Order<P>) -> (Fetched<P>, Buffer) {
     let Order { from, block, scratch, .. } = order;
-    if in_plane(from, block, 0) {
-        let [_, place, stride, length] = part(from, block, 0).map(|number| number as usize);
+    if in_plane(from, block, mode(block)) {
+        let [_, place, stride, length] = part(from, block, mode(block)).map(|number| number as usize);
         let src = Room(from.plane[place..place + length].to_vec());
         return (Fetched { src, stride }, P::buffer(scratch.clone()));
     }

@@ -8,6 +8,11 @@ use crate::rng::Rng;
 /// The greatest luma side.
 const LUMA: usize = 16_384;
 
+/// The mode of a window that is always in scratch, the default (E12).
+pub const ALWAYS_SCRATCH: u32 = 0;
+/// The mode of a window that is a part of the plane where it is inside.
+pub const PLANE_IF_INSIDE: u32 = 1;
+
 /// A frame, the plane of it that a call names, and that plane's pixels.
 #[derive(Clone, Debug)]
 pub struct Reference<P> {
@@ -236,7 +241,9 @@ impl<P: Px> Call for Window<P> {
         let kind = kind(rng, bad_kind);
         let (w, h) = (limits::side(rng, bad_w), limits::side(rng, bad_h));
         let (from, block) = place(rng, depth, &faults, &wrong, Block { kind, x: 0, y: 0, w, h });
-        let mode = if bad_mode { rng.pick(&[2, 2, 3, 256, 1 << 31, u32::MAX]) } else { rng.pick(&[0, 0, 1]) };
+        let modes: &[u32] =
+            if bad_mode { &[2, 2, 3, 256, 1 << 31, u32::MAX] } else { &[ALWAYS_SCRATCH, PLANE_IF_INSIDE] };
+        let mode = rng.pick(modes);
         let scratch = scratch(rng, depth, &faults, &block, faults.has(6));
         Window { from, block, mode, scratch }
     }

@@ -5,7 +5,7 @@ mod bilinear;
 mod combine;
 mod copy;
 mod edge;
-mod order;
+pub mod order;
 mod scaled;
 mod search;
 pub mod shear;

@@ -5,6 +5,7 @@ use super::window::{endless, filled, in_plane, told};
 use crate::answer::{Answer, Buffer, Px, Room};
 use crate::ask::Answers;
 use crate::calls::order::{Order, OrderPrep, OrderPut};
+use crate::calls::window::{ALWAYS_SCRATCH, Block, PLANE_IF_INSIDE};
 use crate::kernels::{self, Fetched};
 
 /// Answers each accepted call by its rule.
@@ -18,12 +19,16 @@ impl<C: Rules> Answers<C> for ByRule {
     }
 }
 
-/// The endless plane's pixels in the order's window, and scratch after the order: filled where the window isn't inside
-/// the plane.
+/// The mode of the window of an order's block: 8-tap and bilinear ask for mode 1, copy and warp take the default (E12).
+pub fn mode(block: &Block) -> u32 {
+    if block.kind == 1 || block.kind == 2 { PLANE_IF_INSIDE } else { ALWAYS_SCRATCH }
+}
+
+/// The endless plane's pixels in the order's window, and scratch after the order: as its window's mode leaves it.
 fn fetched<P: Px>(order: &Order<P>) -> (Fetched<P>, Buffer) {
     let Order { from, block, scratch, .. } = order;
     let pixels = endless(from, &block.window());
-    let after = if in_plane(from, block, 0) { scratch.clone() } else { filled(scratch, &pixels) };
+    let after = if in_plane(from, block, mode(block)) { scratch.clone() } else { filled(scratch, &pixels) };
     (Fetched { src: Room(pixels), stride: block.window().w }, P::buffer(after))
 }
 
@@ -34,7 +39,7 @@ impl<P: Px> Rules for OrderPut<P> {
     }
 
     fn rare(&self) -> Vec<&'static str> {
-        told(&self.order.from, &self.order.block)
+        told(&self.order.from, &self.order.block, mode(&self.order.block))
     }
 }
 
@@ -45,6 +50,6 @@ impl<P: Px> Rules for OrderPrep<P> {
     }
 
     fn rare(&self) -> Vec<&'static str> {
-        told(&self.order.from, &self.order.block)
+        told(&self.order.from, &self.order.block, mode(&self.order.block))
     }
 }

@@ -2,7 +2,7 @@
 
 use super::Rules;
 use crate::answer::{Answer, Px, Room};
-use crate::calls::window::{Area, Block, Lie, Reference, Row, Window};
+use crate::calls::window::{ALWAYS_SCRATCH, Area, Block, Lie, PLANE_IF_INSIDE, Reference, Row, Window};
 
 /// Where a block's window lies, in words.
 fn lies<P>(from: &Reference<P>, block: &Block) -> &'static str {
@@ -18,9 +18,15 @@ fn rounded<P>(from: &Reference<P>) -> Option<&'static str> {
     from.odd().then_some("chroma of an odd luma side")
 }
 
-/// What is to be told of a block's window.
-pub fn told<P>(from: &Reference<P>, block: &Block) -> Vec<&'static str> {
-    [lies(from, block)].into_iter().chain(rounded(from)).collect()
+/// Whether a window is in scratch though the plane has all of it, in words.
+fn yet_in_scratch<P>(from: &Reference<P>, block: &Block, mode: u32) -> Option<&'static str> {
+    let inside = from.lie(&block.window()) == Lie::Inside;
+    (inside && mode == ALWAYS_SCRATCH).then_some("window inside the plane, yet in scratch")
+}
+
+/// What is to be told of a block's window in a mode.
+pub fn told<P>(from: &Reference<P>, block: &Block, mode: u32) -> Vec<&'static str> {
+    [lies(from, block)].into_iter().chain(yet_in_scratch(from, block, mode)).chain(rounded(from)).collect()
 }
 
 /// The endless plane's pixels in an area, without gaps: at column clamp(x+i, 0, iw-1), row clamp(y+j, 0, ih-1).
@@ -39,9 +45,9 @@ pub fn filled<P: Px>(scratch: &Room<P>, pixels: &[P]) -> Room<P> {
     scratch
 }
 
-/// Does a window answer with a part of the plane? Mode 0 does if the whole window is inside it; mode 1 never.
+/// Does a window answer with a part of the plane? Mode 0 never does; mode 1 if the whole window is inside it (E12).
 pub fn in_plane<P>(from: &Reference<P>, block: &Block, mode: u32) -> bool {
-    mode == 0 && from.lie(&block.window()) == Lie::Inside
+    mode == PLANE_IF_INSIDE && from.lie(&block.window()) == Lie::Inside
 }
 
 /// Buffer, place, stride and length of a window's part. It begins at the window's first pixel and ends after its last.
@@ -66,7 +72,7 @@ impl<P: Px> Rules for Window<P> {
     }
 
     fn rare(&self) -> Vec<&'static str> {
-        told(&self.from, &self.block)
+        told(&self.from, &self.block, self.mode)
     }
 }
 
