@@ -13,12 +13,12 @@ use crate::room::Room;
 pub trait Library<P>:
     Put<P> + Prep<P> + Avg<P> + WAvg<P> + Mask<P> + Blend<P> + Morph<P> + WMask<P> + EmuEdge<P> + Put8tap<P>
     + Prep8tap<P> + PutBilin<P> + PrepBilin<P> + Put8tapScaled<P> + Prep8tapScaled<P> + PutBilinScaled<P>
-    + PrepBilinScaled<P> + SadNxn<P> + SadRefineMv<P> + WarpAffine<P> + WarpAffineT<P> {}
+    + PrepBilinScaled<P> + SadNxn<P> + SadRefineMv<P> + WarpAffine<P> + WarpAffineT<P> + OrderPut<P> + OrderPrep<P> {}
 
 impl Library<u8> for Linked {}
 impl Library<u16> for Linked {}
 
-/// A kernel: the most that the ratio may be, the sizes of its blocks, and the two sides.
+/// A kernel: the most that the ratio may be, infinite where no goal is set; the sizes of its blocks; the two sides.
 pub struct Kernel<BD: BitDepth> {
     pub name: String,
     pub goal: f64,

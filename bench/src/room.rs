@@ -6,7 +6,10 @@ use original::real_tables::{EXT_WARP_FILTER, MC_SUBPEL_FILTERS, MC_WARP_FILTER};
 /// Columns of every picture, and its places: blocks of 64 at twice the step, with taps or offsets around them. The last
 /// taps of such a scaled row are the next row's first pixels.
 const STRIDE: usize = 128;
-const PLACES: usize = STRIDE * (2 * 64 + 16);
+const PLACES: usize = STRIDE * ROWS;
+
+/// Rows of every picture.
+pub const ROWS: usize = 2 * 64 + 16;
 
 pub struct Room<BD: BitDepth> {
     pub bd: BD,
@@ -30,6 +33,8 @@ pub struct Room<BD: BitDepth> {
     pub tmp: Vec<i16>,
     pub weights: Vec<u8>,
     pub found: (i32, i32),
+    /// Written by orders alone; the Rust has none, so it isn't compared.
+    pub scratch: Vec<BD::Pixel>,
 }
 
 impl<BD: BitDepth> Room<BD> {
@@ -54,6 +59,7 @@ impl<BD: BitDepth> Room<BD> {
             tmp: vec![0; PLACES],
             weights: vec![0; PLACES],
             found: (0, 0),
+            scratch: pixels(7, depth),
         }
     }
 

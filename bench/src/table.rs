@@ -10,7 +10,8 @@ pub fn print(title: &str, pairs: &[Pair], cell: fn(&Pair) -> String) {
     for row in pairs.chunk_by(|a, b| (a.place, a.depth) == (b.place, b.depth)) {
         let shown = |size: &usize| row.iter().find(|pair| pair.size == *size).map(cell).unwrap_or_default();
         let cells: Vec<String> = SIZES.iter().map(shown).collect();
-        println!("| {} | {} | {} | {:.2} |", row[0].name, row[0].depth, cells.join(" | "), row[0].goal);
+        let goal = Some(row[0].goal).filter(|goal| goal.is_finite()).map(|goal| format!("{goal:.2}"));
+        println!("| {} | {} | {} | {} |", row[0].name, row[0].depth, cells.join(" | "), goal.unwrap_or_default());
     }
     println!();
 }

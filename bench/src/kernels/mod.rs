@@ -3,6 +3,7 @@
 mod combined;
 mod copied;
 mod filtered;
+mod ordered;
 mod scaled;
 mod searched;
 mod warped;
@@ -25,6 +26,7 @@ where
     kernels.extend(scaled::kernels());
     kernels.extend(searched::kernels());
     kernels.extend(warped::kernels());
+    kernels.extend(ordered::kernels());
     kernels
 }
 
