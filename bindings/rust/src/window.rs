@@ -41,7 +41,7 @@ pub struct Plane<'a, P> {
     pub stride: usize,
 }
 
-/// Where a window is taken from. Their numbers have changed places (CHANGELOG.md, E12): 0 was `PlaneIfInside`.
+/// Where a window is taken from. The two numbers have changed places (CHANGELOG.md, E12): 0 was `PlaneIfInside`.
 #[derive(Clone, Copy, Debug, Default, PartialEq, Eq)]
 pub enum Mode {
     /// Always from scratch, which stays as it is whatever becomes of the plane.
