@@ -1,4 +1,5 @@
 -- What only the contracts of inner functions name, and no C function's: nobody need believe it.
+pub mod Source
 pub mod Ready
 pub mod Groups
 pub mod Scaled

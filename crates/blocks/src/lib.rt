@@ -14,6 +14,7 @@ pub mod refuse;
 pub mod scaled;
 pub mod search;
 pub mod shear;
+pub mod source;
 pub mod subpel;
 pub mod w_mask;
 pub mod warp;

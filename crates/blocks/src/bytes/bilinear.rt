@@ -25,6 +25,7 @@ use crate::groups::carry;
 use crate::groups::eight_at_most;
 use crate::numbers::up32;
 use crate::refuse::DepthNumbers;
+use crate::source::top_down;
 use rows::bytes::bilinear::mid_bilin_row;
 use rows::bytes::bilinear::prep_bilin_row;
 use rows::bytes::bilinear::put_bilin_row;
@@ -230,7 +231,8 @@ pub fn put_bilin_rows(
         let last = LastRounding { r: 0, k: 0 };
         put_bilin_axis(dst, ds, src, ss, w, h, by, last, d.max);
     } else {
-        put_rows(dst, ds, src, ss, w, h);
+        let s = top_down(0, ss);
+        put_rows(dst, ds, src, s, w, h);
     }
 }
 
@@ -270,7 +272,8 @@ pub fn prep_bilin_rows(
         };
         prep_bilin_axis(tmp, ts, src, ss, w, h, by, p as i16);
     } else {
-        prep_rows(d, tmp, ts, src, ss, w, h);
+        let s = top_down(0, ss);
+        prep_rows(d, tmp, ts, src, s, w, h);
     }
 }
 

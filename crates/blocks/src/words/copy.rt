@@ -2,10 +2,11 @@
 ghost use mathlib.Core.Path.{_≡_};
 ghost use lib.ListN.{length};
 ghost use Rattle.rows.specs.Numbers.{up};
-ghost use Rattle.rows.specs.Places.{fill, pixel};
+ghost use Rattle.rows.specs.Places.{fill};
 ghost use Rattle.rows.specs.Copy.{put, prep};
 ghost use Rattle.rows.specs.inner.words.Pixel.{BitsOk, BiasOk};
 ghost use Rattle.blocks.specs.inner.Ready.{Block, Rows};
+ghost use Rattle.blocks.specs.inner.Source.{pixelIn, Stood};
 ghost use Rattle.blocks.specs.Copy.{PutAnswer, PrepAnswer};
 ghost use Rattle.blocks.specs.words.Depth.{depthOk};
 use super::depth::depth_numbers;
@@ -13,25 +14,22 @@ use super::depth::depth_ok;
 use crate::copy::check_prep;
 use crate::copy::check_put;
 use crate::refuse::DepthNumbers;
+use crate::source::Stand;
+use crate::source::row_first;
+use crate::source::top_down;
 use rows::words::copy::copy_row;
 use rows::words::copy::prep_row;
 use rows::words::pixel::Pixel;
 
-pub fn put_rows(
-    dst: &mut [Pixel],
-    dst_stride: usize,
-    src: &[Pixel],
-    src_stride: usize,
-    w: usize,
-    h: usize,
-)
-    requires { ⌜ Block w h × Rows (length (now dst)) «dst_stride» w h × Rows (length (now src)) «src_stride» w h ⌝ }
-    ensures { λ _. ⌜ now (dst .exit) ≡ fill (now (dst .entry)) «dst_stride» w h (λ i j. put (pixel (now (src .entry)) «src_stride» i j)) ⌝ }
+pub fn put_rows(dst: &mut [Pixel], dst_stride: usize, src: &[Pixel], s: Stand, w: usize, h: usize)
+    requires { ⌜ Block w h × Rows (length (now dst)) «dst_stride» w h × Stood (length (now src)) s w h ⌝ }
+    ensures { λ _. ⌜ now (dst .exit) ≡ fill (now (dst .entry)) «dst_stride» w h (λ i j. put (pixelIn (now (src .entry)) s i j)) ⌝ }
 {
     let mut y = 0;
     while y < h {
+        let o = row_first(s, y);
         let d = y * dst_stride;
-        copy_row(&mut dst[d..d + w], src, y * src_stride);
+        copy_row(&mut dst[d..d + w], src, o);
         y += 1;
     }
 }
@@ -49,7 +47,8 @@ pub extern "C" fn hv_put_16bpc(
 {
     let number = check_put(dst.len(), dst_stride, src.len(), src_stride, w, h);
     if number == 0 { // else dst stays
-        put_rows(dst, dst_stride, src, src_stride, w, h);
+        let s = top_down(0, src_stride);
+        put_rows(dst, dst_stride, src, s, w, h);
     }
     number
 }
@@ -59,18 +58,19 @@ pub fn prep_rows(
     tmp: &mut [i16],
     tmp_stride: usize,
     src: &[Pixel],
-    src_stride: usize,
+    s: Stand,
     w: usize,
     h: usize,
 )
-    requires { ⌜ Block w h × Rows (length (now tmp)) «tmp_stride» w h × Rows (length (now src)) «src_stride» w h × BitsOk (d .bits) × BiasOk (d .bias) ⌝ }
+    requires { ⌜ Block w h × Rows (length (now tmp)) «tmp_stride» w h × Stood (length (now src)) s w h × BitsOk (d .bits) × BiasOk (d .bias) ⌝ }
     ensures { λ _. ⌜ now (tmp .exit) ≡ fill (now (tmp .entry)) «tmp_stride» w h
-        (λ i j. prep (d .bits) (d .bias) (pixel (now (src .entry)) «src_stride» i j)) ⌝ }
+        (λ i j. prep (d .bits) (d .bias) (pixelIn (now (src .entry)) s i j)) ⌝ }
 {
     let mut y = 0;
     while y < h {
+        let o = row_first(s, y);
         let p = y * tmp_stride;
-        prep_row(&mut tmp[p..p + w], src, y * src_stride, d.bits, d.bias);
+        prep_row(&mut tmp[p..p + w], src, o, d.bits, d.bias);
         y += 1;
     }
 }
@@ -98,7 +98,8 @@ pub extern "C" fn hv_prep_16bpc(
     );
     if number == 0 {
         let d = depth_numbers(depth);
-        prep_rows(d, tmp, tmp_stride, src, src_stride, w, h);
+        let s = top_down(0, src_stride);
+        prep_rows(d, tmp, tmp_stride, src, s, w, h);
     }
     number
 }

@@ -5,6 +5,8 @@ use Rattle.blocks.proofs.Usual.{rows-met, block-met, all-met, holds-met
 use Rattle.blocks.specs.Subpel.{on, sixteenthOk}
 use Rattle.blocks.specs.Bilinear.{bilinTests}
 use Rattle.blocks.specs.inner.Ready.{Pairs, Bilin}
+use Rattle.blocks.specs.inner.Source.{topDown, Stood}
+use Rattle.blocks.proofs.Laws.Loops.Stands.{stood-from}
 
 -- ---- the number
 
@@ -63,11 +65,11 @@ module _ {dl ds sl ss w h f g : ℕ} (p : Bilin dl ds sl ss w h f g) where
   pub reads-both : 0 < f → 0 < g → (h + 1 - 1) * ss + (w + 1) ≤ sl
   reads-both a b = reads-of 1 1 (omega arith) (omega arith)
 
-  pub copied : f ≡ 0 → g ≡ 0 → Block w h × Rows dl ds w h × Rows sl ss w h
+  pub copied : f ≡ 0 → g ≡ 0 → Block w h × Rows dl ds w h × Stood sl (topDown 0 ss) w h
   copied a b =
       let e : h + 0 - 1 ≡ h - 1 = omega arith in
       let r = rw e at (reads-of 0 0 (omega arith) (omega arith)) in
-      (p .block, p .dst, record { wide = p .wide; most = p .most; fits = omega arith })
+      (p .block, p .dst, stood-from (p .most) (omega arith))
 
   module _ (n : ℕ) (n8 : n ≤ 8) where
     pub across : 0 < f → g ≡ 0 → Pairs dl ds sl ss 1 w h f n

@@ -6,6 +6,8 @@ use Rattle.rows.specs.Bilinear.{bilin, R, along, down, bilinMid, putBilin, prep
 use Rattle.rows.specs.inner.Bilinear.{bilinAt}
 use Rattle.rows.proofs.Laws.Filters.Bilinear.{shr-none}
 use Rattle.blocks.specs.inner.Ready.{Bilin}
+use Rattle.blocks.specs.inner.Source.{topDown, pixelIn}
+use Rattle.blocks.proofs.Laws.Loops.Stands.{pixels-down}
 
 -- ---- the pixel rules by case
 module _ (M B : ℕ) (q : ℕ → ℕ → ℕ) where
@@ -70,8 +72,8 @@ module _ (M B : ℕ) (src d : List ℕ) {s ds w h f g : ℕ} (p : Bilin (length 
       → fill d ds w h rule ≡ fill d ds w h (λ i j. putBilin M B f g (around 0 src 0 s i j))
   put-same rule e = fill-same 0 ds (omega (arith, p .dst, p .block)) d w h rule _ e
 
-  pub put-copied : f ≡ 0 → g ≡ 0 → fill d ds w h (λ i j. put (pixel src s i j)) ≡ fill d ds w h (λ i j. putBilin M B f g (around 0 src 0 s i j))
-  put-copied a b = put-same _ λ i j x y. here src s i j ∙ sym (put-none M B _ f g a b)
+  pub put-copied : f ≡ 0 → g ≡ 0 → fill d ds w h (λ i j. put (pixelIn src (topDown 0 s) i j)) ≡ fill d ds w h (λ i j. putBilin M B f g (around 0 src 0 s i j))
+  put-copied a b = ap (fill d ds w h) (pixels-down put src s) ∙ put-same _ λ i j x y. here src s i j ∙ sym (put-none M B _ f g a b)
 
   pub put-across : 0 < f → g ≡ 0
       → fill d ds w h (λ i j. clip M (shrZ (R (4 - B) (bilinAt (px src) (j * s + i) 1 f) +ℤ pos (2 ^ (B - 1))) (2 ^ B)))
@@ -90,8 +92,8 @@ module _ (B P : ℕ) (src : List ℕ) (d : List ℤ) {s ds w h f g : ℕ} (p : B
       → fill d ds w h rule ≡ fill d ds w h (λ i j. prepBilin B P f g (around 0 src 0 s i j))
   prep-same rule e = fill-same (pos 0) ds (omega (arith, p .dst, p .block)) d w h rule _ e
 
-  pub prep-copied : f ≡ 0 → g ≡ 0 → fill d ds w h (λ i j. prep B P (pixel src s i j)) ≡ fill d ds w h (λ i j. prepBilin B P f g (around 0 src 0 s i j))
-  prep-copied a b = prep-same _ λ i j x y. ap (prep B P) (here src s i j) ∙ sym (prep-none B P _ f g a b)
+  pub prep-copied : f ≡ 0 → g ≡ 0 → fill d ds w h (λ i j. prep B P (pixelIn src (topDown 0 s) i j)) ≡ fill d ds w h (λ i j. prepBilin B P f g (around 0 src 0 s i j))
+  prep-copied a b = ap (fill d ds w h) (pixels-down (prep B P) src s) ∙ prep-same _ λ i j x y. ap (prep B P) (here src s i j) ∙ sym (prep-none B P _ f g a b)
 
   pub prep-across : 0 < f → g ≡ 0
       → fill d ds w h (λ i j. minus16 (low16 (R (4 - B) (bilinAt (px src) (j * s + i) 1 f))) (pos P))

@@ -1,12 +1,14 @@
 -- A block of a kind from its window: what the kind's rows rely on, its numbers as a call passes them, its first place and its pixels where no margin stands
 -- before it. Assumes nothing.
-use Rattle.blocks.proofs.Usual.{_&&_, List, _≡_, ap, ℕ, _≤_, _*_, _+_, _-_, _<_, suc, zero, _/_, arith, eqb-true, eqb, getD, w32, w16, up, pixel, around}
+use Rattle.blocks.proofs.Usual.{_&&_, List, _≡_, _∙_, ap, ℕ, _≤_, _*_, _+_, _-_, _<_, suc, zero, _/_, arith, eqb-true, eqb, getD, w32, w16, up, pixel, around}
 use Rattle.blocks.proofs.Usual.{kindSizeOk, motionOk, filtersOk, before, after, Rows, Block, and-true, told-back}
 use mathlib.Core.Path.{fun-ext}
 use Rattle.blocks.specs.Subpel.{typeOk, sixteenthOk, fractionOk, filterIn, on}
 use Rattle.blocks.specs.Warp.{warpPlaceOk}
 use Rattle.blocks.specs.Window.{aroundPart}
 use Rattle.blocks.specs.inner.Ready.{Taps, Bilin, Warps, Windowed}
+use Rattle.blocks.specs.inner.Source.{topDown, pixelIn, Stood}
+use Rattle.blocks.proofs.Laws.Loops.Stands.{stood-from, pixels-down}
 use Rattle.blocks.specs.declared.order.Kind.{Kind}
 use Rattle.blocks.specs.declared.order.Kind.the-variants.{Copy, Subpel, Bilinear, Warp}
 use Rattle.blocks.specs.declared.subpel.plan.SubpelMotion.{SubpelMotion}
@@ -77,13 +79,13 @@ warp-passed {m = m} e g =
 
 -- ---- what each kind's rows rely on
 module _ {k : Kind} {sl s w h tl el wl dl ds : ℕ} (p : Windowed k sl s w h tl el wl) (dst : Rows dl ds w h) where
-  pub copy-ready : k ≡ Copy → Block w h × Rows dl ds w h × Rows sl s w h
+  pub copy-ready : k ≡ Copy → Block w h × Rows dl ds w h × Stood sl (topDown 0 s) w h
   unfolding before after
   copy-ready e =
       let r = rw e at (p .src) in
       let z : 0 + h + 0 - 1 ≡ h - 1 = omega arith in
       let f = rw z at (r .fits) in
-      (p .block, dst, record { wide = omega (arith, r .wide); most = r .most; fits = omega arith })
+      (p .block, dst, stood-from (r .most) (omega arith))
 
   pub subpel-ready : {m : SubpelMotion} → k ≡ Subpel m
       → Block w h × Rows dl ds w h × Taps sl (3 * s + 3) s w h (m .mx) (m .my) (m .«filter_type») tl el
@@ -142,6 +144,6 @@ pub no-margin : (s : ℕ) → 0 * s + 0 ≡ 0
 no-margin s = omega arith
 
 pub from-window : {A : Type 0} (rule : ℕ → A) (src : List ℕ) (s : ℕ)
-    → _≡_ {A = ℕ → ℕ → A} (λ i j. rule (pixel src s i j)) (λ i j. rule (aroundPart 0 src s i j 0 0))
+    → _≡_ {A = ℕ → ℕ → A} (λ i j. rule (pixelIn src (topDown 0 s) i j)) (λ i j. rule (aroundPart 0 src s i j 0 0))
 unfolding before around
-from-window rule src s = fun-ext λ i. fun-ext λ j. ap (λ (p : ℕ). rule (getD src p 0)) (omega arith)
+from-window rule src s = pixels-down rule src s ∙ (fun-ext λ i. fun-ext λ j. ap (λ (p : ℕ). rule (getD src p 0)) (omega arith))

@@ -18,6 +18,7 @@ use crate::numbers::up32;
 use crate::order::Kind;
 use crate::refuse::DepthNumbers;
 use crate::refuse::Layout;
+use crate::source::top_down;
 use rows::words::pixel::Pixel;
 
 // The block as put.
@@ -42,7 +43,10 @@ pub fn put_kind(
     let s = l.src_stride;
     let o = 3 * s + 3; // the block's first pixel, behind a margin of 3
     match k {
-        Kind::Copy => put_rows(dst, l.dst_stride, src, s, w, h),
+        Kind::Copy => {
+            let first = top_down(0, s);
+            put_rows(dst, l.dst_stride, src, first, w, h)
+        }
         Kind::Subpel(m) => put_8tap_rows(d, dst, src, o, l, m, subpel, ext),
         Kind::Bilinear(m) => {
             let f = up32(m.mx);
@@ -75,7 +79,10 @@ pub fn prep_kind(
     let s = l.src_stride;
     let o = 3 * s + 3; // the block's first pixel, behind a margin of 3
     match k {
-        Kind::Copy => prep_rows(d, tmp, l.dst_stride, src, s, w, h),
+        Kind::Copy => {
+            let first = top_down(0, s);
+            prep_rows(d, tmp, l.dst_stride, src, first, w, h)
+        }
         Kind::Subpel(m) => prep_8tap_rows(d, tmp, src, o, l, m, subpel, ext),
         Kind::Bilinear(m) => {
             let f = up32(m.mx);

@@ -1,8 +1,10 @@
 -- Made from crates/blocks/proofs/words/copy/hv_prep_16bpc/Proof.antt by tools/sets: change that.
 use Rattle.blocks.proofs.Usual.{_≡_, _∙_, sym, ap, needs, ℤ, length, up, lowest, numbersOf, back, done, refused}
 use Rattle.blocks.specs.bytes.Depth.{depthOk}
+use Rattle.rows.specs.Copy.{prep}
 use Rattle.blocks.specs.Copy.{prepTests}
 use Rattle.blocks.proofs.Laws.bytes.Depth.{depth-bits, depth-bias}
+use Rattle.blocks.proofs.Laws.Loops.Stands.{filled-down}
 use Rattle.blocks.proofs.Laws.Copy.Ready.{prep-ready}
 use Rattle.blocks.proofs.bytes.copy.prep_at.Tie as tie
 
@@ -21,17 +23,19 @@ depth-numbers-requires c κs = rw (back (entry (c .before) .fits .depth)) (prep-
 
 prep-rows-requires : tie.Need-prep-rows-requires
 prep-rows-requires c κs =
-    let t = c .before .before in
+    let s = c .before in let n = s .before in let t = n .before in
     let p = prep-ready (sym (number (t .before)) ∙ t .if1 .taken) in
-    rw (depth (c .before)) (p .1 .0, p .1 .1, p .1 .2, depth-bits _ (p .0), depth-bias _ (p .0))
+    rw (depth n, s .top-down .ensures) (p .1 .0, p .1 .1, p .1 .2, depth-bits _ (p .0), depth-bias _ (p .0))
 
 returns : tie.Need-returns
 returns c =
-    let n = c .before .before .before in
-    (number (n .before .before), rw (depth n) at (c .before .prep-rows .ensures) ∙ sym (done _ _ _ (n .before .if1 .taken)))
+    let s = c .before .before .before in let n = s .before in let a = entry (n .before .before) .args in
+    let new = rw (depth n, s .top-down .ensures) at (c .before .prep-rows .ensures) in
+    (number (n .before .before), filled-down (prep _ _) (a .tmp .now) (a .tmp-stride) (a .w) (a .h) (a .src .now) (a .src-stride) new ∙ sym (done _ _ _ (n .before .if1 .taken)))
 
 pub prep-at-spec : {M : Type 1} → Rattle.blocks.proofs.bytes.copy.prep_at.Statement.statement M
 prep-at-spec = tie.close (tie.spec
-    (λ c κs. search needs) (λ c κs. search needs) depth-numbers-requires prep-rows-requires (λ c. search needs)  -- depth-ok, check-prep, same-length
+    (λ c κs. search needs) (λ c κs. search needs) depth-numbers-requires (λ c κs. search needs) prep-rows-requires  -- depth-ok, check-prep, top-down
+    (λ c. search needs)  -- same-length
     returns
     (λ c. (number (c .before), sym (refused _ _ _ (c .if1 .left)))))  -- returns-2

@@ -30,8 +30,9 @@ downward-requires c κs =
 
 copied-requires : tie.Need-prep-rows-requires
 copied-requires c κs =
-    let t = c .before in let s = entry (t .before .before) in
-    let q = copied (s .pre .0) (t .before .if1 .left) (t .if3 .left) in (q .0, q .1, q .2, s .pre .1, s .pre .2)
+    let d = c .before in let t = d .before in let s = entry (t .before .before) in
+    let q = copied (s .pre .0) (t .before .if1 .left) (t .if3 .left) in
+    rw (d .top-down .ensures) (q .0, q .1, q .2, s .pre .1, s .pre .2)
 
 returns-2 : tie.Need-returns-2
 returns-2 c =
@@ -49,13 +50,13 @@ returns-3 c =
 
 returns-4 : tie.Need-returns-4
 returns-4 c =
-    let r = c .before in let t = r .before .before in let s = entry (t .before .before) in let a = s .args in
-    r .prep-rows .ensures
+    let r = c .before in let d = r .before .before in let t = d .before in let s = entry (t .before .before) in let a = s .args in
+    rw (d .top-down .ensures) at (r .prep-rows .ensures)
     ∙ prep-copied (a .d .bits) (a .d .bias) (a .src .now) (a .tmp .now) (s .pre .0) (t .before .if1 .left) (t .if3 .left)
 
 pub prep-bilin-rows-spec : {M : Type 1} → Rattle.blocks.proofs.words.bilinear.prep_bilin_rows.Statement.statement M
 prep-bilin-rows-spec = tie.close (tie.spec (λ c κs. search needs) (λ c κs. search needs) both-requires (λ c. search needs)  -- bits-of, bias-of, 4 - b
     (λ c. search needs) across-requires (λ c. search needs) (λ c. search needs) downward-requires  -- cast-prep-bilin-axis, 4 - b
-    copied-requires (λ c. search needs)  -- same-length
+    (λ c κs. search needs) copied-requires (λ c. search needs)  -- top-down, same-length
     (λ c. c .before .prep-bilin-both .ensures)  -- returns
     (λ c. search needs) returns-2 (λ c. search needs) returns-3 (λ c. search needs) returns-4)  -- same-length

@@ -29,8 +29,8 @@ downward-requires c κs =
 
 copied-requires : tie.Need-put-rows-requires
 copied-requires c κs =
-    let t = c .before in let s = entry (t .before .before) in
-    copied (s .pre .0) (t .before .if1 .left) (t .if3 .left)
+    let d = c .before in let t = d .before in let s = entry (t .before .before) in
+    rw (d .top-down .ensures) (copied (s .pre .0) (t .before .if1 .left) (t .if3 .left))
 
 returns-2 : tie.Need-returns-2
 returns-2 c =
@@ -47,13 +47,13 @@ returns-3 c =
 
 returns-4 : tie.Need-returns-4
 returns-4 c =
-    let r = c .before .before in let t = r .before .before in let s = entry (t .before .before) in let a = s .args in
-    r .put-rows .ensures
+    let r = c .before .before in let d = r .before .before in let t = d .before in let s = entry (t .before .before) in let a = s .args in
+    rw (d .top-down .ensures) at (r .put-rows .ensures)
     ∙ put-copied (a .d .max) (a .d .bits) (a .src .now) (a .dst .now) (s .pre .0) (t .before .if1 .left) (t .if3 .left)
 
 pub put-bilin-rows-spec : {M : Type 1} → Rattle.blocks.proofs.words.bilinear.put_bilin_rows.Statement.statement M
 put-bilin-rows-spec = tie.close (tie.spec
     (λ c κs. search needs) both-requires (λ c. search needs) (λ c κs. search needs) across-requires  -- bits-of, 4 - b, half-power
-    downward-requires copied-requires (λ c. search needs)  -- same-length
+    downward-requires (λ c κs. search needs) copied-requires (λ c. search needs)  -- top-down, same-length
     (λ c. c .before .before .put-bilin-both .ensures)  -- returns
     (λ c. search needs) returns-2 (λ c. search needs) returns-3 (λ c. search needs) returns-4)  -- same-length

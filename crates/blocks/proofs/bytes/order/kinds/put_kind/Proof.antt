@@ -6,7 +6,9 @@ use Rattle.blocks.proofs.Laws.Order.Kinds.{bilin-passed, warp-size, fro
 use Rattle.blocks.proofs.bytes.order.kinds.put_kind.Tie as tie
 
 copy-requires : tie.Need-put-rows-requires
-copy-requires c κs = let p = c .before .before .before .before .before .pre in copy-ready (p .0) (p .1) (c .before .enum-told .given .1)
+copy-requires c κs =
+    let d = c .before in let k = d .before in let p = k .before .before .before .before .pre in
+    rw (d .top-down .ensures) (copy-ready (p .0) (p .1) (k .enum-told .given .1))
 
 subpel-requires : tie.Need-put-8tap-rows-requires
 subpel-requires c κs =
@@ -31,7 +33,9 @@ warp-requires c κs =
 
 copy-returns : tie.Need-returns
 unfolding putRule
-copy-returns c = rw (c .before .before .before .before .enum-told .given .1) (c .before .before .put-rows .ensures ∙ ap (fill _ _ _ _) (from-window put _ _))
+copy-returns c =
+    let d = c .before .before .before .before in
+    rw (d .before .enum-told .given .1) (rw (d .top-down .ensures) at (c .before .before .put-rows .ensures) ∙ ap (fill _ _ _ _) (from-window put _ _))
 
 subpel-returns : tie.Need-returns-2
 unfolding putRule before
@@ -61,7 +65,7 @@ warp-returns c =
 pub put-kind-spec : {M : Type 1} → Rattle.blocks.proofs.bytes.order.kinds.put_kind.Statement.statement M
 put-kind-spec = tie.close (tie.spec
     (λ c. omega (arith, c .before .before .pre .0 .src .most)) (λ c. omega (arith, c .before .before .pre .0 .src .most))  -- first
-    (λ c. search needs) copy-requires (λ c. search needs) subpel-requires (λ c. search needs)  -- enum-told, enum-known-k
+    (λ c. search needs) (λ c κs. search needs) copy-requires (λ c. search needs) subpel-requires (λ c. search needs)  -- enum-told, top-down, enum-known-k
     (λ c κs. search needs) (λ c κs. search needs) bilin-requires (λ c. search needs) warp-requires  -- above, enum-known-k
     (λ c. search needs) copy-returns (λ c. search needs) subpel-returns (λ c. search needs) bilin-returns (λ c. search needs)  -- same-length
     warp-returns)

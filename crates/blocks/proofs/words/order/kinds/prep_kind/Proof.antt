@@ -7,9 +7,9 @@ use Rattle.blocks.proofs.words.order.kinds.prep_kind.Tie as tie
 
 copy-requires : tie.Need-prep-rows-requires
 copy-requires c κs =
-    let p = c .before .before .before .before .pre in
-    let r = copy-ready (p .0) (p .1) (c .before .enum-told .given .1) in
-    (r .0, r .1, r .2, p .2, p .3)
+    let d = c .before in let k = d .before in let p = k .before .before .before .pre in
+    let r = copy-ready (p .0) (p .1) (k .enum-told .given .1) in
+    rw (d .top-down .ensures) (r .0, r .1, r .2, p .2, p .3)
 
 subpel-requires : tie.Need-prep-8tap-rows-requires
 subpel-requires c κs =
@@ -34,7 +34,9 @@ warp-requires c κs =
 
 copy-returns : tie.Need-returns
 unfolding prepRule
-copy-returns c = rw (c .before .before .before .enum-told .given .1) (c .before .prep-rows .ensures ∙ ap (fill _ _ _ _) (from-window (prep _ _) _ _))
+copy-returns c =
+    let d = c .before .before .before in
+    rw (d .before .enum-told .given .1) (rw (d .top-down .ensures) at (c .before .prep-rows .ensures) ∙ ap (fill _ _ _ _) (from-window (prep _ _) _ _))
 
 subpel-returns : tie.Need-returns-2
 unfolding prepRule before
@@ -63,7 +65,7 @@ warp-returns c =
 
 pub prep-kind-spec : {M : Type 1} → Rattle.blocks.proofs.words.order.kinds.prep_kind.Statement.statement M
 prep-kind-spec = tie.close (tie.spec (λ c. omega (arith, c .before .pre .0 .src .most)) (λ c. omega (arith, c .before .pre .0 .src .most))  -- first
-    (λ c. search needs) copy-requires (λ c. search needs) subpel-requires (λ c. search needs)  -- enum-told, enum-known-k
+    (λ c. search needs) (λ c κs. search needs) copy-requires (λ c. search needs) subpel-requires (λ c. search needs)  -- enum-told, top-down, enum-known-k
     (λ c κs. search needs) (λ c κs. search needs) bilin-requires (λ c. search needs) warp-requires  -- above, enum-known-k
     (λ c. search needs) copy-returns (λ c. search needs) subpel-returns (λ c. search needs) bilin-returns (λ c. search needs)  -- same-length
     warp-returns)

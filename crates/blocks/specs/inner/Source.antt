@@ -1,0 +1,29 @@
+-- Where the rows of a source stand, as the code goes: row 0 begins at place off, and each next row `forth` places after it or `back` places before it, of
+-- which one is 0. Only inner contracts name this: nobody need believe it. Assumes nothing.
+use Prim.Native.Nat.{ℕ, _+_, _-_, _*_, _≤_}
+use lib.ListN.{getD}
+use mathlib.Core.List.{List}
+use Rattle.blocks.specs.declared.source.Stand.{Stand}
+
+-- rows that stand a stride apart, each after the one above it
+abbrev pub topDown : (off stride : ℕ) → Stand
+topDown off stride = record { off = off; forth = stride; back = 0 }
+
+-- where row j begins
+unfoldable pub rowFirst : Stand → ℕ → ℕ
+rowFirst s j = s .off + j * s .forth - j * s .back
+
+-- the pixel at column i of row j
+abbrev pub pixelIn : List ℕ → Stand → (i j : ℕ) → ℕ
+pixelIn src s i j = getD src (rowFirst s j + i) 0
+
+-- the pixels around column i of row j of the block whose first pixel is row 0's: column 0 and row 0 stand m columns left of and m rows above it
+unfoldable pub aroundIn : ℕ → List ℕ → Stand → (i j : ℕ) → ℕ → ℕ → ℕ
+aroundIn m src s i j a b = getD src (s .off + (j + b) * s .forth + m * s .back + (i + a) - ((j + b) * s .back + m * s .forth + m)) 0
+
+-- a source of l places has h rows of w that stand so
+pub record Stood (l : ℕ) (s : Stand) (w h : ℕ) : Type 0 where
+  pub forth : s .forth ≤ 32768
+  pub back : s .back ≤ 32768
+  pub before : (h - 1) * s .back ≤ s .off
+  pub after : s .off + (h - 1) * s .forth + w ≤ l
