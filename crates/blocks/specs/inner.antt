@@ -4,6 +4,7 @@ pub mod Ready
 pub mod Groups
 pub mod Scaled
 pub mod Subpel
+pub mod Bilinear
 pub mod Search
 pub mod Window
 pub mod Order

@@ -1,20 +1,23 @@
 // put_bilin and prep_bilin: their tests, and the pass that has no pixels.
 ghost use mathlib.Core.Path.{_≡_};
-ghost use Prim.Native.Nat.{_+_, _*_};
+ghost use Prim.Native.Nat.{_+_, _-_, _*_, _≤_};
+ghost use lib.Dec.{eqb};
 ghost use lib.ListN.{length};
 ghost use Rattle.rows.specs.Numbers.{at, low16, minus16};
-ghost use Rattle.rows.specs.Places.{fill};
+ghost use Rattle.rows.specs.Places.{pick, fill};
 ghost use Rattle.rows.specs.Bilinear.{R};
 ghost use Rattle.rows.specs.inner.Bilinear.{bilinAt};
 ghost use Rattle.blocks.specs.Refuse.{lowest};
 ghost use Rattle.blocks.specs.Subpel.{sixteenthOk};
 ghost use Rattle.blocks.specs.Bilinear.{bilinTests};
 ghost use Rattle.blocks.specs.inner.Ready.{Pairs};
+ghost use Rattle.blocks.specs.inner.Bilinear.{columnPairs};
 use crate::numbers::on_axis;
 use crate::refuse::held;
 use crate::refuse::needed;
 use crate::refuse::sizes;
 use crate::refuse::stride;
+use crate::source::Stand;
 use rows::bilinear::mid_bilin_prep_row;
 
 // How a row is made of pairs: the second of each stands a step on and has f sixteenths, and their sum is rounded by n bits.
@@ -28,6 +31,27 @@ pub struct PairWay {
 pub struct LastRounding {
     pub r: u32,
     pub k: u32,
+}
+
+// The weight of the higher of two places in memory: with the last row first in memory it is the picture's first.
+fn higher_weight(back: usize, g: u32) -> u32
+    requires { ⌜ g ≤ 15 ⌝ }
+    ensures { λ r. ⌜ r ≡ pick (eqb back 0) g (16 - g) ⌝ }
+{
+    if back == 0 { g } else { 16 - g }
+}
+
+// The pairs of two rows that stand below one another.
+pub fn column_pairs(s: Stand, g: u32, n: u32) -> PairWay
+    requires { ⌜ (s .forth ≤ 32768) × (s .back ≤ 32768) × (g ≤ 15) ⌝ }
+    ensures { λ r. ⌜ r ≡ columnPairs s g n ⌝ }
+{
+    let f = higher_weight(s.back, g);
+    PairWay {
+        step: s.forth + s.back,
+        f,
+        n,
+    }
 }
 
 // A fraction of sixteenths.

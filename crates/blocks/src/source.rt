@@ -1,7 +1,7 @@
 // Where the rows of a source stand, after one another or, with the last row first in memory, before one another.
 ghost use mathlib.Core.Path.{_≡_};
 ghost use Prim.Native.Nat.{_≤_, _<_, _+_, _*_, _^_};
-ghost use Rattle.blocks.specs.inner.Source.{topDown, rowFirst};
+ghost use Rattle.blocks.specs.inner.Source.{topDown, rowFirst, rowsFrom, lowerRow};
 
 // The place of row 0's first pixel, and how far each next row stands after it or before it: one of the two is 0.
 pub struct Stand {
@@ -27,4 +27,29 @@ pub fn row_first(s: Stand, j: usize) -> usize
     ensures { λ r. ⌜ r ≡ rowFirst s j ⌝ }
 {
     s.off + j * s.forth - j * s.back
+}
+
+// The rows from row k on.
+pub fn rows_from(s: Stand, k: usize) -> Stand
+    requires { ⌜ (k * s .back ≤ s .off) × (s .off + k * s .forth < 2 ^ 64) ⌝ }
+    ensures { λ r. ⌜ r ≡ rowsFrom s k ⌝ }
+{
+    let off = row_first(s, k);
+    Stand {
+        off,
+        forth: s.forth,
+        back: s.back,
+    }
+}
+
+// The rows from the lower of rows 0 and 1 in memory on: each row of these and the next in memory are two rows of the source that stand below one another.
+pub fn lower_row(s: Stand) -> Stand
+    requires { ⌜ s .back ≤ s .off ⌝ }
+    ensures { λ r. ⌜ r ≡ lowerRow s ⌝ }
+{
+    Stand {
+        off: s.off - s.back,
+        forth: s.forth,
+        back: s.back,
+    }
 }

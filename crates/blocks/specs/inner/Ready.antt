@@ -8,6 +8,7 @@ use Rattle.rows.specs.inner.Warp.{RowThere}
 use Rattle.rows.specs.Depth.{bitsOf, biasOf, maxOf}
 use mathlib.Core.Bool.{true}
 use Rattle.blocks.specs.Subpel.{on, subpelOk}
+use Rattle.blocks.specs.inner.Source.{Stood}
 use Rattle.blocks.specs.inner.Subpel.{filterOf, Held}
 use Rattle.blocks.specs.Window.{windowSide}
 use Rattle.blocks.specs.Order.{kindNumber, kindSizeOk, motionOk, filtersOk}
@@ -15,6 +16,7 @@ use Rattle.blocks.specs.declared.frame.Area.{Area}
 use Rattle.blocks.specs.declared.window.Part.{Part}
 use Rattle.blocks.specs.declared.order.Kind.{Kind}
 use Rattle.blocks.specs.declared.refuse.DepthNumbers.{DepthNumbers}
+use Rattle.blocks.specs.declared.source.Stand.{Stand}
 use Rattle.blocks.specs.declared.warp.Shears.{Shears}
 
 -- a block of w columns and h rows
@@ -62,13 +64,20 @@ pub record Pairs (dl ds sl ss step w h f n : ℕ) : Type 0 where
   pub f15 : f ≤ 15
   pub n8 : n ≤ 8
 
+-- the same from the rows of a source
+pub record PairsIn (dl ds sl : ℕ) (s : Stand) (step w h f n : ℕ) : Type 0 where
+  pub w1 : 1 ≤ w
+  pub dst : Rows dl ds w h
+  pub src : Stood sl s (w + step) h
+  pub f15 : f ≤ 15
+  pub n8 : n ≤ 8
+
 -- a bilinear block at the fractions f and g: where f isn't 0 a column more is read, where g isn't 0 a row more
-pub record Bilin (dl ds sl ss w h f g : ℕ) : Type 0 where
+pub record Bilin (dl ds sl : ℕ) (s : Stand) (w h f g : ℕ) : Type 0 where
   pub block : Block w h
   pub dst : Rows dl ds w h
-  pub wide : w ≤ ss
-  pub most : ss ≤ 32768
-  pub fits : (h + min g 1 - 1) * ss + (w + min f 1) ≤ sl
+  pub src : Stood sl s (w + min f 1) (h + min g 1)
+  pub one : min (s .forth) (s .back) ≡ 0
   pub f15 : f ≤ 15
   pub g15 : g ≤ 15
 

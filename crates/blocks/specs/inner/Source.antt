@@ -13,6 +13,14 @@ topDown off stride = record { off = off; forth = stride; back = 0 }
 unfoldable pub rowFirst : Stand → ℕ → ℕ
 rowFirst s j = s .off + j * s .forth - j * s .back
 
+-- the rows from row k on
+abbrev pub rowsFrom : Stand → (k : ℕ) → Stand
+rowsFrom s k = record { off = rowFirst s k; forth = s .forth; back = s .back }
+
+-- the rows from the lower of rows 0 and 1 in memory on
+abbrev pub lowerRow : Stand → Stand
+lowerRow s = record { off = s .off - s .back; forth = s .forth; back = s .back }
+
 -- the pixel at column i of row j
 abbrev pub pixelIn : List ℕ → Stand → (i j : ℕ) → ℕ
 pixelIn src s i j = getD src (rowFirst s j + i) 0

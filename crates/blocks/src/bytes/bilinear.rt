@@ -6,13 +6,14 @@ ghost use lib.IntN.{pos, _+ℤ_};
 ghost use lib.ListN.{length};
 ghost use lib.Signed.{shrZ};
 ghost use Rattle.rows.specs.Numbers.{up, at, px, clip, half, low16, minus16};
-ghost use Rattle.rows.specs.Places.{fill, around};
+ghost use Rattle.rows.specs.Places.{fill};
 ghost use Rattle.rows.specs.Bilinear.{R, putBilin, prepBilin};
 ghost use Rattle.rows.specs.inner.Bilinear.{bilinAt};
 ghost use Rattle.rows.specs.inner.bytes.Pixel.{BitsOk, BiasOk, MaxOk};
 ghost use Rattle.blocks.specs.bytes.Depth.{depthOk};
 ghost use Rattle.blocks.specs.Bilinear.{PutBilinAnswer, PrepBilinAnswer};
-ghost use Rattle.blocks.specs.inner.Ready.{Pairs, Bilin};
+ghost use Rattle.blocks.specs.inner.Ready.{Pairs, PairsIn, Bilin};
+ghost use Rattle.blocks.specs.inner.Source.{rowFirst, aroundIn};
 use super::copy::prep_rows;
 use super::copy::put_rows;
 use super::depth::depth_numbers;
@@ -20,11 +21,16 @@ use super::depth::depth_ok;
 use crate::bilinear::LastRounding;
 use crate::bilinear::PairWay;
 use crate::bilinear::check_bilin;
+use crate::bilinear::column_pairs;
 use crate::bilinear::mid_bilin_prep_rows;
 use crate::groups::carry;
 use crate::groups::eight_at_most;
 use crate::numbers::up32;
 use crate::refuse::DepthNumbers;
+use crate::source::Stand;
+use crate::source::lower_row;
+use crate::source::row_first;
+use crate::source::rows_from;
 use crate::source::top_down;
 use rows::bytes::bilinear::mid_bilin_row;
 use rows::bytes::bilinear::prep_bilin_row;
@@ -39,25 +45,26 @@ fn put_bilin_axis(
     dst: &mut [Pixel],
     ds: usize,
     src: &[Pixel],
-    ss: usize,
+    s: Stand,
     w: usize,
     h: usize,
     by: PairWay,
     last: LastRounding,
     max: u16,
 )
-    requires { ⌜ Pairs (length (now dst)) ds (length (now src)) ss (by .step) w h (by .f) (by .n) × (by .n + last .k ≡ 4)
+    requires { ⌜ PairsIn (length (now dst)) ds (length (now src)) s (by .step) w h (by .f) (by .n) × (by .n + last .k ≡ 4)
         × (half (by .n) + last .r * 2 ^ by .n ≤ 15) × MaxOk max ⌝ }
     ensures { λ _. ⌜ now (dst .exit) ≡ fill (now (dst .entry)) ds w h
-        (λ i j. clip max (shrZ (R (by .n) (bilinAt (px (now (src .entry))) (j * ss + i) (by .step) (by .f)) +ℤ pos (last .r)) (2 ^ last .k))) ⌝ }
+        (λ i j. clip max (shrZ (R (by .n) (bilinAt (px (now (src .entry))) (rowFirst s j + i) (by .step) (by .f)) +ℤ pos (last .r)) (2 ^ last .k))) ⌝ }
 {
     let mut y = 0;
     while y < h {
+        let o = row_first(s, y);
         let d = y * ds;
         put_bilin_row(
             &mut dst[d..d + w],
             src,
-            y * ss,
+            o,
             by.step,
             by.f,
             by.n,
@@ -74,20 +81,21 @@ fn prep_bilin_axis(
     tmp: &mut [i16],
     ts: usize,
     src: &[Pixel],
-    ss: usize,
+    s: Stand,
     w: usize,
     h: usize,
     by: PairWay,
     bias: i16,
 )
-    requires { ⌜ Pairs (length (now tmp)) ts (length (now src)) ss (by .step) w h (by .f) (by .n) × (by .n ≤ 4) ⌝ }
+    requires { ⌜ PairsIn (length (now tmp)) ts (length (now src)) s (by .step) w h (by .f) (by .n) × (by .n ≤ 4) ⌝ }
     ensures { λ _. ⌜ now (tmp .exit) ≡ fill (now (tmp .entry)) ts w h
-        (λ i j. minus16 (low16 (R (by .n) (bilinAt (px (now (src .entry))) (j * ss + i) (by .step) (by .f)))) bias) ⌝ }
+        (λ i j. minus16 (low16 (R (by .n) (bilinAt (px (now (src .entry))) (rowFirst s j + i) (by .step) (by .f)))) bias) ⌝ }
 {
     let mut y = 0;
     while y < h {
+        let o = row_first(s, y);
         let d = y * ts;
-        prep_bilin_row(&mut tmp[d..d + w], src, y * ss, by.step, by.f, by.n, bias);
+        prep_bilin_row(&mut tmp[d..d + w], src, o, by.step, by.f, by.n, bias);
         y += 1;
     }
 }
@@ -120,14 +128,14 @@ fn put_bilin_both(
     dst: &mut [Pixel],
     ds: usize,
     src: &[Pixel],
-    ss: usize,
+    s: Stand,
     w: usize,
     h: usize,
     f: u32,
     g: u32,
 )
-    requires { ⌜ Bilin (length (now dst)) ds (length (now src)) ss w h f g × (1 ≤ f) × (1 ≤ g) × BitsOk (d .bits) × MaxOk (d .max) ⌝ }
-    ensures { λ _. ⌜ now (dst .exit) ≡ fill (now (dst .entry)) ds w h (λ i j. putBilin (d .max) (d .bits) f g (around 0 (now (src .entry)) 0 ss i j)) ⌝ }
+    requires { ⌜ Bilin (length (now dst)) ds (length (now src)) s w h f g × (1 ≤ f) × (1 ≤ g) × BitsOk (d .bits) × MaxOk (d .max) ⌝ }
+    ensures { λ _. ⌜ now (dst .exit) ≡ fill (now (dst .entry)) ds w h (λ i j. putBilin (d .max) (d .bits) f g (aroundIn 0 (now (src .entry)) s i j)) ⌝ }
 {
     let b = bits_of(d.bits);
     let by = PairWay {
@@ -136,12 +144,12 @@ fn put_bilin_both(
         n: 4 - b,
     };
     let mut mid = [0i16; 576];
-    prep_bilin_axis(&mut mid, 64, src, ss, w, 1, by, 0);
+    prep_bilin_axis(&mut mid, 64, src, s, w, 1, by, 0);
     let mut y = 0;
     while y < h {
         let k = eight_at_most(h - y);
-        let o = (y + 1) * ss;
-        prep_bilin_axis(&mut mid[64..576], 64, &src[o..src.len()], ss, w, k, by, 0);
+        let next = rows_from(s, y + 1);
+        prep_bilin_axis(&mut mid[64..576], 64, src, next, w, k, by, 0);
         let a = y * ds;
         let e = a + (k - 1) * ds + w;
         mid_bilin_rows(&mut dst[a..e], ds, &mid, w, k, g, 4 + b, d.max);
@@ -158,14 +166,14 @@ fn prep_bilin_both(
     tmp: &mut [i16],
     ts: usize,
     src: &[Pixel],
-    ss: usize,
+    s: Stand,
     w: usize,
     h: usize,
     f: u32,
     g: u32,
 )
-    requires { ⌜ Bilin (length (now tmp)) ts (length (now src)) ss w h f g × (1 ≤ f) × (1 ≤ g) × BitsOk (d .bits) × BiasOk (d .bias) ⌝ }
-    ensures { λ _. ⌜ now (tmp .exit) ≡ fill (now (tmp .entry)) ts w h (λ i j. prepBilin (d .bits) (d .bias) f g (around 0 (now (src .entry)) 0 ss i j)) ⌝ }
+    requires { ⌜ Bilin (length (now tmp)) ts (length (now src)) s w h f g × (1 ≤ f) × (1 ≤ g) × BitsOk (d .bits) × BiasOk (d .bias) ⌝ }
+    ensures { λ _. ⌜ now (tmp .exit) ≡ fill (now (tmp .entry)) ts w h (λ i j. prepBilin (d .bits) (d .bias) f g (aroundIn 0 (now (src .entry)) s i j)) ⌝ }
 {
     let b = bits_of(d.bits);
     let p = bias_of(d.bias);
@@ -175,12 +183,12 @@ fn prep_bilin_both(
         n: 4 - b,
     };
     let mut mid = [0i16; 576];
-    prep_bilin_axis(&mut mid, 64, src, ss, w, 1, by, 0);
+    prep_bilin_axis(&mut mid, 64, src, s, w, 1, by, 0);
     let mut y = 0;
     while y < h {
         let k = eight_at_most(h - y);
-        let o = (y + 1) * ss;
-        prep_bilin_axis(&mut mid[64..576], 64, &src[o..src.len()], ss, w, k, by, 0);
+        let next = rows_from(s, y + 1);
+        prep_bilin_axis(&mut mid[64..576], 64, src, next, w, k, by, 0);
         let a = y * ts;
         let e = a + (k - 1) * ts + w;
         mid_bilin_prep_rows(&mut tmp[a..e], ts, &mid, w, k, g, 4, p as i16);
@@ -197,19 +205,19 @@ pub fn put_bilin_rows(
     dst: &mut [Pixel],
     ds: usize,
     src: &[Pixel],
-    ss: usize,
+    s: Stand,
     w: usize,
     h: usize,
     f: u32,
     g: u32,
 )
-    requires { ⌜ Bilin (length (now dst)) ds (length (now src)) ss w h f g × BitsOk (d .bits) × MaxOk (d .max) ⌝ }
-    ensures { λ _. ⌜ now (dst .exit) ≡ fill (now (dst .entry)) ds w h (λ i j. putBilin (d .max) (d .bits) f g (around 0 (now (src .entry)) 0 ss i j)) ⌝ }
+    requires { ⌜ Bilin (length (now dst)) ds (length (now src)) s w h f g × BitsOk (d .bits) × MaxOk (d .max) ⌝ }
+    ensures { λ _. ⌜ now (dst .exit) ≡ fill (now (dst .entry)) ds w h (λ i j. putBilin (d .max) (d .bits) f g (aroundIn 0 (now (src .entry)) s i j)) ⌝ }
 {
     let b = bits_of(d.bits);
     if f != 0 {
         if g != 0 {
-            put_bilin_both(d, dst, ds, src, ss, w, h, f, g);
+            put_bilin_both(d, dst, ds, src, s, w, h, f, g);
         } else {
             let by = PairWay {
                 step: 1,
@@ -220,18 +228,14 @@ pub fn put_bilin_rows(
                 r: half_power(b),
                 k: b,
             };
-            put_bilin_axis(dst, ds, src, ss, w, h, by, last, d.max);
+            put_bilin_axis(dst, ds, src, s, w, h, by, last, d.max);
         }
     } else if g != 0 {
-        let by = PairWay {
-            step: ss,
-            f: g,
-            n: 4,
-        };
+        let by = column_pairs(s, g, 4);
+        let first = lower_row(s);
         let last = LastRounding { r: 0, k: 0 };
-        put_bilin_axis(dst, ds, src, ss, w, h, by, last, d.max);
+        put_bilin_axis(dst, ds, src, first, w, h, by, last, d.max);
     } else {
-        let s = top_down(0, ss);
         put_rows(dst, ds, src, s, w, h);
     }
 }
@@ -242,37 +246,33 @@ pub fn prep_bilin_rows(
     tmp: &mut [i16],
     ts: usize,
     src: &[Pixel],
-    ss: usize,
+    s: Stand,
     w: usize,
     h: usize,
     f: u32,
     g: u32,
 )
-    requires { ⌜ Bilin (length (now tmp)) ts (length (now src)) ss w h f g × BitsOk (d .bits) × BiasOk (d .bias) ⌝ }
-    ensures { λ _. ⌜ now (tmp .exit) ≡ fill (now (tmp .entry)) ts w h (λ i j. prepBilin (d .bits) (d .bias) f g (around 0 (now (src .entry)) 0 ss i j)) ⌝ }
+    requires { ⌜ Bilin (length (now tmp)) ts (length (now src)) s w h f g × BitsOk (d .bits) × BiasOk (d .bias) ⌝ }
+    ensures { λ _. ⌜ now (tmp .exit) ≡ fill (now (tmp .entry)) ts w h (λ i j. prepBilin (d .bits) (d .bias) f g (aroundIn 0 (now (src .entry)) s i j)) ⌝ }
 {
     let b = bits_of(d.bits);
     let p = bias_of(d.bias);
     if f != 0 {
         if g != 0 {
-            prep_bilin_both(d, tmp, ts, src, ss, w, h, f, g);
+            prep_bilin_both(d, tmp, ts, src, s, w, h, f, g);
         } else {
             let by = PairWay {
                 step: 1,
                 f,
                 n: 4 - b,
             };
-            prep_bilin_axis(tmp, ts, src, ss, w, h, by, p as i16);
+            prep_bilin_axis(tmp, ts, src, s, w, h, by, p as i16);
         }
     } else if g != 0 {
-        let by = PairWay {
-            step: ss,
-            f: g,
-            n: 4 - b,
-        };
-        prep_bilin_axis(tmp, ts, src, ss, w, h, by, p as i16);
+        let by = column_pairs(s, g, 4 - b);
+        let first = lower_row(s);
+        prep_bilin_axis(tmp, ts, src, first, w, h, by, p as i16);
     } else {
-        let s = top_down(0, ss);
         prep_rows(d, tmp, ts, src, s, w, h);
     }
 }
@@ -305,7 +305,8 @@ pub fn put_bilin_at(
         let d = depth_numbers(depth);
         let f = up32(mx);
         let g = up32(my);
-        put_bilin_rows(d, dst, dst_stride, src, src_stride, w, h, f, g);
+        let s = top_down(0, src_stride);
+        put_bilin_rows(d, dst, dst_stride, src, s, w, h, f, g);
     }
     number
 }
@@ -339,7 +340,8 @@ pub fn prep_bilin_at(
         let d = depth_numbers(depth);
         let f = up32(mx);
         let g = up32(my);
-        prep_bilin_rows(d, tmp, tmp_stride, src, src_stride, w, h, f, g);
+        let s = top_down(0, src_stride);
+        prep_bilin_rows(d, tmp, tmp_stride, src, s, w, h, f, g);
     }
     number
 }

@@ -2,12 +2,12 @@
 use mathlib.Core.Path.{_≡_, _∙_, ap, fun-ext}
 use mathlib.Core.List.{List}
 use Prim.Native.Nat.{ℕ, _+_, _-_, _*_, _≤_, _<_}
-use native.Mathlib.Nat.{mul-le-mul-right}
+use native.Mathlib.Nat.{mul-le-mul-right, add-mul}
 use native.Mathlib.Omega.{arith}
 use lib.ListN.{getD}
 use Rattle.rows.specs.Places.{pixel, fill, around}
 use Rattle.blocks.specs.inner.Ready.{Rows}
-use Rattle.blocks.specs.inner.Source.{topDown, rowFirst, pixelIn, aroundIn, Stood}
+use Rattle.blocks.specs.inner.Source.{topDown, rowFirst, rowsFrom, pixelIn, aroundIn, Stood}
 use Rattle.blocks.specs.declared.source.Stand.{Stand}
 
 -- in a turn at row j: it begins within the source, and ends there
@@ -22,6 +22,23 @@ stood-row {l} {s} {w} {h} j r lt =
     let b : j * s .back ≤ (h - 1) * s .back = mul-le-mul-right {m = j} {n = h - 1} (s .back) (omega arith) in
     let f : j * s .forth ≤ (h - 1) * s .forth = mul-le-mul-right {m = j} {n = h - 1} (s .forth) (omega arith) in
     record { before = omega (arith, r); after = omega (arith, r); room = omega (arith, r) }
+
+-- ---- some of the rows
+pub first-from : (s : Stand) (k j : ℕ) → k * s .back ≤ s .off → rowFirst (rowsFrom s k) j ≡ rowFirst s (k + j)
+unfolding rowFirst
+first-from s k j le = omega arith
+
+pub stood-part : {l : ℕ} {s : Stand} {w h : ℕ} (k n : ℕ) → Stood l s w h → 1 ≤ n → k + n ≤ h → Stood l (rowsFrom s k) w n
+unfolding rowFirst
+stood-part {l} {s} {w} {h} k n r some most =
+    let b : (k + (n - 1)) * s .back ≤ (h - 1) * s .back = mul-le-mul-right {m = k + (n - 1)} {n = h - 1} (s .back) (omega arith) in
+    let f : (k + (n - 1)) * s .forth ≤ (h - 1) * s .forth = mul-le-mul-right {m = k + (n - 1)} {n = h - 1} (s .forth) (omega arith) in
+    record {
+      forth = r .forth;
+      back = r .back;
+      before = omega (arith, r, add-mul k (n - 1) (s .back), add-mul k (n - 1) (s .forth));
+      after = omega (arith, r, add-mul k (n - 1) (s .back), add-mul k (n - 1) (s .forth));
+    }
 
 -- ---- rows of one stride
 pub first-down : (o s j : ℕ) → rowFirst (topDown o s) j ≡ o + j * s

@@ -109,7 +109,7 @@ module _ {k : Kind} {sl s w h tl el wl dl ds : ℕ} (p : Windowed k sl s w h tl 
         },
       )
 
-  pub bilin-ready : {m : BilinMotion} → k ≡ Bilinear m → Bilin dl ds sl s w h (up (m .mx)) (up (m .my))
+  pub bilin-ready : {m : BilinMotion} → k ≡ Bilinear m → Bilin dl ds sl (topDown 0 s) w h (up (m .mx)) (up (m .my))
   unfolding before after motionOk
   bilin-ready {m} e =
       let q : Windowed (Bilinear m) sl s w h tl el wl = rw e at p in
@@ -117,9 +117,9 @@ module _ {k : Kind} {sl s w h tl el wl dl ds : ℕ} (p : Windowed k sl s w h tl 
       record {
         block = p .block;
         dst = dst;
-        wide = omega (arith, q .src .wide);
-        most = q .src .most;
-        fits = pairs-in sl s w h (on (m .mx)) (on (m .my)) (p .block) (omega arith) (omega arith) (q .src .fits);
+        src = stood-from (q .src .most)
+            (omega (arith, pairs-in sl s w h (on (m .mx)) (on (m .my)) (p .block) (omega arith) (omega arith) (q .src .fits)));
+        one = omega arith;
         f15 = sixteenth-met (m .mx) (f .0);
         g15 = sixteenth-met (m .my) (f .1);
       }

@@ -52,7 +52,8 @@ pub fn put_kind(
         Kind::Bilinear(m) => {
             let f = up32(m.mx);
             let g = up32(m.my);
-            put_bilin_rows(d, dst, l.dst_stride, src, s, w, h, f, g)
+            let first = top_down(0, s);
+            put_bilin_rows(d, dst, l.dst_stride, src, first, w, h, f, g)
         }
         Kind::Warp(m) => warp_put(d, dst, l.dst_stride, src, s, o, m, warp),
     }
@@ -88,7 +89,8 @@ pub fn prep_kind(
         Kind::Bilinear(m) => {
             let f = up32(m.mx);
             let g = up32(m.my);
-            prep_bilin_rows(d, tmp, l.dst_stride, src, s, w, h, f, g)
+            let first = top_down(0, s);
+            prep_bilin_rows(d, tmp, l.dst_stride, src, first, w, h, f, g)
         }
         Kind::Warp(m) => warp_prep(d, tmp, l.dst_stride, src, s, o, m, warp),
     }

@@ -3,6 +3,7 @@ use Rattle.blocks.proofs.Usual.{_≡_, _∙_, sym, needs, length, lowes
 use Rattle.blocks.specs.bytes.Depth.{depthOk}
 use Rattle.blocks.specs.Bilinear.{bilinTests}
 use Rattle.blocks.proofs.Laws.bytes.Depth.{depth-bits, depth-max}
+use Rattle.blocks.proofs.Laws.Loops.Stands.{around-down}
 use Rattle.blocks.proofs.Laws.Bilinear.Ready.{bilin-ready}
 use Rattle.blocks.proofs.bytes.bilinear.put_bilin_at.Tie as tie
 
@@ -17,19 +18,19 @@ number c = let s = entry c in rw (c .before .depth-ok .ensures, back (s .fits .d
 
 returns : tie.Need-returns
 returns c =
-    let r = c .before .before in let a = r .before .before in let b = a .before in let n = b .before in let t = n .before in let f = entry (t .before) .fits in
-    let q = rw (b .up32 .ensures, a .up322 .ensures, n .depth-numbers .ensures, back (f .depth), back (f .mx), back (f .my))
+    let r = c .before .before in let s = r .before .before in let a = s .before in let b = a .before in let n = b .before in let t = n .before in let e = entry (t .before) in let f = e .fits in
+    let q = rw (s .top-down .ensures, around-down 0 (e .args .src .now) 0 (e .args .src-stride), b .up32 .ensures, a .up322 .ensures, n .depth-numbers .ensures, back (f .depth), back (f .mx), back (f .my))
     at (r .put-bilin-rows .ensures) in
     (number (t .before), q ∙ sym (done _ _ _ (t .if1 .taken)))
 
 rows-requires : tie.Need-put-bilin-rows-requires
 rows-requires c κs =
-    let a = c .before in let n = a .before .before in let t = n .before in let k = t .before in
+    let s = c .before in let a = s .before in let n = a .before .before in let t = n .before in let k = t .before in
     let q = bilin-ready _ _ (sym (k .check-bilin .ensures) ∙ t .if1 .taken) in let p = sym (k .before .depth-ok .ensures) ∙ q .0 in
-    rw (a .before .up32 .ensures, a .up322 .ensures, n .depth-numbers .ensures) (q .1, depth-bits _ p, depth-max _ p)
+    rw (s .top-down .ensures, a .before .up32 .ensures, a .up322 .ensures, n .depth-numbers .ensures) (q .1, depth-bits _ p, depth-max _ p)
 
 pub put-bilin-at-spec : {M : Type 1} → Rattle.blocks.proofs.bytes.bilinear.put_bilin_at.Statement.statement M
 put-bilin-at-spec = tie.close (tie.spec (λ c κs. search needs) (λ c κs. search needs)  -- depth-ok, check-bilin
     (λ c κs. let k = c .before in sym (k .before .depth-ok .ensures) ∙ bilin-ready _ _ (sym (k .check-bilin .ensures) ∙ c .if1 .taken) .0)
-    (λ c κs. search needs) (λ c κs. search needs) rows-requires (λ c. search needs) returns  -- above, same-length
+    (λ c κs. search needs) (λ c κs. search needs) (λ c κs. search needs) rows-requires (λ c. search needs) returns  -- above, top-down, same-length
     (λ c. (number (c .before), sym (refused _ _ _ (c .if1 .left)))))

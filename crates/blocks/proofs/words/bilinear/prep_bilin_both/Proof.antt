@@ -1,16 +1,18 @@
-use Rattle.blocks.proofs.Usual.{_≡_, refl, sym, ℕ, _*_, _+_, _-_, arith, needs, length, splice, around, Filled, filled-none, filled-all}
+use Rattle.blocks.proofs.Usual.{_≡_, refl, sym, ℕ, _*_, _+_, _-_, _<_, arith, needs, length, splice, Filled, filled-none, filled-all}
 use Rattle.blocks.proofs.Usual.{pos, w16, SFits, backn}
 use Rattle.rows.specs.Bilinear.{prepBilin}
-use Rattle.blocks.proofs.Laws.Loops.Groups.{Grouped, Group, HoldsRows, holds-first, filled-group, grouped-next, grouped-last}
-use Rattle.blocks.proofs.Laws.Bilinear.Both.{firstMid, first-held, prep-held, bilin-group, row-pairs, first-pairs, second-pairs}
+use Rattle.blocks.specs.inner.Source.{aroundIn}
+use Rattle.blocks.proofs.Laws.Loops.Stands.{StoodRow}
+use Rattle.blocks.proofs.Laws.Loops.Groups.{Grouped, HoldsRows, holds-first, filled-group, grouped-next, grouped-last}
+use Rattle.blocks.proofs.Laws.Bilinear.Both.{firstMid, first-held, prep-held, Eight, bilin-group, rows-within, row-pairs, first-pairs, second-pairs}
 use Rattle.blocks.proofs.words.bilinear.prep_bilin_both.Tie as tie
 
 abbrev Inv-loop : tie.InvT-loop
-Inv-loop tmp₀ ts src ss w h f g b p by mid₀ y₀ tmp mid y =
-    Grouped 1 576 ts w (λ i j. prepBilin b p f g (around 0 src 0 ss i j)) (firstMid (4 - b) f src ss) tmp₀ h tmp mid y
+Inv-loop tmp₀ ts src s w h f g b p by mid₀ y₀ tmp mid y =
+    Grouped 1 576 ts w (λ i j. prepBilin b p f g (aroundIn 0 src s i j)) (firstMid (4 - b) f src s) tmp₀ h tmp mid y
 
 abbrev μ-loop : tie.MeasureT-loop
-μ-loop tmp₀ ts src ss w h f g b p by mid₀ y₀ tmp mid y = h - y
+μ-loop tmp₀ ts src s w h f g b p by mid₀ y₀ tmp mid y = h - y
 
 -- from a turn of the loop that knows how many rows it makes: the function's entry, B and P as the rows take them
 abbrev entry : tie.After-eight-at-most Inv-loop μ-loop → tie.Start Inv-loop μ-loop
@@ -26,28 +28,38 @@ low : (k : tie.After-eight-at-most Inv-loop μ-loop) → SFits w16 (pos (bias k)
 low k = omega (arith, k .before .before .before .before .before .before .bias-of .ensures, entry k .pre .4)
 
 turn : (k : tie.After-eight-at-most Inv-loop μ-loop) → let a = entry k .args in
-    Group (length (a .tmp .now)) (a .ts) (length (a .src .now)) 0 (a .ss) 1 (a .w + 1) (a .w) (a .h) (k .before .before .loop .y) (k .eight-at-most .result)
+    Eight (length (a .tmp .now)) (a .ts) (a .w) (a .h) (k .before .before .loop .y) (k .eight-at-most .result)
 turn k = let p = entry k .pre in bilin-group (p .0) (p .1) (p .2) _ _ (k .before .loop-test .taken) (k .eight-at-most .ensures)
+
+-- the turn's rows, and the one after them, begin within the source
+within : (k : tie.After-eight-at-most Inv-loop μ-loop) (r : ℕ) → let a = entry k .args in r < k .before .before .loop .y + (1 + k .eight-at-most .result)
+    → StoodRow (length (a .src .now)) (a .s) (a .w + 1) r
+within k r lt = let p = entry k .pre in rows-within (p .0) (p .1) (p .2) r (omega (arith, turn k))
+
+-- the row that a turn's first pass begins with
+next : (k : tie.After-eight-at-most Inv-loop μ-loop) → let a = entry k .args in StoodRow (length (a .src .now)) (a .s) (a .w + 1) (k .before .before .loop .y + 1)
+next k = within k _ (omega (arith, turn k))
 
 -- the array after a turn's first pass: as long as it was, and with the rows that the second reads
 made : (f : tie.After-prep-bilin-axis2 Inv-loop μ-loop) → let k = f .before .before .before in let a = entry k .args in let l = k .before .before .loop in
     let m = splice (l .mid) 64 576 (f .prep-bilin-axis2 .last .0) in
-    (length m ≡ 576) × HoldsRows (a .w) (firstMid (4 - bits k) (a .f) (a .src .now) (a .ss)) m (l .y) (1 + k .eight-at-most .result)
+    (length m ≡ 576) × HoldsRows (a .w) (firstMid (4 - bits k) (a .f) (a .src .now) (a .s)) m (l .y) (1 + k .eight-at-most .result)
 made f =
     let k = f .before .before .before in let a = entry k .args in let i = k .before .before .loop .inv in
-    first-held (4 - bits k) (a .f) (a .src .now) (a .ss) (k .eight-at-most .result) (entry k .pre .0 .block .w64) (turn k .most) (i .long)
-    (i .rows (k .before .loop-test .taken)) (f .prep-bilin-axis2 .ensures)
+    first-held (4 - bits k) (a .f) (a .src .now) (a .s) (k .eight-at-most .result) (entry k .pre .0 .block .w64) (turn k .most) (i .long)
+    (next k .before) (i .rows (k .before .loop-test .taken)) (rw (f .before .before .rows-from .ensures) at (f .prep-bilin-axis2 .ensures))
 
 -- the destination after its second
 written : (m : tie.After-mid-bilin-prep-rows Inv-loop μ-loop) → let k = m .before .before .before .before .before .before .before in let a = entry k .args in
     let l = k .before .before .loop in let y = l .y in let n = k .eight-at-most .result in
-    Filled (a .ts) (a .w) (λ i j. prepBilin (bits k) (bias k) (a .f) (a .g) (around 0 (a .src .now) 0 (a .ss) i j)) (a .tmp .now) (a .h) (y + n)
+    Filled (a .ts) (a .w) (λ i j. prepBilin (bits k) (bias k) (a .f) (a .g) (aroundIn 0 (a .src .now) (a .s) i j)) (a .tmp .now) (a .h) (y + n)
     (splice (l .tmp) (y * a .ts) (y * a .ts + (n - 1) * a .ts + a .w) (m .mid-bilin-prep-rows .last .0))
 written m =
     let k = m .before .before .before .before .before .before .before in let a = entry k .args in let p = entry k .pre in
     let t = turn k in let n = k .eight-at-most .result in
     filled-group (pos 0) (k .before .before .loop .inv .dst) (p .0 .dst) (p .0 .block .w1) n (t .some) (t .left) _
-    (λ i j u v. prep-held (bits k) (a .f) (a .src .now) (a .ss) n (made (m .before .before .before .before) .1) (p .1) (p .2) i j u v
+    (λ i j u v. prep-held (bits k) (a .f) (a .src .now) (a .s) n (made (m .before .before .before .before) .1) (λ r lt. within k r lt .before) (p .1) (p .2)
+    i j u v
     (bias k) _ (backn w16 (bias k) (omega (arith, low k))))
     _ refl _ (m .mid-bilin-prep-rows .ensures)
 
@@ -56,13 +68,13 @@ first-requires c κs = let p = c .before .before .before .before .pre in (row-pa
 
 first-requires-2 : tie.Need-prep-bilin-axis-requires-2 Inv-loop μ-loop
 first-requires-2 c κs =
-    let k = c .before .before in let s = entry k in let l = k .before .before .loop in
-    (first-pairs (s .args .src .now) (s .pre .0) (turn k) _ (omega arith) (l .mid) (l .inv .long), omega arith)
+    let o = c .before in let k = o .before in let p = entry k .pre in let l = k .before .before .loop in
+    rw (o .rows-from .ensures) (first-pairs (p .0) (turn k) _ (omega arith) (l .mid) (l .inv .long) (p .1) (p .2), omega arith)
 
 second-requires : tie.Need-mid-bilin-prep-rows-requires Inv-loop μ-loop
 second-requires c κs =
     let k = c .before .before .before .before .before .before in let s = entry k in let i = k .before .before .loop .inv in
-    second-pairs (s .args .src .now) (s .pre .0) (turn k) _ (omega arith) (pos 0) _ (i .dst .len) refl (made (c .before .before .before) .0)
+    second-pairs (s .pre .0) (turn k) _ (omega arith) (pos 0) _ (i .dst .len) refl (made (c .before .before .before) .0)
 
 loop-holds : tie.Need-loop-holds Inv-loop μ-loop
 loop-holds c =
@@ -97,10 +109,9 @@ prep-bilin-both-spec = tie.close (tie.spec Inv-loop μ-loop
     (λ c κs. search needs) (λ c κs. search needs) (λ c. search needs)  -- bits-of, bias-of, 4 - b
     (λ c. refl) first-requires loop-holds  -- slice-aggregate-prep-bilin-axis
     (λ c. omega (arith, c .before .loop .inv .dst)) (λ c κs. search needs)  -- h - y, eight-at-most
-    (λ c. omega (arith, turn c, entry c .pre .0 .block)) (λ c. omega (arith, turn c, entry c .good))  -- o
-    (λ c. omega arith) (λ c. omega (arith, c .before .before .loop .inv .long)) (λ c. omega (arith, c .before .before .loop .inv .long))  -- mid[64..576]
-    (λ c. omega (arith, turn (c .before), entry (c .before) .good))  -- words: places of two bytes, src
-    (λ c. omega (arith, turn (c .before))) (λ c. omega (arith, turn (c .before))) (λ c. omega (arith, turn (c .before))) first-requires-2  -- src[o..src.len()]
+    (λ c. omega (arith, turn c, entry c .pre .0 .block)) (λ c κs. (next c .before, omega (arith, next c, entry c .good)))  -- y + 1, rows-from
+    (λ c. omega arith) (λ c. omega (arith, c .before .before .before .loop .inv .long))  -- mid[64..576]
+    (λ c. omega (arith, c .before .before .before .loop .inv .long)) first-requires-2
     (λ c. omega (arith, turn (counted c), entry (counted c) .good)) (λ c. omega (arith, turn (counted c)))  -- a, k - 1
     (λ c. omega (arith, turn (counted c), entry (counted c) .good)) (λ c. omega (arith, turn (counted c), entry (counted c) .good))  -- e
     (λ c. omega (arith, turn (counted c), entry (counted c) .good))

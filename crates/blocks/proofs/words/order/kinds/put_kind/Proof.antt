@@ -1,5 +1,6 @@
 use Rattle.blocks.proofs.Usual.{_∙_, ap, arith, needs, fill, putRule, before}
 use Rattle.rows.specs.Copy.{put}
+use Rattle.blocks.proofs.Laws.Loops.Stands.{around-down}
 use Rattle.blocks.proofs.Laws.Order.Kinds.{copy-ready, subpel-ready, bilin-ready, warp-ready}
 use Rattle.blocks.proofs.Laws.Order.Kinds.{bilin-passed, warp-size, from-window, no-margin}
 use Rattle.blocks.proofs.words.order.kinds.put_kind.Tie as tie
@@ -18,11 +19,11 @@ subpel-requires c κs =
 
 bilin-requires : tie.Need-put-bilin-rows-requires
 bilin-requires c κs =
-    let b = c .before .before in
+    let s = c .before in let u = s .before in let b = u .before in
     let a = b .before in
     let k = a .before .before .before in
     let p = k .before .before .before .before .pre in
-    rw (a .up32 .ensures, c .before .up322 .ensures) (bilin-ready (p .0) (p .1) (bilin-passed (k .k2 .given .1) (b .struct-told2 .given)), p .2, p .4)
+    rw (s .top-down2 .ensures, a .up32 .ensures, u .up322 .ensures) (bilin-ready (p .0) (p .1) (bilin-passed (k .k2 .given .1) (b .struct-told2 .given)), p .2, p .4)
 
 warp-requires : tie.Need-warp-put-requires
 warp-requires c κs =
@@ -46,10 +47,11 @@ subpel-returns c =
 bilin-returns : tie.Need-returns-3
 unfolding putRule before
 bilin-returns c =
-    let b = c .before .before .before .before in
+    let s = c .before .before .before .before in let b = s .before in
     let a = b .before .before in
     let k = a .before .before .before in
-    let e = rw (a .up32 .ensures, b .up322 .ensures) at (c .before .before .put-bilin-rows .ensures) in
+    let r = k .before .before .before .before .args in
+    let e = rw (s .top-down2 .ensures, around-down 0 (r .src .now) 0 (r .l .«src_stride»), a .up32 .ensures, b .up322 .ensures) at (c .before .before .put-bilin-rows .ensures) in
     rw (bilin-passed (k .k2 .given .1) (b .before .struct-told2 .given), no-margin (k .before .before .before .before .args .l .«src_stride»)) e
 
 warp-returns : tie.Need-returns-4
@@ -65,6 +67,6 @@ pub put-kind-spec : {M : Type 1} → Rattle.blocks.proofs.words.order.k
 put-kind-spec = tie.close (tie.spec
     (λ c. omega (arith, c .before .before .pre .0 .src .most)) (λ c. omega (arith, c .before .before .pre .0 .src .most))  -- first
     (λ c. search needs) (λ c κs. search needs) copy-requires (λ c. search needs) subpel-requires (λ c. search needs)  -- enum-told, top-down, enum-known-k
-    (λ c κs. search needs) (λ c κs. search needs) bilin-requires (λ c. search needs) warp-requires  -- above, enum-known-k
+    (λ c κs. search needs) (λ c κs. search needs) (λ c κs. search needs) bilin-requires (λ c. search needs) warp-requires  -- above, top-down, enum-known-k
     (λ c. search needs) copy-returns (λ c. search needs) subpel-returns (λ c. search needs) bilin-returns (λ c. search needs)  -- same-length
     warp-returns)
