@@ -10,9 +10,11 @@ use mathlib.Core.Bool.{true}
 use Rattle.blocks.specs.Subpel.{on, subpelOk}
 use Rattle.blocks.specs.inner.Source.{Stood}
 use Rattle.blocks.specs.inner.Subpel.{filterOf, Held}
+use Rattle.blocks.specs.inner.Source.{Stood}
 use Rattle.blocks.specs.Window.{windowSide}
 use Rattle.blocks.specs.Order.{kindNumber, kindSizeOk, motionOk, filtersOk}
 use Rattle.blocks.specs.declared.frame.Area.{Area}
+use Rattle.blocks.specs.declared.source.Stand.{Stand}
 use Rattle.blocks.specs.declared.window.Part.{Part}
 use Rattle.blocks.specs.declared.order.Kind.{Kind}
 use Rattle.blocks.specs.declared.refuse.DepthNumbers.{DepthNumbers}
@@ -49,11 +51,12 @@ pub record Ranged (a : Area) : Type 0 where
   pub left : natAbs (a .left) ≤ 2 ^ 30 + 3
   pub top : natAbs (a .top) ≤ 2 ^ 30 + 3
 
--- such an area into a buffer of dl places, from a plane of pl places
-pub record Fetch (a : Area) (dl ds pl ps : ℕ) : Type 0 where
+-- such an area into a buffer of dl places, from a plane of pl places whose rows stand as s says
+pub record Fetch (a : Area) (dl ds pl : ℕ) (s : Stand) : Type 0 where
   pub area : Ranged a
   pub dst : Rows dl ds (a .ww) (a .wh)
-  pub plane : Rows pl ps (a .iw) (a .ih)
+  pub wide : a .iw ≤ s .forth + s .back
+  pub plane : Stood pl s (a .iw) (a .ih)
 
 -- a pass of bilinear rows at the fraction f with R(n): h rows of w at the stride ds into dl places, from rows at the stride ss of sl places, the second
 -- number of each place a step on

@@ -2,6 +2,7 @@
 ghost use mathlib.Core.Path.{_≡_};
 ghost use lib.ListN.{length};
 ghost use Rattle.blocks.specs.inner.Ready.{Fetch, PartIn};
+ghost use Rattle.blocks.specs.inner.Source.{topDown};
 ghost use Rattle.blocks.specs.Window.{windowOf, scratchOf, partOf, WindowAnswer};
 ghost use Rattle.blocks.specs.inner.Window.{lentOf, asked, areaAt, areaFetched};
 use super::edge::edge_rows;
@@ -9,6 +10,7 @@ use crate::frame::Area;
 use crate::frame::Frame;
 use crate::frame::Reference;
 use crate::frame::area_of;
+use crate::source::top_down;
 use crate::window::Part;
 use crate::window::check_window;
 use crate::window::find_window;
@@ -24,13 +26,14 @@ pub fn fetch(
     mode: u32,
     scratch: &mut [Pixel],
 ) -> Part
-    requires { ⌜ Fetch a (length (now scratch)) (a .ww) (length (now plane)) «plane_stride» ⌝ }
+    requires { ⌜ Fetch a (length (now scratch)) (a .ww) (length (now plane)) (topDown 0 «plane_stride») ⌝ }
     ensures { λ r. ⌜ (r ≡ areaAt a mode «plane_stride»)
         × (now (scratch .exit) ≡ areaFetched a (now (plane .entry)) «plane_stride» mode (now (scratch .entry))) ⌝ }
 {
     let part = locate(a, mode, plane_stride);
     if part.buffer == 2 {
-        edge_rows(a, scratch, a.ww, plane, plane_stride);
+        let s = top_down(0, plane_stride);
+        edge_rows(a, scratch, a.ww, plane, s);
     }
     part
 }

@@ -4,10 +4,12 @@ use Rattle.blocks.proofs.Usual.{ℤ, negsuc, natAbs, _+ℤ_, _-ℤ_, ge
 use Rattle.blocks.proofs.Usual.{sub-parts, rows-met, all-met, size-met, row-in}
 use lib.Dec.{leb·suc-suc}
 use Rattle.rows.specs.Numbers.{isWithin}
-use Rattle.rows.specs.Edge.{endless, edge}
 use Rattle.rows.proofs.Laws.Numbers.Signed.{abs-add, clip-up}
 use Rattle.blocks.specs.inner.Ready.{Fetch}
+use Rattle.blocks.specs.inner.Source.{topDown, rowFirst, edgeIn}
+use Rattle.blocks.proofs.Laws.Loops.Stands.{StoodRow, stood-row, stood-rows}
 use Rattle.blocks.specs.declared.frame.Area.{Area}
+use Rattle.blocks.specs.declared.source.Stand.{Stand}
 use Rattle.blocks.specs.Edge.{placeOk, edgeTests}
 
 -- ---- positions
@@ -26,7 +28,7 @@ place-met x e = leb-true (natAbs x) (2 ^ 30) e
 
 -- ---- what the rows rely on, also of a window that starts up to 3 before a position
 pub edge-ready : {bw bh iw ih : ℕ} {x y : ℤ} {dl ds pl ps : ℕ} → lowest (edgeTests bw bh iw ih x y dl ds pl ps) ≡ 0
-    → Fetch (record { ww = bw; wh = bh; iw = iw; ih = ih; left = x; top = y }) dl ds pl ps
+    → Fetch (record { ww = bw; wh = bh; iw = iw; ih = ih; left = x; top = y }) dl ds pl (topDown 0 ps)
 edge-ready {bw} {bh} {iw} {ih} {x} {y} {dl} {ds} {pl} {ps} e =
     let (width, (height, (across, (down, (dst, (plane, others)))))) = all-met (edgeTests bw bh iw ih x y dl ds pl ps) e in
     let (column, (row, (read, (written, none)))) = others in
@@ -34,6 +36,7 @@ edge-ready {bw} {bh} {iw} {ih} {x} {y} {dl} {ds} {pl} {ps} e =
     let b = size-met 128 bh height in
     let c = size-met 16384 iw across in
     let d = size-met 16384 ih down in
+    let rows = rows-met pl ps iw ih plane read in
     record {
       area = record {
         ww1 = a .0;
@@ -48,7 +51,8 @@ edge-ready {bw} {bh} {iw} {ih} {x} {y} {dl} {ds} {pl} {ps} e =
         top = omega (arith, place-met y row);
       };
       dst = rows-met dl ds bw bh dst written;
-      plane = rows-met pl ps iw ih plane read;
+      wide = omega (arith, rows);
+      plane = stood-rows rows;
     }
 
 -- ---- a turn at row j
@@ -72,11 +76,11 @@ pub clip-below : (ih : ℕ) (z : ℤ) → 1 ≤ ih → clip (ih - 1) z < ih
 clip-below ih z h = omega (arith, clip-up (ih - 1) z)
 
 -- row j is within the block's buffer, row k within the plane
-pub turn : {a : Area} {dl ds pl ps j k : ℕ} → Fetch a dl ds pl ps → j < a .wh → k < a .ih → (j * ds + a .ww ≤ dl) × (k * ps + a .iw ≤ pl)
-turn {j} {k} f a b = (row-in j (f .dst) a, row-in k (f .plane) b)
+pub turn : {a : Area} {dl ds pl : ℕ} {s : Stand} {j k : ℕ} → Fetch a dl ds pl s → j < a .wh → k < a .ih → (j * ds + a .ww ≤ dl) × StoodRow pl s (a .iw) k
+turn {j} {k} f a b = (row-in j (f .dst) a, stood-row k (f .plane) b)
 
 -- the plane's row k, from column x on, is the picture's row j
-pub row-is : (plane : List ℕ) (ps iw ih : ℕ) (x y : ℤ) (j n : ℕ) {k : ℕ} {r : List ℕ} → k ≡ clip (ih - 1) (y +ℤ pos j)
-    → r ≡ rowOf n (λ i. getD plane (k * ps + clip (iw - 1) (x +ℤ pos i)) 0) → r ≡ rowOf n (λ i. edge plane ps iw ih x y i j)
-unfolding edge endless
-row-is plane ps iw ih x y j n e q = q ∙ ap (λ (m : ℕ). rowOf n (λ i. getD plane (m * ps + clip (iw - 1) (x +ℤ pos i)) 0)) e
+pub row-is : (plane : List ℕ) (s : Stand) (iw ih : ℕ) (x y : ℤ) (j n : ℕ) {k o : ℕ} {r : List ℕ} → k ≡ clip (ih - 1) (y +ℤ pos j) → o ≡ rowFirst s k
+    → r ≡ rowOf n (λ i. getD plane (o + clip (iw - 1) (x +ℤ pos i)) 0) → r ≡ rowOf n (λ i. edgeIn plane s iw ih x y i j)
+unfolding edgeIn
+row-is plane s iw ih x y j n e f q = q ∙ ap (λ (m : ℕ). rowOf n (λ i. getD plane (m + clip (iw - 1) (x +ℤ pos i)) 0)) (f ∙ ap (rowFirst s) e)

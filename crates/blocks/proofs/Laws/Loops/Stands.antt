@@ -4,10 +4,12 @@ use mathlib.Core.List.{List}
 use Prim.Native.Nat.{ℕ, _+_, _-_, _*_, _≤_, _<_}
 use native.Mathlib.Nat.{mul-le-mul-right, add-mul}
 use native.Mathlib.Omega.{arith}
+use lib.IntN.{ℤ}
 use lib.ListN.{getD}
 use Rattle.rows.specs.Places.{pixel, fill, around}
+use Rattle.rows.specs.Edge.{endless, edge}
 use Rattle.blocks.specs.inner.Ready.{Rows}
-use Rattle.blocks.specs.inner.Source.{topDown, rowFirst, rowsFrom, pixelIn, aroundIn, Stood}
+use Rattle.blocks.specs.inner.Source.{topDown, rowFirst, rowsFrom, pixelIn, aroundIn, edgeIn, Stood}
 use Rattle.blocks.specs.declared.source.Stand.{Stand}
 
 -- in a turn at row j: it begins within the source, and ends there
@@ -57,6 +59,10 @@ unfolding aroundIn around
 around-down m src o s =
     fun-ext λ i. fun-ext λ j. fun-ext λ a. fun-ext λ b.
     ap (λ (p : ℕ). getD src p 0) (omega arith)
+
+pub edges-down : (plane : List ℕ) (s iw ih : ℕ) (x y : ℤ) → edgeIn plane (topDown 0 s) iw ih x y ≡ edge plane s iw ih x y
+unfolding edgeIn rowFirst edge endless
+edges-down plane s iw ih x y = fun-ext λ i. fun-ext λ j. ap (λ (p : ℕ). getD plane p 0) (omega arith)
 
 pub pixels-down : {A : Type 0} (rule : ℕ → A) (src : List ℕ) (s : ℕ)
     → _≡_ {A = ℕ → ℕ → A} (λ i j. rule (pixelIn src (topDown 0 s) i j)) (λ i j. rule (pixel src s i j))

@@ -9,6 +9,7 @@ use Rattle.rows.proofs.Laws.Numbers.Signed.{clip-up}
 use Rattle.rows.proofs.Laws.Blocks.Places.{span-length, span-at}
 use Rattle.blocks.specs.Refuse.{partLen}
 use Rattle.blocks.specs.inner.Ready.{Fetch, PartIn}
+use Rattle.blocks.specs.inner.Source.{topDown}
 use Rattle.blocks.specs.Window.{windowSide, planeIfInside, inside, ownPlane, noPart}
 use Rattle.blocks.specs.Window.{fetched, aroundPart}
 use Rattle.blocks.specs.Order.{planeOf}
@@ -42,7 +43,7 @@ clip-inside : (x : ℤ) (n side i : ℕ) → Inside x n side → i < n → clip 
 clip-inside x n side i p h = omega (arith, p, clip-up (side - 1) (x +ℤ pos i), add-parts x (pos i), one-part (x +ℤ pos i))
 
 -- and the plane holds the window
-pub planes-fit : {a : Area} {sl pl ps : ℕ} → Fetch a sl (a .ww) pl ps → Inside (a .left) (a .ww) (a .iw) → Inside (a .top) (a .wh) (a .ih)
+pub planes-fit : {a : Area} {sl pl ps : ℕ} → Fetch a sl (a .ww) pl (topDown 0 ps) → Inside (a .left) (a .ww) (a .iw) → Inside (a .top) (a .wh) (a .ih)
     → up (a .top) * ps + up (a .left) + partLen ps (a .ww) (a .wh) ≤ pl
 planes-fit {a} {sl} {pl} {ps} ok p q =
     let below : up (a .top) + (a .wh - 1) ≤ a .ih - 1 = omega (arith, ok .area, q) in
@@ -65,7 +66,7 @@ span-shows l o s w h g wide most fits same =
           span-at 0 l o (o + partLen s w h) fits (j * s + i) (omega (arith, row-fits (partLen s w h) s w h j (omega arith) b)) ∙ same i j a b;
     }
 
-module _ (a : Area) (plane scratch : List ℕ) {ps : ℕ} (ok : Fetch a (length scratch) (a .ww) (length plane) ps) where
+module _ (a : Area) (plane scratch : List ℕ) {ps : ℕ} (ok : Fetch a (length scratch) (a .ww) (length plane) (topDown 0 ps)) where
   abbrev seen : ℕ → ℕ → ℕ
   seen = edge plane ps (a .iw) (a .ih) (a .left) (a .top)
 
@@ -74,7 +75,7 @@ module _ (a : Area) (plane scratch : List ℕ) {ps : ℕ} (ok : Fetch a (length 
       → Shows (span plane (up (a .top) * ps + up (a .left)) (up (a .top) * ps + up (a .left) + partLen ps (a .ww) (a .wh))) ps (a .ww) (a .wh) seen
   unfolding edge endless
   plane-shows p q =
-      span-shows plane (up (a .top) * ps + up (a .left)) ps (a .ww) (a .wh) seen (omega (arith, ok .plane, p)) (ok .plane .most)
+      span-shows plane (up (a .top) * ps + up (a .left)) ps (a .ww) (a .wh) seen (omega (arith, ok .wide, p)) (ok .plane .forth)
       (planes-fit ok p q) λ i j wi hj.
       ap (λ (k : ℕ). getD plane k 0)
       (rw (clip-inside (a .left) (a .ww) (a .iw) i p wi, clip-inside (a .top) (a .wh) (a .ih) j q hj) (omega (arith, add-mul (up (a .top)) j ps)))
@@ -101,7 +102,7 @@ pub window-in : (p : LentPlane) (q : Asked) (sl : ℕ) → PartIn (windowOf p q 
 unfolding windowOf windowAt orSame
 window-in p q sl =
     go (areaOf p q) (lowest (windowTests p q sl)) (window-ready p q sl) (ownPlane p q) (planes-met (q .mode) (areaOf p q)) where
-      go : (a : Area) (n : ℕ) → (n ≡ 0 → Fetch a sl (a .ww) (length (p .plane)) (p .stride))
+      go : (a : Area) (n : ℕ) → (n ≡ 0 → Fetch a sl (a .ww) (length (p .plane)) (topDown 0 (p .stride)))
           → (b : Bool) → (b ≡ true → Inside (a .left) (a .ww) (a .iw) × Inside (a .top) (a .wh) (a .ih))
           → PartIn (orSame n (windowAt b (p .stride) a) (noPart n)) (length (p .plane)) sl
       go a zero ok true i = record { plane = λ e. planes-fit (ok refl) (i refl .0) (i refl .1); scratch = λ e. absurd (omega arith) }

@@ -5,11 +5,12 @@ use Rattle.blocks.proofs.Usual.{written, holds, strideOk, sizeOk, orSam
 use Rattle.blocks.proofs.Usual.{after, windowOf, frameSizesOk, planeSide, isPlanes, windowAt, scratchOf, and-true, length-rowOf, fit-abs, rows-met, done}
 use Rattle.blocks.proofs.Usual.{refused, all-met, later, sooner, holds-met, size-met}
 use Rattle.rows.specs.Places.{pick}
-use Rattle.rows.specs.Edge.{edge}
 use Rattle.rows.proofs.Laws.Numbers.Signed.{abs-sub}
 use Rattle.blocks.specs.Refuse.{partLen, holdsAll}
 use Rattle.blocks.specs.Edge.{placeOk}
 use Rattle.blocks.specs.inner.Ready.{Fetch}
+use Rattle.blocks.specs.inner.Source.{topDown, edgeIn}
+use Rattle.blocks.proofs.Laws.Loops.Stands.{stood-rows, edges-down}
 use Rattle.blocks.specs.Window.{planeW, planeH, eightTaps, windowSide}
 use Rattle.blocks.specs.Window.{windowStart, ownPlane, noPart, fetched}
 use Rattle.blocks.specs.Window.{PartAnswer}
@@ -142,13 +143,14 @@ module _ (p : LentPlane) (q : Asked) (sl : ℕ) (e : lowest (windowTests p q sl)
       let m = window-met p q sl e in
       (size-met 64 (q .w) (m .width) .1, size-met 64 (q .h) (m .height) .1, place-met (q .x) (m .across), place-met (q .y) (m .down))
 
-  pub window-ready : Fetch (areaOf p q) sl (windowSide (q .kind) (q .w)) (length (p .plane)) (p .stride)
+  pub window-ready : Fetch (areaOf p q) sl (windowSide (q .kind) (q .w)) (length (p .plane)) (topDown 0 (p .stride))
   window-ready =
       let m = window-met p q sl e in
       let f = frame-met (p .frame) (p .planeNo) (m .frame) in
       let a = size-met 64 (q .w) (m .width) in
       let b = size-met 64 (q .h) (m .height) in
       let g = margins (q .kind) in
+      let rows = rows-met (length (p .plane)) (p .stride) (lentW p) (lentH p) (m .carries) (m .plane) in
       record {
         area = record {
           ww1 = omega (arith, a);
@@ -167,7 +169,8 @@ module _ (p : LentPlane) (q : Asked) (sl : ℕ) (e : lowest (windowTests p q sl)
           most = omega (arith, a, g);
           fits = holds-met sl (windowSide (q .kind) (q .w)) (windowSide (q .kind) (q .w)) (windowSide (q .kind) (q .h)) (m .scratch);
         };
-        plane = rows-met (length (p .plane)) (p .stride) (lentW p) (lentH p) (m .carries) (m .plane);
+        wide = omega (arith, rows);
+        plane = stood-rows rows;
       }
 
 -- ---- the answer
@@ -206,7 +209,7 @@ module _ {p : LentPlane} {q : Asked} {sl : ℕ} (ok : Accepted p q sl) where
   accepted-small = window-small p q sl (ok .is)
 
   module _ {a : Area} (is : a ≡ areaOf p q) where
-    pub accepted-ready : Fetch a sl (a .ww) (length (p .plane)) (p .stride)
+    pub accepted-ready : Fetch a sl (a .ww) (length (p .plane)) (topDown 0 (p .stride))
     accepted-ready = rw is (window-ready p q sl (ok .is))
 
     pub accepted-part : {r : Part} → r ≡ areaAt a (q .mode) (p .stride) → r ≡ windowOf p q sl
@@ -243,10 +246,10 @@ own-at planes ps a e r c l = rw (e, r, c, l) refl
 
 module _ (a : Area) (mode ps : ℕ) {p : Part} (is : p ≡ areaAt a mode ps) (plane scratch : List ℕ) where
   -- scratch is filled
-  pub area-filled : {d : List ℕ} → p .buffer ≡ 2 → d ≡ fill scratch (a .ww) (a .ww) (a .wh) (edge plane ps (a .iw) (a .ih) (a .left) (a .top))
+  pub area-filled : {d : List ℕ} → p .buffer ≡ 2 → d ≡ fill scratch (a .ww) (a .ww) (a .wh) (edgeIn plane (topDown 0 ps) (a .iw) (a .ih) (a .left) (a .top))
       → d ≡ areaFetched a plane ps mode scratch
   unfolding fetched
-  area-filled two full = let b = in-scratch (isPlanes mode a) ps a (rw is at two) in full ∙ rw b refl
+  area-filled two full = let b = in-scratch (isPlanes mode a) ps a (rw is at two) in full ∙ rw (b, edges-down plane ps (a .iw) (a .ih) (a .left) (a .top)) refl
 
   -- or stays as it was
   pub area-kept : (p .buffer ≡ 2 → ⊥) → scratch ≡ areaFetched a plane ps mode scratch

@@ -31,7 +31,7 @@ locate-requires : tie.Need-locate-requires
 locate-requires c κs =
     let e = c .before in let (plane, long) = plane-of (e .before .before .args .pl) in
     let r = accepted-ready (accepted e plane long) (area-is c plane) in
-    (r .area, r .plane .most)
+    (r .area, r .plane .forth)
 
 returns-2 : tie.Need-returns-2
 returns-2 c plane l = let p = c .before in accepted-part (accepted (p .before) plane l) (area-is p plane) (c .locate .ensures)
