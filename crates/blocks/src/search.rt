@@ -1,6 +1,6 @@
 // The tests and the offsets of the search by sums of absolute differences, for both sets of pixels.
 ghost use mathlib.Core.Path.{_≡_};
-ghost use Prim.Native.Nat.{_+_, _*_, _/_, _^_, _≤_};
+ghost use Prim.Native.Nat.{_+_, _*_, _/_, _^_, _≤_, _<_};
 ghost use lib.Dec.{ltb, eqb};
 ghost use lib.IntN.{pos, natAbs, _+ℤ_, _-ℤ_};
 ghost use Rattle.rows.specs.Numbers.{up};
@@ -8,11 +8,13 @@ ghost use Rattle.rows.specs.Search.{better, answer};
 ghost use Rattle.blocks.specs.Refuse.{lowest};
 ghost use Rattle.blocks.specs.inner.Ready.{Block};
 ghost use Rattle.blocks.specs.Search.{sadsTests};
-ghost use Rattle.blocks.specs.inner.Search.{bestOf};
+ghost use Rattle.blocks.specs.inner.Search.{bestOf, standAt};
 use crate::refuse::held;
 use crate::refuse::needed;
 use crate::refuse::sizes;
 use crate::refuse::stride;
+use crate::source::Stand;
+use crate::source::row_first;
 
 // The best sum so far and its offset, once one is found.
 pub struct Best {
@@ -28,11 +30,11 @@ pub struct Offset {
     pub dy: i32,
 }
 
-// Two buffers that are compared: the depth of their pixels, their strides, and the block's size.
+// Two buffers that are compared: the depth of their pixels, where their rows stand, and the block's size.
 pub struct Compared {
     pub depth: u32,
-    pub s0: usize,
-    pub s1: usize,
+    pub s0: Stand,
+    pub s1: Stand,
     pub w: usize,
     pub h: usize,
 }
@@ -76,19 +78,32 @@ fn behind(d: i32) -> usize
     (2 - d) as usize
 }
 
-// The places where an offset starts the two blocks.
-pub fn first_place(s: usize, dx: i32, dy: i32) -> usize
-    requires { ⌜ (s ≤ 32768) × (natAbs dx ≤ 2) × (natAbs dy ≤ 2) ⌝ }
-    ensures { λ r. ⌜ r ≡ up (pos 2 +ℤ dy) * s + up (pos 2 +ℤ dx) ⌝ }
+// The rows of a block that begins at column x of row y.
+fn stand_at(s: Stand, x: usize, y: usize) -> Stand
+    requires { ⌜ (y * s .back ≤ s .off) × (s .off + y * s .forth + x < 2 ^ 64) ⌝ }
+    ensures { λ r. ⌜ r ≡ standAt s x y ⌝ }
 {
-    ahead(dy) * s + ahead(dx)
+    let off = row_first(s, y) + x;
+    Stand {
+        off,
+        forth: s.forth,
+        back: s.back,
+    }
 }
 
-pub fn second_place(s: usize, dx: i32, dy: i32) -> usize
-    requires { ⌜ (s ≤ 32768) × (natAbs dx ≤ 2) × (natAbs dy ≤ 2) ⌝ }
-    ensures { λ r. ⌜ r ≡ up (pos 2 -ℤ dy) * s + up (pos 2 -ℤ dx) ⌝ }
+// The rows of the two blocks, where an offset starts them.
+pub fn first_place(s: Stand, dx: i32, dy: i32) -> Stand
+    requires { ⌜ (4 * s .back ≤ s .off) × (s .off + 4 * s .forth + 4 < 2 ^ 64) × (natAbs dx ≤ 2) × (natAbs dy ≤ 2) ⌝ }
+    ensures { λ r. ⌜ r ≡ standAt s (up (pos 2 +ℤ dx)) (up (pos 2 +ℤ dy)) ⌝ }
 {
-    behind(dy) * s + behind(dx)
+    stand_at(s, ahead(dx), ahead(dy))
+}
+
+pub fn second_place(s: Stand, dx: i32, dy: i32) -> Stand
+    requires { ⌜ (4 * s .back ≤ s .off) × (s .off + 4 * s .forth + 4 < 2 ^ 64) × (natAbs dx ≤ 2) × (natAbs dy ≤ 2) ⌝ }
+    ensures { λ r. ⌜ r ≡ standAt s (up (pos 2 -ℤ dx)) (up (pos 2 -ℤ dy)) ⌝ }
+{
+    stand_at(s, behind(dx), behind(dy))
 }
 
 // dx and dy are both 0.

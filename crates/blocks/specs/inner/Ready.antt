@@ -129,19 +129,19 @@ pub record DepthRange (depth : ℕ) : Type 0 where
   pub least : 8 ≤ depth
   pub most : depth ≤ 12
 
--- two blocks of w columns and h rows, from place o0 of l0 places and from place o1 of l1 places on
-pub record Blocks (l0 o0 s0 l1 o1 s1 w h : ℕ) : Type 0 where
+-- two blocks of w columns and h rows, in l0 places and in l1 places
+pub record Blocks (l0 : ℕ) (s0 : Stand) (l1 : ℕ) (s1 : Stand) (w h : ℕ) : Type 0 where
   pub w68 : w ≤ 68
   pub h1 : 1 ≤ h
   pub h68 : h ≤ 68
-  pub first : o0 + (h - 1) * s0 + w ≤ l0
-  pub second : o1 + (h - 1) * s1 + w ≤ l1
+  pub first : Stood l0 s0 w h
+  pub second : Stood l1 s1 w h
 
 -- two buffers of l0 and l1 places that each hold 8 columns and 8 rows more than a block
-pub record Wider (l0 s0 l1 s1 w h : ℕ) : Type 0 where
+pub record Wider (l0 : ℕ) (s0 : Stand) (l1 : ℕ) (s1 : Stand) (w h : ℕ) : Type 0 where
   pub block : Block w h
-  pub first : Rows l0 s0 (w + 8) (h + 8)
-  pub second : Rows l1 s1 (w + 8) (h + 8)
+  pub first : Stood l0 s0 (w + 8) (h + 8)
+  pub second : Stood l1 s1 (w + 8) (h + 8)
 
 -- an 8-tap block's source, whose first pixel is at place o: the place of each tap is in it, and the filters are in their tables
 pub record Taps (sl o s w h : ℕ) (mx my filterType : ℤ) (tl el : ℕ) : Type 0 where

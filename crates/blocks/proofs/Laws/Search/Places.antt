@@ -16,7 +16,7 @@ use Rattle.blocks.specs.Refuse.{holds}
 use Rattle.blocks.specs.Search.{sadsTests, sadTests, refineTests}
 use Rattle.blocks.proofs.Laws.Calls.Given.{met}
 use Rattle.blocks.proofs.Laws.Loops.Places.{AllHeld, holds-all, all-holds, inside-any}
-use Rattle.blocks.proofs.Laws.Search.Ready.{ahead-start, behind-start}
+use Rattle.blocks.proofs.Laws.Search.Ready.{Agree, sad-same, ahead-start, behind-start}
 
 module _ (m : ℕ) (deep : Bool) (l0 s0 l1 s1 w h : ℕ) where
   pub sads-inside : met 5 (sadsTests m deep l0 s0 l1 s1 w h) ≡ true → AllHeld l0 s0 (w + m) (h + m) × AllHeld l1 s1 (w + m) (h + m)
@@ -46,23 +46,7 @@ module _ (deep : Bool) (l0 s0 l1 s1 w h : ℕ) where
   pub inside-refine : 1 ≤ w → 1 ≤ h → AllHeld l0 s0 (w + 8) (h + 8) → AllHeld l1 s1 (w + 8) (h + 8) → met 5 (refineTests deep l0 s0 l1 s1 w h) ≡ true
   inside-refine w1 h1 f g = inside-sads 8 deep l0 s0 l1 s1 w h w1 h1 f g
 
--- ---- the rules read no other: blocks that agree for columns below w and rows below h give the same
-abbrev Agree : (w h : ℕ) (p q : ℕ → ℕ → ℕ) → Type 0
-Agree w h p q = (i j : ℕ) → i < w → j < h → p i j ≡ q i j
-
-sum-same : (n : ℕ) (f g : ℕ → ℕ) → ((t : ℕ) → t < n → f t ≡ g t) → sum n f ≡ sum n g
-unfolding sum
-sum-same zero f g e = refl
-sum-same (suc n) f g e = ap₂ (λ (a b : ℕ). a + b) (sum-same n f g (λ t b. e t (omega arith))) (e n (omega arith))
-
-sad-same : (depth : ℕ) (p p′ q q′ : ℕ → ℕ → ℕ) (w h : ℕ) → Agree w h p p′ → Agree w h q q′ → sad depth p q w h ≡ sad depth p′ q′ w h
-unfolding sad rowApart
-sad-same depth p p′ q q′ w h e f =
-    ap (λ (n : ℕ). n / 2 ^ (depth - 8))
-    (sum-same ((h + 1) / 2) _ _ λ r b.
-    sum-same w _ _ λ i c. ap₂ (λ (u v : ℕ). apart (pos u) (pos v)) (e i (2 * r) c (omega arith)) (f i (2 * r) c (omega arith)))
-
--- ---- the search: offsets of -2 to 2
+-- ---- the rules read no other. The search: offsets of -2 to 2
 abbrev Near : Offset → Type 0
 Near o = (natAbs (o .dx) ≤ 2) × (natAbs (o .dy) ≤ 2)
 

@@ -1,9 +1,8 @@
 -- `sad_nxn` and `sad_refine_mv`: what their numbers give, sums, and the search. Assumes nothing.
-use Rattle.blocks.proofs.Usual.{true, Bool, false, _&&_, List, [], _∷_, _≡_, _∙_, refl, sym, ap, ap₂, ℕ, _≤_, _*_, _+_, _-_, _<_, _^_, _/_}
-use Rattle.blocks.proofs.Usual.{mul-le-mul-right, add-mul, arith, le-ltb, eqb-true, lt-ltb, ne-eqb, ltb, eqb, pos, ℤ, negsuc, natAbs, _+ℤ_, _-ℤ_, getD}
+use Rattle.blocks.proofs.Usual.{true, Bool, false, _&&_, List, [], _∷_, _≡_, _∙_, refl, sym, ap, ap₂, ℕ, _≤_, _*_, _+_, _-_, _<_, _^_, _/_, suc, zero}
+use Rattle.blocks.proofs.Usual.{mul-le-mul-right, add-mul, arith, le-ltb, eqb-true, lt-ltb, ne-eqb, ltb, eqb, pos, ℤ, negsuc, natAbs, _+ℤ_, _-ℤ_, length, getD}
 use Rattle.blocks.proofs.Usual.{w32, w64, SFits, toZ, ofZ, up, dn, px, pixel, lowest, orSame, Rows, Block, back, backn, fit-abs, one-part, add-parts}
 use Rattle.blocks.proofs.Usual.{sub-parts, rows-met, block-met, done, all-met}
-use mathlib.Core.Path.{fun-ext}
 use native.Mathlib.Nat.{add-zero, le-trans, div-le-self}
 use borrow.Author.Tests.{eqb-false, eq-eqb}
 use lib.Dec.{T}
@@ -11,12 +10,15 @@ use lib.Signed.{nonNeg}
 use mir.Val.{Fits}
 use Rattle.rows.specs.Numbers.{apart, sum}
 use Rattle.rows.specs.Places.{pick}
-use Rattle.rows.specs.Search.{rowApart, sad, moved, sadAt, Offset, Best, none, best, better, visit, through, steps, search, answer, centre, refine}
+use Rattle.rows.specs.Search.{rowApart, sad, sadAt, Offset, Best, none, best, better, visit, through, steps, search, answer, centre, refine}
 use Rattle.rows.proofs.Laws.Numbers.Signed.{abs-parts, nonNeg-of}
 use Rattle.blocks.specs.inner.Ready.{Blocks, Wider}
 use Rattle.blocks.specs.declared.search.Best as code
 use Rattle.blocks.specs.Search.{sadsTests, refineTests, RefineAnswer}
-use Rattle.blocks.specs.inner.Search.{bestOf}
+use Rattle.blocks.specs.inner.Search.{bestOf, standAt}
+use Rattle.blocks.specs.inner.Source.{topDown, rowFirst, pixelIn, Stood}
+use Rattle.blocks.proofs.Laws.Loops.Stands.{StoodRow, stood-row, stood-rows, pixels-down}
+use Rattle.blocks.specs.declared.source.Stand.{Stand}
 
 -- ---- what the rows rely on
 pub sads-ready : (m : ℕ) {deep : Bool} {l0 s0 l1 s1 w h : ℕ} → lowest (sadsTests m deep l0 s0 l1 s1 w h) ≡ 0
@@ -28,20 +30,30 @@ sads-ready m {deep} {l0} {s0} {l1} {s1} {w} {h} e =
     (block-met w h (t .0) (t .1 .0), rows-met l0 s0 (w + m) (h + m) (r .0) (b .0), rows-met l1 s1 (w + m) (h + m) (r .1 .0) (b .1 .0), r .1 .1 .0)
 
 -- row y of both blocks is within its buffer
-pub rows-of : {l0 o0 s0 l1 o1 s1 w h : ℕ} (y : ℕ) → Blocks l0 o0 s0 l1 o1 s1 w h → y < h → (o0 + y * s0 + w ≤ l0) × (o1 + y * s1 + w ≤ l1)
-rows-of {s0} {s1} {h} y b lt =
-    let e : y ≤ h - 1 = omega arith in
-    (omega (arith, b, mul-le-mul-right {m = y} {n = h - 1} s0 e), omega (arith, b, mul-le-mul-right {m = y} {n = h - 1} s1 e))
+pub rows-of : {l0 : ℕ} {s0 : Stand} {l1 : ℕ} {s1 : Stand} {w h : ℕ} (y : ℕ) → Blocks l0 s0 l1 s1 w h → y < h → StoodRow l0 s0 w y × StoodRow l1 s1 w y
+rows-of y b lt = (stood-row y (b .first) lt, stood-row y (b .second) lt)
 
 -- ---- sums
--- the block from place o on, as column i of row j
-abbrev pub from : List ℕ → (o s : ℕ) → ℕ → ℕ → ℕ
-from l o s i j = getD l (o + j * s + i) 0
-
-pub row-apart : (p : List ℕ) (o s : ℕ) (q : List ℕ) (o′ s′ w y : ℕ) {n : ℕ} → n ≡ sum w (λ i. apart (px p (o + y * s + i)) (px q (o′ + y * s′ + i)))
-    → n ≡ rowApart (from p o s) (from q o′ s′) w y
+pub row-apart : (p : List ℕ) (s : Stand) (q : List ℕ) (s′ : Stand) (w y : ℕ) {o o′ n : ℕ} → o ≡ rowFirst s y → o′ ≡ rowFirst s′ y
+    → n ≡ sum w (λ i. apart (px p (o + i)) (px q (o′ + i))) → n ≡ rowApart (pixelIn p s) (pixelIn q s′) w y
 unfolding rowApart
-row-apart p o s q o′ s′ w y e = e
+row-apart p s q s′ w y a b e = e ∙ ap₂ (λ (m k : ℕ). sum w (λ i. apart (px p (m + i)) (px q (k + i)))) a b
+
+-- blocks that agree for columns below w and rows below h give the same
+abbrev pub Agree : (w h : ℕ) (p q : ℕ → ℕ → ℕ) → Type 0
+Agree w h p q = (i j : ℕ) → i < w → j < h → p i j ≡ q i j
+
+sum-same : (n : ℕ) (f g : ℕ → ℕ) → ((t : ℕ) → t < n → f t ≡ g t) → sum n f ≡ sum n g
+unfolding sum
+sum-same zero f g e = refl
+sum-same (suc n) f g e = ap₂ (λ (a b : ℕ). a + b) (sum-same n f g (λ t b. e t (omega arith))) (e n (omega arith))
+
+pub sad-same : (depth : ℕ) (p p′ q q′ : ℕ → ℕ → ℕ) (w h : ℕ) → Agree w h p p′ → Agree w h q q′ → sad depth p q w h ≡ sad depth p′ q′ w h
+unfolding sad rowApart
+sad-same depth p p′ q q′ w h e f =
+    ap (λ (n : ℕ). n / 2 ^ (depth - 8))
+    (sum-same ((h + 1) / 2) _ _ λ r b.
+    sum-same w _ _ λ i c. ap₂ (λ (u v : ℕ). apart (pos u) (pos v)) (e i (2 * r) c (omega arith)) (f i (2 * r) c (omega arith)))
 
 -- sums are shifted right by depth - 8, which is nothing for bytes
 pub sad-shifted : (depth : ℕ) (p q : ℕ → ℕ → ℕ) (w h : ℕ) {n : ℕ} → (n ≡ sum ((h + 1) / 2) (λ r. rowApart p q w (2 * r))) × (n ≤ 2 ^ 28)
@@ -49,25 +61,18 @@ pub sad-shifted : (depth : ℕ) (p q : ℕ → ℕ → ℕ) (w h : ℕ) {n : ℕ
 unfolding sad
 sad-shifted depth p q w h {n} e = (ap (λ (m : ℕ). m / 2 ^ (depth - 8)) (e .0), le-trans (div-le-self n (2 ^ (depth - 8))) (e .1))
 
--- from the first place on, or from column x of row y on, of a plane of rows
-pub from-first : (l : List ℕ) (s : ℕ) → from l 0 s ≡ pixel l s
-from-first l s = fun-ext λ i. fun-ext λ j. ap (λ (k : ℕ). getD l k 0) (omega arith)
-
-pub from-moved : (l : List ℕ) (s : ℕ) (x y : ℤ) → from l (up y * s + up x) s ≡ moved (pixel l s) x y
-from-moved l s x y = fun-ext λ i. fun-ext λ j. ap (λ (k : ℕ). getD l k 0) (rw (add-mul (up y) j s) (omega arith))
-
 -- `sad_nxn`: its blocks, and its sum as it is handed back
-pub sad-blocks : {l0 s0 l1 s1 w h : ℕ} → Block w h → Rows l0 s0 (w + 0) (h + 0) → Rows l1 s1 (w + 0) (h + 0) → Blocks l0 0 s0 l1 0 s1 w h
+pub sad-blocks : {l0 s0 l1 s1 w h : ℕ} → Block w h → Rows l0 s0 (w + 0) (h + 0) → Rows l1 s1 (w + 0) (h + 0) → Blocks l0 (topDown 0 s0) l1 (topDown 0 s1) w h
 sad-blocks {l0} {s0} {l1} {s1} {w} {h} b r t =
     let p : Rows l0 s0 w h = rw (add-zero w, add-zero h) at r in
     let q : Rows l1 s1 w h = rw (add-zero w, add-zero h) at t in
-    record { w68 = omega (arith, b); h1 = b .h1; h68 = omega (arith, b); first = omega (arith, p); second = omega (arith, q) }
+    record { w68 = omega (arith, b); h1 = b .h1; h68 = omega (arith, b); first = stood-rows p; second = stood-rows q }
 
 pub sad-done : (depth : ℕ) (p : List ℕ) (s : ℕ) (q : List ℕ) (s′ w h : ℕ) {number n : ℕ} → number ≡ 0
-    → (n ≡ sad depth (from p 0 s) (from q 0 s′) w h) × (n ≤ 2 ^ 28) → toZ w32 n ≡ orSame number (pos (sad depth (pixel p s) (pixel q s′) w h)) (pos 0)
+    → (n ≡ sad depth (pixelIn p (topDown 0 s)) (pixelIn q (topDown 0 s′)) w h) × (n ≤ 2 ^ 28) → toZ w32 n ≡ orSame number (pos (sad depth (pixel p s) (pixel q s′) w h)) (pos 0)
 sad-done depth p s q s′ w h {number} {n} z e =
     backn w32 n (omega (arith, e .1))
-    ∙ ap pos (e .0 ∙ ap₂ (λ (a b : ℕ → ℕ → ℕ). sad depth a b w h) (from-first p s) (from-first q s′))
+    ∙ ap pos (e .0 ∙ ap₂ (λ (a b : ℕ → ℕ → ℕ). sad depth a b w h) (pixels-down (λ x. x) p s) (pixels-down (λ x. x) q s′))
     ∙ sym (done _ _ _ z)
 
 -- ---- offsets
@@ -97,36 +102,52 @@ start-cast {z} s = rw (back (s .fits)) (nonNeg-of z (s .from0), omega (arith, s,
 pub start-is : {z : ℤ} → Start z → (natAbs (toZ w32 (ofZ w32 z)) ≡ up z) × (natAbs (toZ w32 (ofZ w32 z)) ≤ 4)
 start-is {z} s = rw (back (s .fits)) (omega (arith, s, abs-parts z))
 
-pub start-place : {a b s : ℕ} → a ≤ 4 → b ≤ 4 → s ≤ 32768 → a * s + b ≤ 4 * 32768 + 4
-start-place {a} {b} {s} p q r = omega (arith, mul-le-mul-right {m = a} {n = 4} s p)
+pub start-place : (s : Stand) {x y : ℕ} → x ≤ 4 → y ≤ 4 → (4 * s .back ≤ s .off) × (s .off + 4 * s .forth + 4 < 2 ^ 64)
+    → (y * s .back ≤ s .off) × (s .off + y * s .forth + x < 2 ^ 64)
+start-place s {x} {y} p q r =
+    (omega (arith, r .0, mul-le-mul-right {m = y} {n = 4} (s .back) q), omega (arith, r .1, mul-le-mul-right {m = y} {n = 4} (s .forth) q))
 
--- a block of 4 columns and 4 rows more, from column x of row y on
-part-in : (l s w h x y : ℕ) → Rows l s (w + 8) (h + 8) → x ≤ 4 → y ≤ 4 → y * s + x + (h + 4 - 1) * s + (w + 4) ≤ l
-part-in l s w h x y r a b =
-    let k : (y + (h + 4 - 1)) * s ≤ (h + 8 - 1) * s = mul-le-mul-right s (omega arith) in
-    let e : y * s + (h + 4 - 1) * s ≤ (h + 8 - 1) * s = rw (add-mul y (h + 4 - 1) s) at k in
-    omega (arith, r)
+-- of a buffer with 8 columns and 8 rows more than a block: the rows with which a block begins there
+pub starts-in : {l : ℕ} {s : Stand} (w h : ℕ) → Stood l s (w + 8) (h + 8) → (4 * s .back ≤ s .off) × (s .off + 4 * s .forth + 4 ≤ l)
+starts-in w h r = let t = stood-row 4 r (omega arith) in (t .before, omega (arith, t))
 
-pub offset-blocks : {l0 s0 l1 s1 w h o0 o1 : ℕ} (dx dy : ℤ) → Wider l0 s0 l1 s1 w h → natAbs dx ≤ 2 → natAbs dy ≤ 2
-    → o0 ≡ up (pos 2 +ℤ dy) * s0 + up (pos 2 +ℤ dx) → o1 ≡ up (pos 2 -ℤ dy) * s1 + up (pos 2 -ℤ dx) → Blocks l0 o0 s0 l1 o1 s1 (w + 4) (h + 4)
-offset-blocks {l0} {s0} {l1} {s1} {w} {h} dx dy k a b p q =
+-- and a block of 4 columns and 4 rows more, from column x of row y on
+part-in : {l : ℕ} {s : Stand} (w h x y : ℕ) → Stood l s (w + 8) (h + 8) → x ≤ 4 → y ≤ 4 → Stood l (standAt s x y) (w + 4) (h + 4)
+unfolding rowFirst
+part-in {l} {s} w h x y r a b =
+    let t = stood-row (y + (h + 4 - 1)) r (omega arith) in
+    let back = add-mul y (h + 4 - 1) (s .back) in
+    let forth = add-mul y (h + 4 - 1) (s .forth) in
+    record { forth = r .forth; back = r .back; before = omega (arith, t .before, back); after = omega (arith, t .after, forth) }
+
+part-is : (p : List ℕ) {l : ℕ} {s : Stand} (w h x y : ℕ) → Stood l s (w + 8) (h + 8) → y ≤ 4
+    → Agree (w + 4) (h + 4) (pixelIn p (standAt s x y)) (λ i j. pixelIn p s (x + i) (y + j))
+unfolding rowFirst
+part-is p {s = s} w h x y r b i j wi hj =
+    let t = stood-row (y + j) r (omega arith) in
+    ap (λ (k : ℕ). getD p k 0) (omega (arith, t .before, add-mul y j (s .back), add-mul y j (s .forth)))
+
+pub offset-blocks : {l0 : ℕ} {s0 : Stand} {l1 : ℕ} {s1 : Stand} {w h : ℕ} {t0 t1 : Stand} (dx dy : ℤ) → Wider l0 s0 l1 s1 w h → natAbs dx ≤ 2 → natAbs dy ≤ 2
+    → t0 ≡ standAt s0 (up (pos 2 +ℤ dx)) (up (pos 2 +ℤ dy)) → t1 ≡ standAt s1 (up (pos 2 -ℤ dx)) (up (pos 2 -ℤ dy)) → Blocks l0 t0 l1 t1 (w + 4) (h + 4)
+offset-blocks {w = w} {h = h} dx dy k a b p q =
     record {
       w68 = omega (arith, k .block);
       h1 = omega arith;
       h68 = omega (arith, k .block);
-      first = rw p (part-in l0 s0 w h _ _ (k .first) (ahead-start dx a .to4) (ahead-start dy b .to4));
-      second = rw q (part-in l1 s1 w h _ _ (k .second) (behind-start dx a .to4) (behind-start dy b .to4));
+      first = rw p (part-in w h _ _ (k .first) (ahead-start dx a .to4) (ahead-start dy b .to4));
+      second = rw q (part-in w h _ _ (k .second) (behind-start dx a .to4) (behind-start dy b .to4));
     }
 
 -- the sum at an offset
-pub offset-sad : (depth : ℕ) (p : List ℕ) (s : ℕ) (q : List ℕ) (s′ w h : ℕ) (dx dy : ℤ) {o o′ n : ℕ}
-    → o ≡ up (pos 2 +ℤ dy) * s + up (pos 2 +ℤ dx) → o′ ≡ up (pos 2 -ℤ dy) * s′ + up (pos 2 -ℤ dx)
-    → n ≡ sad depth (from p o s) (from q o′ s′) (w + 4) (h + 4) → n ≡ sadAt depth (pixel p s) (pixel q s′) w h (record { dx = dx; dy = dy })
+pub offset-sad : (depth : ℕ) (p : List ℕ) (s : Stand) (q : List ℕ) (s′ : Stand) (w h : ℕ) (dx dy : ℤ) {t t′ : Stand} {n : ℕ}
+    → Wider (length p) s (length q) s′ w h → natAbs dx ≤ 2 → natAbs dy ≤ 2
+    → t ≡ standAt s (up (pos 2 +ℤ dx)) (up (pos 2 +ℤ dy)) → t′ ≡ standAt s′ (up (pos 2 -ℤ dx)) (up (pos 2 -ℤ dy))
+    → n ≡ sad depth (pixelIn p t) (pixelIn q t′) (w + 4) (h + 4) → n ≡ sadAt depth (pixelIn p s) (pixelIn q s′) w h (record { dx = dx; dy = dy })
 unfolding sadAt
-offset-sad depth p s q s′ w h dx dy a b e =
+offset-sad depth p s q s′ w h dx dy k x y a b e =
     e
-    ∙ ap₂ (λ (m k : ℕ). sad depth (from p m s) (from q k s′) (w + 4) (h + 4)) a b
-    ∙ ap₂ (λ (f g : ℕ → ℕ → ℕ). sad depth f g (w + 4) (h + 4)) (from-moved p s (pos 2 +ℤ dx) (pos 2 +ℤ dy)) (from-moved q s′ (pos 2 -ℤ dx) (pos 2 -ℤ dy))
+    ∙ ap₂ (λ (m n : Stand). sad depth (pixelIn p m) (pixelIn q n) (w + 4) (h + 4)) a b
+    ∙ sad-same depth _ _ _ _ (w + 4) (h + 4) (part-is p w h _ _ (k .first) (ahead-start dy y .to4)) (part-is q w h _ _ (k .second) (behind-start dy y .to4))
 
 zero-bits : {z : ℤ} → SFits w32 z → ofZ w32 z ≡ 0 → natAbs z ≡ 0
 zero-bits f h = ap natAbs (sym (back f) ∙ ap (toZ w32) h)
@@ -206,9 +227,14 @@ module _ (depth : ℕ) (p q : ℕ → ℕ → ℕ) (w h : ℕ) where
     refine-searched t g = rw (rw kept-is at t) (ap answer (rw kept-is at g))
 
 -- ---- what the rows of `sad_refine_mv` rely on, and its answer as it is handed back
-pub refine-ready : (deep : Bool) {l0 s0 l1 s1 w h : ℕ} → lowest (refineTests deep l0 s0 l1 s1 w h) ≡ 0 → Wider l0 s0 l1 s1 w h
+pub refine-ready : (deep : Bool) {l0 s0 l1 s1 w h : ℕ} → lowest (refineTests deep l0 s0 l1 s1 w h) ≡ 0 → Wider l0 (topDown 0 s0) l1 (topDown 0 s1) w h
 refine-ready deep {l0} {s0} {l1} {s1} {w} {h} e =
-    let r = sads-ready 8 e in record { block = r .0; first = r .1; second = r .2 }
+    let r = sads-ready 8 e in record { block = r .0; first = stood-rows (r .1); second = stood-rows (r .2) }
+
+pub refine-down : (depth : ℕ) (isImplicit : Bool) (p : List ℕ) (s : ℕ) (q : List ℕ) (s′ w h : ℕ) {o : Offset}
+    → o ≡ refine depth isImplicit (pixelIn p (topDown 0 s)) (pixelIn q (topDown 0 s′)) w h → o ≡ refine depth isImplicit (pixel p s) (pixel q s′) w h
+refine-down depth isImplicit p s q s′ w h e =
+    e ∙ ap₂ (λ (a b : ℕ → ℕ → ℕ). refine depth isImplicit a b w h) (pixels-down (λ x. x) p s) (pixels-down (λ x. x) q s′)
 
 pub refine-done : {number : ℕ} {x y : ℤ} {o : Offset} → number ≡ 0 → SFits w32 x → SFits w32 y → record { dx = x; dy = y } ≡ o
     → record { dx = toZ w32 (ofZ w32 x); dy = toZ w32 (ofZ w32 y) } ≡ orSame number o centre

@@ -1,11 +1,12 @@
 -- Made from crates/blocks/proofs/words/search/visit/Proof.antt by tools/sets: change that.
-use Rattle.blocks.proofs.Usual.{_≡_, _∙_, sym, ℕ, _+_, needs, eqb, natAbs, pixel, back}
+use Rattle.blocks.proofs.Usual.{_≡_, _∙_, sym, ℕ, _+_, needs, eqb, natAbs, back}
 use Rattle.rows.specs.Search.{Offset, sadAt}
+use Rattle.blocks.specs.inner.Source.{pixelIn}
 use Rattle.blocks.proofs.Laws.Search.Ready.{visit-centre, visit-other}
 use Rattle.blocks.proofs.bytes.search.visit.Tie as tie
 
 abbrev sums : tie.Start → Offset → ℕ
-sums s = let a = s .args in sadAt (a .n .depth) (pixel (a .p0 .now) (a .n .s0)) (pixel (a .p1 .now) (a .n .s1)) (a .n .w) (a .n .h)
+sums s = let a = s .args in sadAt (a .n .depth) (pixelIn (a .p0 .now) (a .n .s0)) (pixelIn (a .p1 .now) (a .n .s1)) (a .n .w) (a .n .h)
 
 centre : (c : tie.After-is-centre) → let a = c .before .before .before .args in c .is-centre .result ≡ eqb (natAbs (a .dx) + natAbs (a .dy)) 0
 centre c = let s = c .before .before .before in rw (back (s .fits .dx), back (s .fits .dy)) at (c .is-centre .ensures)

@@ -1,11 +1,12 @@
 -- Made from crates/blocks/proofs/words/search/visit_row/Proof.antt by tools/sets: change that.
-use Rattle.blocks.proofs.Usual.{ℕ, needs, w32, toZ, ofZ, pixel, back}
+use Rattle.blocks.proofs.Usual.{ℕ, needs, w32, toZ, ofZ, back}
 use Rattle.rows.specs.Search.{Offset, sadAt, visit}
+use Rattle.blocks.specs.inner.Source.{pixelIn}
 use Rattle.blocks.proofs.Laws.Search.Ready.{five}
 use Rattle.blocks.proofs.bytes.search.visit_row.Tie as tie
 
 abbrev sums : tie.Start → Offset → ℕ
-sums s = let a = s .args in sadAt (a .n .depth) (pixel (a .p0 .now) (a .n .s0)) (pixel (a .p1 .now) (a .n .s1)) (a .n .w) (a .n .h)
+sums s = let a = s .args in sadAt (a .n .depth) (pixelIn (a .p0 .now) (a .n .s0)) (pixelIn (a .p1 .now) (a .n .s1)) (a .n .w) (a .n .h)
 
 returns : tie.Need-returns
 returns c =

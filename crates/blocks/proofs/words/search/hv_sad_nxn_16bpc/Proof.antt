@@ -8,16 +8,17 @@ entry c = c .before .before .before .before .before
 
 sad-sum-requires : tie.Need-sad-sum-requires
 sad-sum-requires c κs =
-    let t = c .before in let k = t .before in let d = back (entry t .fits .depth) in
+    let b = c .before in let a = b .before in let t = a .before in let k = t .before in
     let r = sads-ready 0 (sym (k .check-sads .ensures) ∙ t .if1 .taken) in
-    (sad-blocks (r .0) (r .1) (r .2), rw (c .up32 .ensures) (depth-range _ (sym (k .before .depth-ok .ensures) ∙ r .3)))
+    (rw (a .top-down .ensures, b .top-down2 .ensures) (sad-blocks (r .0) (r .1) (r .2)), rw (c .up32 .ensures) (depth-range _ (sym (k .before .depth-ok .ensures) ∙ r .3)))
 
 returns : tie.Need-returns
 returns c =
-    let t = c .before .before in let k = t .before in let s = entry t in let a = s .args in let d = back (s .fits .depth) in (
+    let u = c .before in let v = u .before in let f = v .before in let t = f .before in let k = t .before in let s = entry t in let a = s .args in
+    let d = back (s .fits .depth) in (
       rw (k .before .depth-ok .ensures, d) at (k .check-sads .ensures),
-      rw (c .before .up32 .ensures, d) at (sad-done (c .before .up32 .result) (a .p0 .now) (a .p0-stride) (a .p1 .now) (a .p1-stride) (a .w) (a .h)
-          (t .if1 .taken) (c .sad-sum .ensures)),
+      rw (u .up32 .ensures, d) at (sad-done (u .up32 .result) (a .p0 .now) (a .p0-stride) (a .p1 .now) (a .p1-stride) (a .w) (a .h)
+          (t .if1 .taken) (rw (f .top-down .ensures, v .top-down2 .ensures) at (c .sad-sum .ensures))),
     )
 
 returns-2 : tie.Need-returns-2
@@ -27,5 +28,6 @@ returns-2 c =
 
 pub hv-sad-nxn-16bpc-spec : {M : Type 1} → Rattle.blocks.proofs.words.search.hv_sad_nxn_16bpc.Statement.statement M
 hv-sad-nxn-16bpc-spec = tie.close (tie.spec
-    (λ c κs. search needs) (λ c κs. search needs) (λ c κs. search needs) sad-sum-requires  -- depth-ok, check-sads, above
+    (λ c κs. search needs) (λ c κs. search needs) (λ c κs. search needs) (λ c κs. search needs) (λ c κs. search needs)  -- depth-ok, check-sads, top-down, above
+    sad-sum-requires
     (λ c. search needs) returns returns-2)  -- cast-sum
