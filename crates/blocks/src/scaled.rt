@@ -15,6 +15,7 @@ use crate::refuse::needed;
 use crate::refuse::reads_around;
 use crate::refuse::sizes;
 use crate::refuse::stride;
+use crate::source::Stand;
 use rows::bilinear::mid_bilin_prep_row;
 use rows::subpel::Way;
 use rows::subpel::eight;
@@ -138,11 +139,9 @@ pub fn check_scaled(
     needed(reads, 5, held(l.dl, l.dst_stride, w, h, 6, 0))
 }
 
-// How the rows of a scaled block are made: where the first of them begins and their stride, the positions of columns and rows, the families of their filters,
-// and B.
+// How the rows of a scaled block are made: where those of the source stand, the positions of columns and rows, the families of their filters, and B.
 pub struct ScaledPlan {
-    pub start: usize,
-    pub stride: usize,
+    pub stand: Stand,
     pub mx: usize,
     pub my: usize,
     pub dx: usize,
@@ -161,15 +160,14 @@ fn family_of(filter_type: i32, side: usize) -> usize
 }
 
 pub fn scaled_plan(
-    start: usize,
-    stride: usize,
+    stand: Stand,
     m: ScaledMotion,
     filter_type: i32,
     w: usize,
     h: usize,
     bits: u32,
 ) -> ScaledPlan
-    ensures { λ r. ⌜ r ≡ scaledPlan start stride (m .mx) (m .my) (m .dx) (m .dy) «filter_type» w h bits ⌝ }
+    ensures { λ r. ⌜ r ≡ scaledPlan stand (m .mx) (m .my) (m .dx) (m .dy) «filter_type» w h bits ⌝ }
 {
     let mx = up32(m.mx) as usize;
     let my = up32(m.my) as usize;
@@ -178,8 +176,7 @@ pub fn scaled_plan(
     let wide = family_of(filter_type, w);
     let high = family_of(filter_type, h);
     ScaledPlan {
-        start,
-        stride,
+        stand,
         mx,
         my,
         dx,

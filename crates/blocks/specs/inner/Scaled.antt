@@ -14,14 +14,15 @@ use Rattle.rows.specs.inner.Bilinear.{bilinAt}
 use Rattle.rows.specs.Scaled.{position, pixelOf, sixteenth, inFamily, scaledMid}
 use Rattle.rows.specs.inner.Scaled.{eightAt, Fetched, Steps}
 use Rattle.blocks.specs.Refuse.{size, stride, table}
+use Rattle.blocks.specs.inner.Source.{rowFirst, Stood}
 use Rattle.blocks.specs.declared.scaled.ScaledPlan.{ScaledPlan}
+use Rattle.blocks.specs.declared.source.Stand.{Stand}
 
--- a plan's numbers: where its first row begins, its stride, its positions, the families of its width and height, and B
-unfoldable pub scaledPlan : (start apart : ℕ) (mx my dx dy filterType : ℤ) (w h B : ℕ) → ScaledPlan
-scaledPlan start apart mx my dx dy filterType w h B =
+-- a plan's numbers: where the source's rows stand, its positions, the families of its width and height, and B
+unfoldable pub scaledPlan : Stand → (mx my dx dy filterType : ℤ) (w h B : ℕ) → ScaledPlan
+scaledPlan s mx my dx dy filterType w h B =
     record {
-      start = start;
-      stride = apart;
+      stand = s;
       mx = up mx;
       my = up my;
       dx = up dx;
@@ -35,14 +36,14 @@ scaledPlan start apart mx my dx dy filterType w h B =
 unfoldable pub lineOf : List ℕ → List ℤ → ScaledPlan → ℕ → ℕ → ℤ
 lineOf src subpel p k i =
     scaledMid (p .bits) (inFamily subpel (p .wide) (sixteenth (position (p .mx) (p .dx) i)))
-    (eightAt (λ q. getD src q 0) (p .start + k * p .stride) (position (p .mx) (p .dx) i))
+    (eightAt (λ q. getD src q 0) (rowFirst (p .stand) k) (position (p .mx) (p .dx) i))
 
 -- and by bilinear
 unfoldable pub pairLineOf : List ℕ → ScaledPlan → ℕ → ℕ → ℤ
 pairLineOf src p k i =
     low16
     (R (4 - p .bits)
-    (bilinAt (px src) (p .start + k * p .stride + pixelOf (position (p .mx) (p .dx) i)) 1 (sixteenth (position (p .mx) (p .dx) i))))
+    (bilinAt (px src) (rowFirst (p .stand) k + pixelOf (position (p .mx) (p .dx) i)) 1 (sixteenth (position (p .mx) (p .dx) i))))
 
 -- "Keep the last eight filtered rows in a record with their order", 64 places each: after n rows, row k stands at k % 8, its column i at place
 -- 64 (k % 8) + i, and the order lists where the last eight stand, from the oldest to the newest
@@ -72,7 +73,8 @@ pub record Filtered (sl tl : ℕ) (p : ScaledPlan) (w n : ℕ) : Type 0 where
   pub wide : p .wide ≤ 4
   pub high : p .high ≤ 4
   pub table : tl ≡ 600
-  pub fetched : (k i : ℕ) → k < n → i < w → Fetched sl (p .start + k * p .stride) (position (p .mx) (p .dx) i)
+  pub rows : Stood sl (p .stand) 1 n
+  pub fetched : (k i : ℕ) → k < n → i < w → Fetched sl (rowFirst (p .stand) k) (position (p .mx) (p .dx) i)
 
 pub record Paired (sl : ℕ) (p : ScaledPlan) (w n : ℕ) : Type 0 where
   pub w1 : 1 ≤ w
@@ -80,4 +82,5 @@ pub record Paired (sl : ℕ) (p : ScaledPlan) (w n : ℕ) : Type 0 where
   pub across : Steps (p .mx) (p .dx)
   pub down : Steps (p .my) (p .dy)
   pub even : p .bits % 2 ≡ 0
-  pub fetched : (k i : ℕ) → k < n → i < w → p .start + k * p .stride + pixelOf (position (p .mx) (p .dx) i) + 1 < sl
+  pub rows : Stood sl (p .stand) 1 n
+  pub fetched : (k i : ℕ) → k < n → i < w → rowFirst (p .stand) k + pixelOf (position (p .mx) (p .dx) i) + 1 < sl

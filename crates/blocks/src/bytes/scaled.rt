@@ -28,6 +28,8 @@ use crate::scaled::prep_scaled_line;
 use crate::scaled::scaled_plan;
 use crate::scaled::scaled_type_ok;
 use crate::scaled::turned;
+use crate::source::row_first;
+use crate::source::top_down;
 use rows::bilinear::mid_bilin_prep_row;
 use rows::bytes::bilinear::mid_bilin_row;
 use rows::bytes::pairs::scaled_bilin_row;
@@ -66,7 +68,7 @@ fn next_rows(
     while k < m {
         order = turned(order);
         let q = order[7] * 64;
-        let o = p.start + k * p.stride;
+        let o = row_first(p.stand, k);
         scaled_row(rows, q, w, src, o, subpel, p.wide, by, p.bits);
         k += 1;
     }
@@ -206,14 +208,8 @@ fn next_pairs(
     let mut k = n;
     while k < m {
         let q = k % 2 * 64;
-        scaled_bilin_row(
-            &mut rows[q..q + w],
-            src,
-            p.start + k * p.stride,
-            pixels,
-            fractions,
-            p.bits,
-        );
+        let o = row_first(p.stand, k);
+        scaled_bilin_row(&mut rows[q..q + w], src, o, pixels, fractions, p.bits);
         k += 1;
     }
 }
@@ -325,15 +321,8 @@ pub fn put_8tap_scaled_at(
     );
     if number == 0 {
         let d = depth_numbers(depth);
-        let p = scaled_plan(
-            src_off - 3 * src_stride,
-            src_stride,
-            m,
-            filter_type,
-            w,
-            h,
-            d.bits,
-        );
+        let s = top_down(src_off - 3 * src_stride, src_stride); // from three rows above
+        let p = scaled_plan(s, m, filter_type, w, h, d.bits);
         put_8tap_scaled_rows(dst, dst_stride, src, subpel, p, d.max, w, h);
     }
     number
@@ -378,15 +367,8 @@ pub fn prep_8tap_scaled_at(
     );
     if number == 0 {
         let d = depth_numbers(depth);
-        let p = scaled_plan(
-            src_off - 3 * src_stride,
-            src_stride,
-            m,
-            filter_type,
-            w,
-            h,
-            d.bits,
-        );
+        let s = top_down(src_off - 3 * src_stride, src_stride);
+        let p = scaled_plan(s, m, filter_type, w, h, d.bits);
         prep_8tap_scaled_rows(tmp, tmp_stride, src, subpel, p, d.bias, w, h);
     }
     number
@@ -420,7 +402,8 @@ pub fn put_bilin_scaled_at(
     let number = check_scaled(false, depth_ok(depth), true, true, l, w, h, m);
     if number == 0 {
         let d = depth_numbers(depth);
-        let p = scaled_plan(src_off, src_stride, m, 0, w, h, d.bits);
+        let s = top_down(src_off, src_stride);
+        let p = scaled_plan(s, m, 0, w, h, d.bits);
         put_bilin_scaled_rows(dst, dst_stride, src, p, d.max, w, h);
     }
     number
@@ -454,7 +437,8 @@ pub fn prep_bilin_scaled_at(
     let number = check_scaled(false, depth_ok(depth), true, true, l, w, h, m);
     if number == 0 {
         let d = depth_numbers(depth);
-        let p = scaled_plan(src_off, src_stride, m, 0, w, h, d.bits);
+        let s = top_down(src_off, src_stride);
+        let p = scaled_plan(s, m, 0, w, h, d.bits);
         prep_bilin_scaled_rows(tmp, tmp_stride, src, p, d.bias, w, h);
     }
     number

@@ -42,6 +42,12 @@ stood-part {l} {s} {w} {h} k n r some most =
       after = omega (arith, r, add-mul k (n - 1) (s .back), add-mul k (n - 1) (s .forth));
     }
 
+pub stood-less : {l : ℕ} {s : Stand} {w m h : ℕ} → Stood l s w h → m ≤ h → Stood l s w m
+stood-less {l} {s} {w} {m} {h} r le =
+    let b : (m - 1) * s .back ≤ (h - 1) * s .back = mul-le-mul-right {m = m - 1} {n = h - 1} (s .back) (omega arith) in
+    let f : (m - 1) * s .forth ≤ (h - 1) * s .forth = mul-le-mul-right {m = m - 1} {n = h - 1} (s .forth) (omega arith) in
+    record { forth = r .forth; back = r .back; before = omega (arith, r); after = omega (arith, r) }
+
 -- ---- rows of one stride
 pub first-down : (o s j : ℕ) → rowFirst (topDown o s) j ≡ o + j * s
 unfolding rowFirst

@@ -15,6 +15,7 @@ use Rattle.rows.proofs.Laws.Numbers.Signed.{times-up, times-dn}
 use Rattle.rows.proofs.Laws.Filters.Taps.{tapped-same}
 use Rattle.blocks.specs.inner.Scaled.{Turned, Filtered}
 use Rattle.blocks.specs.declared.scaled.ScaledPlan.{ScaledPlan}
+use Rattle.blocks.proofs.Laws.Loops.Stands.{stood-less}
 use Rattle.blocks.proofs.Laws.Scaled.Rows.{taps-round}
 
 -- ---- at fraction 0 a row is between itself and itself
@@ -207,5 +208,6 @@ filtered-less f h =
       wide = f .wide;
       high = f .high;
       table = f .table;
+      rows = stood-less (f .rows) h;
       fetched = λ k i a b. f .fetched k i (omega arith) b;
     }

@@ -11,6 +11,8 @@ use Rattle.rows.proofs.Laws.Blocks.Places.{row-at, row-length, splice-before, s
 use Rattle.rows.proofs.Laws.Filters.Scaled.{position-lt}
 use Rattle.blocks.specs.declared.scaled.ScaledPlan.{ScaledPlan}
 use Rattle.blocks.specs.inner.Scaled.{LastTwo, Paired, byParity, pairLineOf}
+use Rattle.blocks.specs.inner.Source.{rowFirst}
+use Rattle.blocks.proofs.Laws.Loops.Stands.{stood-less}
 use Rattle.blocks.proofs.Laws.Scaled.Rows.{parity-even, parity-odd}
 
 -- ---- rows come in
@@ -44,13 +46,9 @@ two-more {w} {n} {line} {rows} l w64 len r is =
       },
     )
 
--- the place where row k begins, of n rows
-pub pair-start : {sl w n : ℕ} {p : ScaledPlan} → Paired sl p w n → (k : ℕ) → k < n → p .start + k * p .stride < sl
-pair-start q k b = omega (arith, q .fetched k 0 b (q .w1))
-
 -- row k by the tables of the plan's columns: what it reads, and that it is the plan's
 module _ {sl w m : ℕ} {p : ScaledPlan} {pixels fractions : List ℕ} (q : Paired sl p w m) (t : Tabled pixels fractions w (p .mx) (p .dx)) where
-  pub pairs-fetched : (k n : ℕ) → k < m → n ≤ w → PairsFetched sl (p .start + k * p .stride) pixels fractions n
+  pub pairs-fetched : (k n : ℕ) → k < m → n ≤ w → PairsFetched sl (rowFirst (p .stand) k) pixels fractions n
   pairs-fetched k n b h =
       record {
         held = λ i l. omega (arith, t .pixel i (omega arith), q .fetched k i b (omega arith));
@@ -58,13 +56,13 @@ module _ {sl w m : ℕ} {p : ScaledPlan} {pixels fractions : List ℕ} (q : Pair
       }
 
   pub tabled-line : (src : List ℕ) (k n : ℕ) → n ≤ w
-      → rowOf n (λ i. low16 (R (4 - p .bits) (bilinAt (px src) (p .start + k * p .stride + getD pixels i 0) 1 (getD fractions i 0))))
+      → rowOf n (λ i. low16 (R (4 - p .bits) (bilinAt (px src) (rowFirst (p .stand) k + getD pixels i 0) 1 (getD fractions i 0))))
       ≡ rowOf n (pairLineOf src p k)
   unfolding pairLineOf
   tabled-line src k n h =
       row-same (pos 0) n _ _
       λ i b.
-      ap₂ (λ (c f : ℕ). low16 (R (4 - p .bits) (bilinAt (px src) (p .start + k * p .stride + c) 1 f))) (t .pixel i (omega arith))
+      ap₂ (λ (c f : ℕ). low16 (R (4 - p .bits) (bilinAt (px src) (rowFirst (p .stand) k + c) 1 f))) (t .pixel i (omega arith))
       (t .fraction i (omega arith))
 
 -- ---- the two that position v is between
@@ -116,7 +114,7 @@ position-le start step h = omega (arith, mul-le-mul-right step h)
 
 paired-less : {sl w m n : ℕ} {p : ScaledPlan} → Paired sl p w n → m ≤ n → Paired sl p w m
 paired-less q h =
-    record { w1 = q .w1; w64 = q .w64; across = q .across; down = q .down; even = q .even; fetched = λ k i a b. q .fetched k i (omega arith) b }
+    record { w1 = q .w1; w64 = q .w64; across = q .across; down = q .down; even = q .even; rows = stood-less (q .rows) h; fetched = λ k i a b. q .fetched k i (omega arith) b }
 
 module _ {A : Type 0} where
   -- the first y of h rows of d₀ are filled by g of what is between two rows, n of which have come in

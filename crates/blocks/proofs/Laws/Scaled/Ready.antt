@@ -11,6 +11,8 @@ use Rattle.blocks.specs.Refuse.{table}
 use Rattle.blocks.specs.Subpel.{subpelOk}
 use Rattle.blocks.specs.Scaled.{startOk, stepOk, scaledTypeOk, columnRead, readsScaled, scaledTests}
 use Rattle.blocks.specs.inner.Scaled.{scaledPlan, Filtered, Paired}
+use Rattle.blocks.specs.inner.Source.{topDown, rowFirst}
+use Rattle.blocks.proofs.Laws.Loops.Stands.{stood-from}
 use Rattle.blocks.proofs.Laws.Calls.Refuse.{both-met, reads-met, met-reads, reads-past}
 use Rattle.blocks.proofs.Laws.Subpel.Ready.{family-le}
 use Rattle.blocks.proofs.Laws.Warp.Corners.{every-at}
@@ -148,14 +150,15 @@ unfolding columnRead
 read-pair sl o s h p b = met-reads sl (o + pixelOf p) s 1 (1 + h) 0 1 0 1 (omega arith) (rw add-sub-cancel-left b)
 
 -- ---- what the rows rely on
-pub filtered-ready : (sl tl o ss w h : ℕ) (mx my dx dy t : ℤ) (B : ℕ) → readsScaled true sl o ss w h mx my dx dy ≡ true → Block w h
+pub filtered-ready : (sl tl o ss w h : ℕ) (mx my dx dy t : ℤ) (B : ℕ) → readsScaled true sl o ss w h mx my dx dy ≡ true → ss ≤ 32768 → Block w h
     → Steps (up mx) (up dx) → Steps (up my) (up dy) → scaledTypeOk t ≡ true → tl ≡ 600
-    → (3 * ss ≤ o) × Filtered sl tl (scaledPlan (o - 3 * ss) ss mx my dx dy t w h B) w (pixelOf (position (up my) (up dy) (h - 1)) + 8)
-unfolding readsScaled scaledTypeOk scaledPlan
-filtered-ready sl tl o ss w h mx my dx dy t B e b across down type tl600 =
+    → (3 * ss ≤ o) × Filtered sl tl (scaledPlan (topDown (o - 3 * ss) ss) mx my dx dy t w h B) w (pixelOf (position (up my) (up dy) (h - 1)) + 8)
+unfolding readsScaled scaledTypeOk scaledPlan rowFirst
+filtered-ready sl tl o ss w h mx my dx dy t B e most b across down type tl600 =
     let n = pixelOf (position (up my) (up dy) (h - 1)) in
     let column : (x : ℕ) → x < w → TapsRead sl o ss n (position (up mx) (up dx) x) = λ x l. taps-read sl o ss n _ (every-at w _ e x l) in
-    let below : 3 * ss ≤ o = omega (arith, column 0 (omega arith)) in (
+    let first = column 0 (omega arith) in
+    let below : 3 * ss ≤ o = omega (arith, first) in (
       below,
       record {
         w1 = b .w1;
@@ -165,15 +168,16 @@ filtered-ready sl tl o ss w h mx my dx dy t B e b across down type tl600 =
         wide = family-le (up t) w (up-le 2 t type);
         high = family-le (up t) h (up-le 2 t type);
         table = tl600;
+        rows = stood-from most (omega (arith, first, row-taps n ss (n + 8 - 1) (omega arith)));
         fetched = λ k i r l. let c = column i l in omega (arith, row-taps n ss k (omega arith));
       },
     )
 
-pub paired-ready : (sl o ss w h : ℕ) (mx my dx dy t : ℤ) (B : ℕ) → readsScaled false sl o ss w h mx my dx dy ≡ true → Block w h
+pub paired-ready : (sl o ss w h : ℕ) (mx my dx dy t : ℤ) (B : ℕ) → readsScaled false sl o ss w h mx my dx dy ≡ true → ss ≤ 32768 → Block w h
     → Steps (up mx) (up dx) → Steps (up my) (up dy) → B % 2 ≡ 0
-    → Paired sl (scaledPlan o ss mx my dx dy t w h B) w (pixelOf (position (up my) (up dy) (h - 1)) + 2)
-unfolding readsScaled scaledPlan
-paired-ready sl o ss w h mx my dx dy t B e b across down two =
+    → Paired sl (scaledPlan (topDown o ss) mx my dx dy t w h B) w (pixelOf (position (up my) (up dy) (h - 1)) + 2)
+unfolding readsScaled scaledPlan rowFirst
+paired-ready sl o ss w h mx my dx dy t B e most b across down two =
     let n = pixelOf (position (up my) (up dy) (h - 1)) in
     record {
       w1 = b .w1;
@@ -181,6 +185,9 @@ paired-ready sl o ss w h mx my dx dy t B e b across down two =
       across = across;
       down = down;
       even = two;
+      rows =
+          let m : n + 2 - 1 ≤ n + 1 = omega arith in
+          stood-from most (omega (arith, pair-read sl o ss n (position (up mx) (up dx) 0) (every-at w _ e 0 (omega arith)), mul-le-mul-right ss m));
       fetched = λ k i r l.
           let m : k ≤ n + 1 = omega arith in
           omega (arith, pair-read sl o ss n (position (up mx) (up dx) i) (every-at w _ e i l), mul-le-mul-right ss m);
@@ -197,10 +204,10 @@ even-bits depth = go (eqb depth 12) where
 
 module _ {deep : Bool} {dl ds sl o ss w h : ℕ} {mx my dx dy : ℤ} where
   pub taps-met : (t : ℤ) (tl : ℕ) → ScaledMet true deep (scaledTypeOk t) (subpelOk tl) dl ds sl o ss w h mx my dx dy → (B : ℕ)
-      → (3 * ss ≤ o) × Filtered sl tl (scaledPlan (o - 3 * ss) ss mx my dx dy t w h B) w (pixelOf (position (up my) (up dy) (h - 1)) + 8)
+      → (3 * ss ≤ o) × Filtered sl tl (scaledPlan (topDown (o - 3 * ss) ss) mx my dx dy t w h B) w (pixelOf (position (up my) (up dy) (h - 1)) + 8)
   unfolding subpelOk
-  taps-met t tl m B = filtered-ready sl tl o ss w h mx my dx dy t B (m .reads) (m .block) (m .across) (m .down) (m .typed) (eqb-true tl 600 (m .tabled))
+  taps-met t tl m B = filtered-ready sl tl o ss w h mx my dx dy t B (m .reads) (m .most) (m .block) (m .across) (m .down) (m .typed) (eqb-true tl 600 (m .tabled))
 
   pub pairs-met : {typed tabled : Bool} → ScaledMet false deep typed tabled dl ds sl o ss w h mx my dx dy → (t : ℤ) (B : ℕ) → B % 2 ≡ 0
-      → Paired sl (scaledPlan o ss mx my dx dy t w h B) w (pixelOf (position (up my) (up dy) (h - 1)) + 2)
-  pairs-met m t B two = paired-ready sl o ss w h mx my dx dy t B (m .reads) (m .block) (m .across) (m .down) two
+      → Paired sl (scaledPlan (topDown o ss) mx my dx dy t w h B) w (pixelOf (position (up my) (up dy) (h - 1)) + 2)
+  pairs-met m t B two = paired-ready sl o ss w h mx my dx dy t B (m .reads) (m .most) (m .block) (m .across) (m .down) two

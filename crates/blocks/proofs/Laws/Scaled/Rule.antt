@@ -7,6 +7,7 @@ use Rattle.rows.specs.Scaled.{position, pixelOf, sixteenth, inFamily, scaledMid
 use Rattle.rows.proofs.Laws.Filters.Taps.{tapped-same}
 use Rattle.blocks.specs.Scaled.{scaledAxis, scaledAround}
 use Rattle.blocks.specs.inner.Scaled.{scaledPlan, lineOf, pairLineOf}
+use Rattle.blocks.specs.inner.Source.{topDown, rowFirst}
 use Rattle.blocks.specs.declared.scaled.ScaledPlan.{ScaledPlan}
 use Rattle.blocks.proofs.Laws.Scaled.Lines.{put-down-same, prep-down-same}
 
@@ -18,14 +19,14 @@ mid-same B (by f) x y e = ap low16 (tapped-same f (half (6 - B)) (6 - B) (λ a. 
 module _ (src : List ℕ) (subpel : List ℤ) (o s : ℕ) (mx my dx dy t : ℤ) (w h B : ℕ) where
   -- ---- 8-tap, whose rows begin three above the block's
   abbrev eight : ScaledPlan
-  eight = scaledPlan (o - 3 * s) s mx my dx dy t w h B
+  eight = scaledPlan (topDown (o - 3 * s) s) mx my dx dy t w h B
 
   abbrev row : ℕ → ℕ
   row j = pixelOf (position (up my) (up dy) j)
 
   line-is : 3 * s ≤ o → (i j b : ℕ)
       → lineOf src subpel eight (row j + b) i ≡ scaledMid B (scaledAxis subpel t mx dx w i) (λ a. scaledAround 3 src o s mx my dx dy i j a b)
-  unfolding lineOf scaledPlan scaledAxis around
+  unfolding lineOf scaledPlan rowFirst scaledAxis around
   line-is m i j b = mid-same B _ _ _ (λ a c. ap (λ (p : ℕ). getD src p 0) (omega arith))
 
   pub put-planned : 3 * s ≤ o → (M : ℕ) (d : List ℕ) (ds : ℕ) → 0 < ds
@@ -52,10 +53,10 @@ module _ (src : List ℕ) (o s : ℕ) (mx my dx dy t : ℤ) (w h B : ℕ) where
   down j = pixelOf (position (up my) (up dy) j)
 
   abbrev two : ScaledPlan
-  two = scaledPlan o s mx my dx dy t w h B
+  two = scaledPlan (topDown o s) mx my dx dy t w h B
 
   pair-is : (i j b : ℕ) → pairLineOf src two (down j + b) i ≡ bilinMid B (sixteenth (position (up mx) (up dx) i)) (scaledAround 0 src o s mx my dx dy i j) b
-  unfolding pairLineOf scaledPlan bilinMid along around
+  unfolding pairLineOf scaledPlan rowFirst bilinMid along around
   pair-is i j b =
       ap₂ (λ (p q : ℕ). low16 (R (4 - B) (bilin (px src p) (px src q) (sixteenth (position (up mx) (up dx) i))))) (omega arith) (omega arith)
 

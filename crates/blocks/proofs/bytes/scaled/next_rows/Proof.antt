@@ -3,6 +3,8 @@ use Rattle.blocks.proofs.Usual.{_≡_, subst, ℕ, _≤_, _*_, _+_, _-_
 use Rattle.rows.specs.Scaled.{position}
 use Rattle.rows.specs.inner.Scaled.{Fetched}
 use Rattle.blocks.specs.inner.Scaled.{lineOf, LastEight}
+use Rattle.blocks.specs.inner.Source.{rowFirst}
+use Rattle.blocks.proofs.Laws.Loops.Stands.{StoodRow, stood-row}
 use Rattle.blocks.proofs.Laws.Scaled.Rows.{eight-order, eight-more}
 use Rattle.blocks.proofs.bytes.scaled.next_rows.Tie as tie
 
@@ -22,24 +24,24 @@ newest c = eight-order (c .before .before .loop .inv .1) _ (c .turned .ensures) 
 
 -- what is fetched for its columns
 fetched : (c : tie.In-loop Inv-loop μ-loop) (i : ℕ) → let a = entry c .args in
-    i < a .w → Fetched (length (a .src .now)) (a .p .start + c .before .loop .k * a .p .stride) (position (a .p .mx) (a .p .dx) i)
+    i < a .w → Fetched (length (a .src .now)) (rowFirst (a .p .stand) (c .before .loop .k)) (position (a .p .mx) (a .p .dx) i)
 fetched c i b = entry c .pre .2 .fetched (c .before .loop .k) i (c .loop-test .taken) b
 
-place : (c : tie.In-loop Inv-loop μ-loop) → let a = entry c .args in a .p .start + c .before .loop .k * a .p .stride ≤ length (a .src .now)
-place c = omega (arith, fetched c 0 (omega (arith, entry c .pre .2 .w1)))
+row : (c : tie.In-loop Inv-loop μ-loop) → let a = entry c .args in StoodRow (length (a .src .now)) (a .p .stand) 1 (c .before .loop .k)
+row c = stood-row (c .before .loop .k) (entry c .pre .2 .rows) (c .loop-test .taken)
 
 scaled-row-requires : tie.Need-scaled-row-requires Inv-loop μ-loop
 scaled-row-requires c κs =
-    let t = c .before .before .before in let l = t .before in let s = entry l in (
+    let o = c .before in let t = o .before in let l = t .before in let s = entry l in (
       (l .before .loop .inv .1 .size, omega (arith, newest t, s .pre .2 .w64), s .pre .2 .w64, s .pre .2 .table, s .pre .2 .wide, s .pre .2 .across, s .pre .3),
-      fetched l,
+      rw (o .row-first .ensures) (fetched l),
     )
 
 loop-again : tie.Need-loop-again Inv-loop μ-loop
 unfolding lineOf
 loop-again c =
-    let t = c .before .before .before .before in let l = t .before in let s = entry l in
-    (omega (arith, l .loop-test .taken), rw (c .scaled-row .ensures) (eight-more (l .before .loop .inv .1) (s .pre .2 .w64) _ (t .turned .ensures)))
+    let o = c .before .before in let t = o .before in let l = t .before in let s = entry l in
+    (omega (arith, l .loop-test .taken), rw (c .scaled-row .ensures, o .row-first .ensures) (eight-more (l .before .loop .inv .1) (s .pre .2 .w64) _ (t .turned .ensures)))
 
 returns : tie.Need-returns Inv-loop μ-loop
 returns c =
@@ -51,7 +53,7 @@ next-rows-spec = tie.close (tie.spec Inv-loop μ-loop (λ c. (c .before .pre .1,
     (λ c κs. search needs)  -- turned
     (λ c. search needs)  -- order[7]
     (λ c. omega (arith, newest c))  -- * 64
-    (λ c. omega (arith, place (c .before .before))) (λ c. omega (arith, place (c .before .before .before)))  -- p.start + k * p.stride
+    (λ c κs. let r = row (c .before) in (r .before, omega (arith, r)))  -- row-first
     scaled-row-requires
     (λ c. omega arith) (λ c. omega arith) loop-again  -- k += 1
     returns)

@@ -36,11 +36,12 @@ met c = scaled-ready (sym (number (c .before)) ∙ c .if1 .taken)
 
 returns : tie.Need-returns
 returns c =
-    let e = c .before .before in let p = e .before .before in let d = p .before in let t = d .before in let m = met t in
+    let e = c .before .before in let p = e .before .before in let s = p .before in let d = s .before in let t = d .before in let m = met t in
     let f = begin (t .before) .fits in
     let q =
     rw (
       p .scaled-plan .ensures,
+      s .top-down .ensures,
       d .depth-numbers .ensures,
       back (f .depth),
       back (f .filter-type),
@@ -56,8 +57,8 @@ returns c =
 put-8tap-scaled-rows-requires : tie.Need-put-8tap-scaled-rows-requires
 unfolding scaledPlan
 put-8tap-scaled-rows-requires c κs =
-    let p = c .before in let d = p .before in let t = d .before in let m = met t in let f = begin (t .before) .fits in
-    rw (p .scaled-plan .ensures, d .depth-numbers .ensures, back (f .depth), back (f .filter-type), back (f .mx), back (f .my), back (f .dx), back (f .dy))
+    let p = c .before in let s = p .before in let d = s .before in let t = d .before in let m = met t in let f = begin (t .before) .fits in
+    rw (p .scaled-plan .ensures, s .top-down .ensures, d .depth-numbers .ensures, back (f .depth), back (f .filter-type), back (f .mx), back (f .my), back (f .dx), back (f .dy))
     (m .block, m .rows, taps-met _ _ m _ .1, depth-bits _ (m .deep), depth-max _ (m .deep))
 
 pub put-8tap-scaled-at-spec : {M : Type 1} → Rattle.blocks.proofs.bytes.scaled.put_8tap_scaled_at.Statement.statement M
@@ -65,5 +66,5 @@ put-8tap-scaled-at-spec = tie.close (tie.spec
     (λ c κs. search needs) (λ c κs. search needs) (λ c κs. search needs)  -- depth-ok, scaled-type-ok, check-scaled
     (λ c κs. rw (back (begin (c .before) .fits .depth)) (met c .deep))  -- depth-numbers
     (λ c. omega (arith, met (c .before) .most)) (λ c. taps-met _ _ (met (c .before)) 0 .0)  -- src_off - 3 * src_stride
-    (λ c κs. search needs)  -- scaled-plan
+    (λ c κs. search needs) (λ c κs. search needs)  -- top-down, scaled-plan
     put-8tap-scaled-rows-requires (λ c. search needs) returns (λ c. (number (c .before), sym (refused _ _ _ (c .if1 .left)))))

@@ -25,22 +25,22 @@ met c = scaled-ready (sym (number (c .before)) ∙ c .if1 .taken)
 
 returns : tie.Need-returns
 returns c =
-    let e = c .before .before in let p = e .before .before in let d = p .before in let t = d .before in let m = met t in
+    let e = c .before .before in let p = e .before .before in let s = p .before in let d = s .before in let t = d .before in let m = met t in
     let f = begin (t .before) .fits in
     let q =
-    rw (p .scaled-plan .ensures, d .depth-numbers .ensures, back (f .depth), back (f .mx), back (f .my), back (f .dx), back (f .dy))
+    rw (p .scaled-plan .ensures, s .top-down .ensures, d .depth-numbers .ensures, back (f .depth), back (f .mx), back (f .my), back (f .dx), back (f .dy))
     at (e .put-bilin-scaled-rows .ensures) in
     (number (t .before), q ∙ put-paired _ _ _ _ _ _ _ _ _ _ _ _ _ _ (omega (arith, m .rows, m .block)) ∙ sym (done _ _ _ (t .if1 .taken)))
 
 put-bilin-scaled-rows-requires : tie.Need-put-bilin-scaled-rows-requires
 unfolding scaledPlan
 put-bilin-scaled-rows-requires c κs =
-    let p = c .before in let d = p .before in let t = d .before in let m = met t in let f = begin (t .before) .fits in
-    rw (p .scaled-plan .ensures, d .depth-numbers .ensures, back (f .depth), back (f .mx), back (f .my), back (f .dx), back (f .dy))
+    let p = c .before in let s = p .before in let d = s .before in let t = d .before in let m = met t in let f = begin (t .before) .fits in
+    rw (p .scaled-plan .ensures, s .top-down .ensures, d .depth-numbers .ensures, back (f .depth), back (f .mx), back (f .my), back (f .dx), back (f .dy))
     (m .block, m .rows, pairs-met m (pos 0) _ (even-bits (up (begin (t .before) .args .depth))), depth-bits _ (m .deep), depth-max _ (m .deep))
 
 pub put-bilin-scaled-at-spec : {M : Type 1} → Rattle.blocks.proofs.bytes.scaled.put_bilin_scaled_at.Statement.statement M
 put-bilin-scaled-at-spec = tie.close (tie.spec (λ c κs. search needs) (λ c κs. search needs)  -- depth-ok, check-scaled
     (λ c κs. rw (back (begin (c .before) .fits .depth)) (met c .deep))  -- depth-numbers
-    (λ c κs. search needs)  -- scaled-plan
+    (λ c κs. search needs) (λ c κs. search needs)  -- top-down, scaled-plan
     put-bilin-scaled-rows-requires (λ c. search needs) returns (λ c. (number (c .before), sym (refused _ _ _ (c .if1 .left)))))

@@ -1,7 +1,8 @@
 use Rattle.blocks.proofs.Usual.{_≡_, _∙_, _≤_, _*_, _+_, _-_, _<_, _%_, arith, needs, pos, length, span}
 use Rattle.rows.proofs.Laws.Blocks.Places.{span-length}
 use Rattle.blocks.specs.inner.Scaled.{LastTwo, pairLineOf}
-use Rattle.blocks.proofs.Laws.Scaled.Pairs.{two-more, pair-start, pairs-fetched, tabled-line}
+use Rattle.blocks.proofs.Laws.Loops.Stands.{StoodRow, stood-row}
+use Rattle.blocks.proofs.Laws.Scaled.Pairs.{two-more, pairs-fetched, tabled-line}
 use Rattle.blocks.proofs.words.scaled.next_pairs.Tie as tie
 
 abbrev Inv-loop : tie.InvT-loop
@@ -14,9 +15,9 @@ abbrev μ-loop : tie.MeasureT-loop
 abbrev entry : tie.In-loop Inv-loop μ-loop → tie.Start Inv-loop μ-loop
 entry c = c .before .before .before
 
--- in a turn, where the row begins
-begins : (c : tie.In-loop Inv-loop μ-loop) → let a = entry c .args in a .p .start + c .before .loop .k * a .p .stride < length (a .src .now)
-begins c = pair-start (entry c .pre .3) (c .before .loop .k) (c .loop-test .taken)
+-- in a turn, the row is within the source
+row : (c : tie.In-loop Inv-loop μ-loop) → let a = entry c .args in StoodRow (length (a .src .now)) (a .p .stand) 1 (c .before .loop .k)
+row c = stood-row (c .before .loop .k) (entry c .pre .3 .rows) (c .loop-test .taken)
 
 -- and how long it is
 long : (c : tie.In-loop Inv-loop μ-loop) → let q = c .before .loop .k % 2 * 64 in let w = entry c .args .w in
@@ -25,20 +26,20 @@ long c = let q = c .before .loop .k % 2 * 64 in span-length (pos 0) (c .before .
 
 scaled-bilin-row-requires : tie.Need-scaled-bilin-row-requires Inv-loop μ-loop
 scaled-bilin-row-requires c κs =
-    let t = c .before .before .before in let p = entry t .pre in (
+    let o = c .before in let t = o .before in let p = entry t .pre in (
       omega (arith, long t),
-      omega (arith, begins t),
-      pairs-fetched (p .3) (p .5) (t .before .loop .k) _ (t .loop-test .taken) (omega (arith, long t)),
+      omega (arith, row t, o .row-first .ensures),
+      rw (o .row-first .ensures) (pairs-fetched (p .3) (p .5) (t .before .loop .k) _ (t .loop-test .taken) (omega (arith, long t))),
       p .4,
       p .3 .even,
     )
 
 loop-again : tie.Need-loop-again Inv-loop μ-loop
 loop-again c =
-    let r = c .before in let t = r .before .before .before .before in let i = t .before .loop .inv in let p = entry t .pre in (
+    let r = c .before in let o = r .before .before in let t = o .before in let i = t .before .loop .inv in let p = entry t .pre in (
       omega arith,
       two-more (i .1 .1) (p .3 .w64) (i .1 .0) _
-          (r .scaled-bilin-row .ensures ∙ tabled-line (p .3) (p .5) (entry t .args .src .now) (t .before .loop .k) _ (omega (arith, long t))),
+          (rw (o .row-first .ensures) at (r .scaled-bilin-row .ensures) ∙ tabled-line (p .3) (p .5) (entry t .args .src .now) (t .before .loop .k) _ (omega (arith, long t))),
     )
 
 returns : tie.Need-returns Inv-loop μ-loop
@@ -49,6 +50,6 @@ returns c =
 pub next-pairs-spec : {M : Type 1} → Rattle.blocks.proofs.words.scaled.next_pairs.Statement.statement M
 next-pairs-spec = tie.close (tie.spec Inv-loop μ-loop
     (λ c. search needs) (λ c. search needs)  -- loop-holds, k % 2 * 64
-    (λ c. omega (arith, entry c .pre .3)) (λ c. search needs) (λ c. search needs) (λ c. search needs) (λ c. search needs)  -- rows[q..q + w]
-    (λ c. omega (arith, begins (c .before .before))) (λ c. omega (arith, begins (c .before .before .before)))  -- k * stride, start + it
+    (λ c κs. let r = row c in (r .before, omega (arith, r)))  -- row-first
+    (λ c. omega (arith, entry (c .before) .pre .3)) (λ c. search needs) (λ c. search needs) (λ c. search needs) (λ c. search needs)  -- rows[q..q + w]
     scaled-bilin-row-requires (λ c. search needs) (λ c. search needs) loop-again (λ c. search needs) returns)  -- k += 1, and the loop
