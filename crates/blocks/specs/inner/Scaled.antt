@@ -13,7 +13,6 @@ use Rattle.rows.specs.Bilinear.{R}
 use Rattle.rows.specs.inner.Bilinear.{bilinAt}
 use Rattle.rows.specs.Scaled.{position, pixelOf, sixteenth, inFamily, scaledMid}
 use Rattle.rows.specs.inner.Scaled.{eightAt, Fetched, Steps}
-use Rattle.blocks.specs.Refuse.{size, stride, table}
 use Rattle.blocks.specs.inner.Source.{rowFirst, Stood}
 use Rattle.blocks.specs.declared.scaled.ScaledPlan.{ScaledPlan}
 use Rattle.blocks.specs.declared.source.Stand.{Stand}

@@ -114,7 +114,15 @@ position-le start step h = omega (arith, mul-le-mul-right step h)
 
 paired-less : {sl w m n : ℕ} {p : ScaledPlan} → Paired sl p w n → m ≤ n → Paired sl p w m
 paired-less q h =
-    record { w1 = q .w1; w64 = q .w64; across = q .across; down = q .down; even = q .even; rows = stood-less (q .rows) h; fetched = λ k i a b. q .fetched k i (omega arith) b }
+    record {
+      w1 = q .w1;
+      w64 = q .w64;
+      across = q .across;
+      down = q .down;
+      even = q .even;
+      rows = stood-less (q .rows) h;
+      fetched = λ k i a b. q .fetched k i (omega arith) b;
+    }
 
 module _ {A : Type 0} where
   -- the first y of h rows of d₀ are filled by g of what is between two rows, n of which have come in

@@ -3,14 +3,14 @@
 use mathlib.Core.Path.{_≡_, refl, ap, ap₂, _∙_, fun-ext}
 use mathlib.Core.Bool.{Bool, true, false, _&&_}
 use mathlib.Core.List.{List, [], _∷_}
-use Prim.Native.Nat.{ℕ, zero, suc, _+_, _-_, _*_, _/_, _^_, _≤_, _<_}
+use Prim.Native.Nat.{ℕ, _+_, _*_, _/_, _^_, _≤_}
 use native.Mathlib.Omega.{arith}
 use lib.Dec.{ltb, eqb}
 use lib.IntN.{ℤ, pos, natAbs, _+ℤ_, _-ℤ_}
 use lib.ListN.{length, getD}
-use Rattle.rows.specs.Numbers.{up, apart, sum}
+use Rattle.rows.specs.Numbers.{up}
 use Rattle.rows.specs.Places.{pick, pixel}
-use Rattle.rows.specs.Search.{rowApart, sad, sadAt, Offset, Best, none, best, better, visit, through, steps, search, answer, centre, refine}
+use Rattle.rows.specs.Search.{sad, sadAt, Offset, Best, none, best, better, visit, through, steps, search, answer, centre, refine}
 use Rattle.rows.proofs.Laws.Blocks.Fill.{and-true}
 use Rattle.blocks.specs.Refuse.{holds}
 use Rattle.blocks.specs.Search.{sadsTests, sadTests, refineTests}

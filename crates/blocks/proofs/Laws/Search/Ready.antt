@@ -69,7 +69,8 @@ sad-blocks {l0} {s0} {l1} {s1} {w} {h} b r t =
     record { w68 = omega (arith, b); h1 = b .h1; h68 = omega (arith, b); first = stood-rows p; second = stood-rows q }
 
 pub sad-done : (depth : ℕ) (p : List ℕ) (s : ℕ) (q : List ℕ) (s′ w h : ℕ) {number n : ℕ} → number ≡ 0
-    → (n ≡ sad depth (pixelIn p (topDown 0 s)) (pixelIn q (topDown 0 s′)) w h) × (n ≤ 2 ^ 28) → toZ w32 n ≡ orSame number (pos (sad depth (pixel p s) (pixel q s′) w h)) (pos 0)
+    → (n ≡ sad depth (pixelIn p (topDown 0 s)) (pixelIn q (topDown 0 s′)) w h) × (n ≤ 2 ^ 28)
+    → toZ w32 n ≡ orSame number (pos (sad depth (pixel p s) (pixel q s′) w h)) (pos 0)
 sad-done depth p s q s′ w h {number} {n} z e =
     backn w32 n (omega (arith, e .1))
     ∙ ap pos (e .0 ∙ ap₂ (λ (a b : ℕ → ℕ → ℕ). sad depth a b w h) (pixels-down (λ x. x) p s) (pixels-down (λ x. x) q s′))

@@ -58,7 +58,17 @@ prep-8tap-scaled-rows-requires : tie.Need-prep-8tap-scaled-rows-requires
 unfolding scaledPlan
 prep-8tap-scaled-rows-requires c κs =
     let p = c .before in let s = p .before in let d = s .before in let t = d .before in let m = met t in let f = begin (t .before) .fits in
-    rw (p .scaled-plan .ensures, s .top-down .ensures, d .depth-numbers .ensures, back (f .depth), back (f .filter-type), back (f .mx), back (f .my), back (f .dx), back (f .dy))
+    rw (
+      p .scaled-plan .ensures,
+      s .top-down .ensures,
+      d .depth-numbers .ensures,
+      back (f .depth),
+      back (f .filter-type),
+      back (f .mx),
+      back (f .my),
+      back (f .dx),
+      back (f .dy),
+    )
     (m .block, m .rows, taps-met _ _ m _ .1, depth-bits _ (m .deep), depth-bias _ (m .deep))
 
 pub prep-8tap-scaled-at-spec : {M : Type 1} → Rattle.blocks.proofs.bytes.scaled.prep_8tap_scaled_at.Statement.statement M

@@ -27,7 +27,8 @@ sad-sum-requires c κs =
 returns : tie.Need-returns
 returns c =
     let t = c .before .before .before in let s = entry t in let a = s .args in let x = back (s .fits .dx) in let y = back (s .fits .dy) in (
-      offset-sad (a .n .depth) (a .p0 .now) (a .n .s0) (a .p1 .now) (a .n .s1) (a .n .w) (a .n .h) (a .dx) (a .dy) (s .pre .0) (s .pre .1) (s .pre .2) (rw (x, y) at (t .before .first-place .ensures))
+      offset-sad (a .n .depth) (a .p0 .now) (a .n .s0) (a .p1 .now) (a .n .s1) (a .n .w) (a .n .h) (a .dx) (a .dy) (s .pre .0) (s .pre .1) (s .pre .2)
+          (rw (x, y) at (t .before .first-place .ensures))
           (rw (x, y) at (t .second-place .ensures)) (c .sad-sum .ensures .0),
       c .sad-sum .ensures .1,
     )

@@ -1,4 +1,4 @@
-use Rattle.blocks.proofs.Usual.{_≡_, _∙_, _≤_, _*_, _+_, _-_, _<_, _%_, arith, needs, pos, length, span}
+use Rattle.blocks.proofs.Usual.{_≡_, _∙_, _≤_, _*_, _+_, _-_, _%_, arith, needs, pos, length, span}
 use Rattle.rows.proofs.Laws.Blocks.Places.{span-length}
 use Rattle.blocks.specs.inner.Scaled.{LastTwo, pairLineOf}
 use Rattle.blocks.proofs.Laws.Loops.Stands.{StoodRow, stood-row}
@@ -39,7 +39,8 @@ loop-again c =
     let r = c .before in let o = r .before .before in let t = o .before in let i = t .before .loop .inv in let p = entry t .pre in (
       omega arith,
       two-more (i .1 .1) (p .3 .w64) (i .1 .0) _
-          (rw (o .row-first .ensures) at (r .scaled-bilin-row .ensures) ∙ tabled-line (p .3) (p .5) (entry t .args .src .now) (t .before .loop .k) _ (omega (arith, long t))),
+          (rw (o .row-first .ensures) at (r .scaled-bilin-row .ensures)
+          ∙ tabled-line (p .3) (p .5) (entry t .args .src .now) (t .before .loop .k) _ (omega (arith, long t))),
     )
 
 returns : tie.Need-returns Inv-loop μ-loop

@@ -40,7 +40,8 @@ loop-again : tie.Need-loop-again Inv-loop μ-loop
 unfolding lineOf
 loop-again c =
     let o = c .before .before in let t = o .before in let l = t .before in let s = entry l in
-    (omega (arith, l .loop-test .taken), rw (c .scaled-row .ensures, o .row-first .ensures) (eight-more (l .before .loop .inv .1) (s .pre .2 .w64) _ (t .turned .ensures)))
+    let e = eight-more (l .before .loop .inv .1) (s .pre .2 .w64) _ (t .turned .ensures) in
+    (omega (arith, l .loop-test .taken), rw (c .scaled-row .ensures, o .row-first .ensures) e)
 
 returns : tie.Need-returns Inv-loop μ-loop
 returns c =

@@ -10,7 +10,8 @@ sad-sum-requires : tie.Need-sad-sum-requires
 sad-sum-requires c κs =
     let b = c .before in let a = b .before in let t = a .before in let k = t .before in
     let r = sads-ready 0 (sym (k .check-sads .ensures) ∙ t .if1 .taken) in
-    (rw (a .top-down .ensures, b .top-down2 .ensures) (sad-blocks (r .0) (r .1) (r .2)), rw (c .up32 .ensures) (depth-range _ (sym (k .before .depth-ok .ensures) ∙ r .3)))
+    let deep = depth-range _ (sym (k .before .depth-ok .ensures) ∙ r .3) in
+    (rw (a .top-down .ensures, b .top-down2 .ensures) (sad-blocks (r .0) (r .1) (r .2)), rw (c .up32 .ensures) deep)
 
 returns : tie.Need-returns
 returns c =
