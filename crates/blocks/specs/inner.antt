@@ -5,6 +5,7 @@ pub mod Groups
 pub mod Scaled
 pub mod Subpel
 pub mod Bilinear
+pub mod Warp
 pub mod Search
 pub mod Window
 pub mod Order

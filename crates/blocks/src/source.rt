@@ -1,7 +1,7 @@
 // Where the rows of a source stand, after one another or, with the last row first in memory, before one another.
 ghost use mathlib.Core.Path.{_≡_};
 ghost use Prim.Native.Nat.{_≤_, _<_, _+_, _*_, _^_};
-ghost use Rattle.blocks.specs.inner.Source.{topDown, rowFirst, rowsFrom, lowerRow};
+ghost use Rattle.blocks.specs.inner.Source.{topDown, rowFirst, rowsFrom, lowerRow, cornerOf};
 
 // The place of row 0's first pixel, and how far each next row stands after it or before it: one of the two is 0.
 pub struct Stand {
@@ -49,6 +49,18 @@ pub fn lower_row(s: Stand) -> Stand
 {
     Stand {
         off: s.off - s.back,
+        forth: s.forth,
+        back: s.back,
+    }
+}
+
+// The rows from three above row 0 on, three columns to the left: where a block's margin of three begins.
+pub fn corner(s: Stand) -> Stand
+    requires { ⌜ (3 * s .forth + 3 ≤ s .off + 3 * s .back) × (s .off + 3 * s .back < 2 ^ 64) ⌝ }
+    ensures { λ r. ⌜ r ≡ cornerOf s ⌝ }
+{
+    Stand {
+        off: s.off + 3 * s.back - (3 * s.forth + 3),
         forth: s.forth,
         back: s.back,
     }

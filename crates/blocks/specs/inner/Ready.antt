@@ -89,16 +89,18 @@ pub record Pass (n : ℕ) (m a b : ℤ) (rows : ℕ) : Type 0 where
   pub bounded : natAbs m ≤ 2 ^ 20
   pub there : (r : ℕ) → r < rows → RowThere n m a b r
 
--- a source of sl places that holds warp's block at place o with its margins
-pub record Margins (sl o s : ℕ) : Type 0 where
-  pub most : s ≤ 32768
-  pub before : 3 * s + 3 ≤ o
-  pub after : o + 11 * s + 11 < sl
+-- a source of sl places that holds warp's block with its margins
+pub record Margins (sl : ℕ) (s : Stand) : Type 0 where
+  pub forth : s .forth ≤ 32768
+  pub back : s .back ≤ 32768
+  pub before : 3 * s .forth + 11 * s .back + 3 ≤ s .off
+  pub after : s .off + 11 * s .forth + 3 * s .back + 11 < sl
+  pub one : min (s .forth) (s .back) ≡ 0
 
 -- a block of warp: what is written and read, and its two passes
-pub record Warps (dl ds sl off ss n : ℕ) (m : Shears) : Type 0 where
+pub record Warps (dl ds sl : ℕ) (s : Stand) (n : ℕ) (m : Shears) : Type 0 where
   pub dst : Rows dl ds 8 8
-  pub src : Margins sl off ss
+  pub src : Margins sl s
   pub first : Pass n (m .mx) (m .a) (m .b) 15
   pub second : Pass n (m .my) (m .c) (m .d) 8
 

@@ -23,6 +23,10 @@ rowsFrom s k = record { off = rowFirst s k; forth = s .forth; back = s .back }
 abbrev pub lowerRow : Stand → Stand
 lowerRow s = record { off = s .off - s .back; forth = s .forth; back = s .back }
 
+-- the rows from three above row 0 on, three columns to the left
+abbrev pub cornerOf : Stand → Stand
+cornerOf s = record { off = s .off + 3 * s .back - (3 * s .forth + 3); forth = s .forth; back = s .back }
+
 -- the pixel at column i of row j
 abbrev pub pixelIn : List ℕ → Stand → (i j : ℕ) → ℕ
 pixelIn src s i j = getD src (rowFirst s j + i) 0

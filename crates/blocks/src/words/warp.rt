@@ -3,15 +3,21 @@ ghost use mathlib.Core.Path.{_≡_};
 ghost use Prim.Native.Nat.{_+_, _-_, _*_, _/_, _≤_};
 ghost use lib.ListN.{length};
 ghost use Rattle.rows.specs.Numbers.{at, px, clip, low16, up};
-ghost use Rattle.rows.specs.Places.{fill, around};
+ghost use Rattle.rows.specs.Places.{fill};
 ghost use Rattle.rows.specs.Warp.{warped, warpPut, warpPrep};
 ghost use Rattle.rows.specs.inner.words.Pixel.{BitsOk, BiasOk, MaxOk};
 ghost use Rattle.blocks.specs.words.Depth.{depthOk};
-ghost use Rattle.blocks.specs.inner.Ready.{Rows, Pass, Warps};
+ghost use Rattle.blocks.specs.inner.Ready.{Rows, Pass, Margins, Warps};
+ghost use Rattle.blocks.specs.inner.Source.{aroundIn};
+ghost use Rattle.blocks.specs.inner.Warp.{firstIn};
 ghost use Rattle.blocks.specs.Warp.{WarpAnswer, WarpTAnswer};
+use super::copy::put_rows;
 use super::depth::depth_numbers;
 use super::depth::depth_ok;
 use crate::refuse::DepthNumbers;
+use crate::source::Stand;
+use crate::source::corner;
+use crate::source::top_down;
 use crate::warp::Shears;
 use crate::warp::check_warp;
 use crate::warp::warp_prep_rows;
@@ -41,6 +47,22 @@ fn warp_mid(mid: &mut [i16], src: &[Pixel], o: usize, s: usize, table: &[i8], by
             7 - bits,
         );
         x += 1;
+    }
+}
+
+// The first pass wherever the rows stand. With the last row first in memory the fifteen rows are copied before, into the picture's order.
+fn warp_first(mid: &mut [i16], src: &[Pixel], s: Stand, table: &[i8], by: Slope, bits: u32)
+    requires { ⌜ (length (now mid) ≡ 120) × Margins (length (now src)) s × Pass (length (now table) / 8) (by .m) (by .a) (by .b) 15 × BitsOk bits ⌝ }
+    ensures { λ _. ⌜ now (mid .exit)
+        ≡ fill (now (mid .entry)) 15 15 8 (firstIn bits (now (table .entry)) (by .m) (by .a) (by .b) (now (src .entry)) s) ⌝ }
+{
+    let first = corner(s);
+    if s.back == 0 {
+        warp_mid(mid, src, first.off, s.forth, table, by, bits);
+    } else {
+        let mut rows = [0; 225];
+        put_rows(&mut rows, 15, src, first, 15, 15);
+        warp_mid(mid, &rows, 0, 15, table, by, bits);
     }
 }
 
@@ -81,25 +103,23 @@ pub fn warp_put(
     dst: &mut [Pixel],
     dst_stride: usize,
     src: &[Pixel],
-    src_stride: usize,
-    src_off: usize,
+    s: Stand,
     m: Shears,
     warp: &[i8],
 )
-    requires { ⌜ Warps (length (now dst)) «dst_stride» (length (now src)) «src_off» «src_stride» (length (now warp) / 8) m
+    requires { ⌜ Warps (length (now dst)) «dst_stride» (length (now src)) s (length (now warp) / 8) m
         × BitsOk (d .bits) × MaxOk (d .max) ⌝ }
     ensures { λ _. ⌜ now (dst .exit) ≡ fill (now (dst .entry)) «dst_stride» 8 8
         (λ i j. warpPut (d .max) (d .bits) (now (warp .entry)) (m .mx) (m .my) (m .a) (m .b) (m .c) (m .d) i j
-        (around 3 (now (src .entry)) «src_off» «src_stride» i j)) ⌝ }
+        (aroundIn 3 (now (src .entry)) s i j)) ⌝ }
 {
-    let o = src_off - (3 * src_stride + 3);
     let first = Slope {
         m: m.mx,
         a: m.a,
         b: m.b,
     };
     let mut mid = [0i16; 120];
-    warp_mid(&mut mid, src, o, src_stride, warp, first, d.bits);
+    warp_first(&mut mid, src, s, warp, first, d.bits);
     let second = Slope {
         m: m.my,
         a: m.c,
@@ -113,25 +133,23 @@ pub fn warp_prep(
     tmp: &mut [i16],
     tmp_stride: usize,
     src: &[Pixel],
-    src_stride: usize,
-    src_off: usize,
+    s: Stand,
     m: Shears,
     warp: &[i8],
 )
-    requires { ⌜ Warps (length (now tmp)) «tmp_stride» (length (now src)) «src_off» «src_stride» (length (now warp) / 8) m
+    requires { ⌜ Warps (length (now tmp)) «tmp_stride» (length (now src)) s (length (now warp) / 8) m
         × BitsOk (d .bits) × BiasOk (d .bias) ⌝ }
     ensures { λ _. ⌜ now (tmp .exit) ≡ fill (now (tmp .entry)) «tmp_stride» 8 8
         (λ i j. warpPrep (d .bits) (d .bias) (now (warp .entry)) (m .mx) (m .my) (m .a) (m .b) (m .c) (m .d) i j
-        (around 3 (now (src .entry)) «src_off» «src_stride» i j)) ⌝ }
+        (aroundIn 3 (now (src .entry)) s i j)) ⌝ }
 {
-    let o = src_off - (3 * src_stride + 3);
     let first = Slope {
         m: m.mx,
         a: m.a,
         b: m.b,
     };
     let mut mid = [0i16; 120];
-    warp_mid(&mut mid, src, o, src_stride, warp, first, d.bits);
+    warp_first(&mut mid, src, s, warp, first, d.bits);
     let second = Slope {
         m: m.my,
         a: m.c,
@@ -171,16 +189,8 @@ pub extern "C" fn hv_warp_affine_8x8_16bpc(
         warp.len(),
     );
     if number == 0 {
-        warp_put(
-            depth_numbers(depth),
-            dst,
-            dst_stride,
-            src,
-            src_stride,
-            src_off,
-            m,
-            warp,
-        );
+        let s = top_down(src_off, src_stride);
+        warp_put(depth_numbers(depth), dst, dst_stride, src, s, m, warp);
     }
     number
 }
@@ -216,16 +226,8 @@ pub extern "C" fn hv_warp_affine_8x8t_16bpc(
         warp.len(),
     );
     if number == 0 {
-        warp_prep(
-            depth_numbers(depth),
-            tmp,
-            tmp_stride,
-            src,
-            src_stride,
-            src_off,
-            m,
-            warp,
-        );
+        let s = top_down(src_off, src_stride);
+        warp_prep(depth_numbers(depth), tmp, tmp_stride, src, s, m, warp);
     }
     number
 }

@@ -124,7 +124,7 @@ module _ {k : Kind} {sl s w h tl el wl dl ds : ℕ} (p : Windowed k sl s w h tl 
         g15 = sixteenth-met (m .my) (f .1);
       }
 
-  pub warp-ready : {m : Shears} → k ≡ Warp m → Warps dl ds sl (3 * s + 3) s (wl / 8) m
+  pub warp-ready : {m : Shears} → k ≡ Warp m → Warps dl ds sl (topDown (3 * s + 3) s) (wl / 8) m
   unfolding before after motionOk filtersOk
   warp-ready {m} e =
       let q : Windowed (Warp m) sl s w h tl el wl = rw e at p in
@@ -134,7 +134,7 @@ module _ {k : Kind} {sl s w h tl el wl dl ds : ℕ} (p : Windowed k sl s w h tl 
       let r = rw (z .0, z .1) at (q .src) in
       record {
         dst = rw (z .0, z .1) at dst;
-        src = record { most = r .most; before = omega arith; after = omega (arith, r .fits) };
+        src = record { forth = r .most; back = omega arith; before = omega arith; after = omega (arith, r .fits); one = omega arith };
         first = f .0;
         second = f .1;
       }

@@ -1,10 +1,11 @@
 -- Warp's number 0 gives what its passes rely on; its tests in two parts. Assumes nothing.
 use Rattle.blocks.proofs.Usual.{true, Bool, List, [], _∷_, _≡_, sym, ℕ, _≤_, _*_, _+_, _^_, _/_, leb-true, ltb-true, leb, ltb, ℤ, natAbs, lowest, Test}
 use Rattle.blocks.proofs.Usual.{_asks_, stride, number, read, written, holds, strideOk, reads, wholeFilters, and-true, rows-met, all-met, later, sooner}
-use Rattle.blocks.proofs.Usual.{stride-met}
+use Rattle.blocks.proofs.Usual.{stride-met, arith}
 use Rattle.rows.specs.Warp.{filterNo, isThere, every, allThere}
 use Rattle.blocks.specs.Refuse.{table}
 use Rattle.blocks.specs.inner.Ready.{Pass, Margins, Warps}
+use Rattle.blocks.specs.inner.Source.{topDown}
 use Rattle.blocks.specs.Warp.{warpPlaceOk, warpTests}
 use Rattle.blocks.proofs.Laws.Warp.Corners.{every-at}
 
@@ -48,11 +49,12 @@ module _ (deep : Bool) (dl ds sl ss off : ℕ) (a b c d mx my : ℤ) (tl : ℕ) 
   warp-go e = sym (later (numberTests deep ds ss mx my) (lowest (bufferTests dl ds sl ss off a b c d mx my tl)) e)
 
 -- ---- all of them
-margins-met : (sl o s : ℕ) → strideOk 8 s ≡ true → reads sl o s 8 8 3 4 3 4 ≡ true → Margins sl o s
+margins-met : (sl o s : ℕ) → strideOk 8 s ≡ true → reads sl o s 8 8 3 4 3 4 ≡ true → Margins sl (topDown o s)
 unfolding reads
 margins-met sl o s a b =
     let p = and-true (leb (3 * s + 3) o) (ltb (o + 11 * s + 11) sl) b in
-    record { most = stride-met 8 s a .1; before = leb-true _ _ (p .0); after = ltb-true _ _ (p .1) }
+    let above = leb-true (3 * s + 3) o (p .0) in let below = ltb-true (o + 11 * s + 11) sl (p .1) in
+    record { forth = stride-met 8 s a .1; back = omega arith; before = omega (arith, above); after = omega (arith, below); one = omega arith }
 
 pass-met : (n rows : ℕ) (m a b : ℤ) → warpPlaceOk m ≡ true → every rows (λ r. every 8 (λ i. isThere n (filterNo m a b r i))) ≡ true → Pass n m a b rows
 pass-met n rows m a b p e =
@@ -65,7 +67,7 @@ passes n mx my a b c d p q e =
     let f = and-true (every 15 (λ r. every 8 (λ i. isThere n (filterNo mx a b r i)))) _ e in (pass-met n 15 mx a b p (f .0), pass-met n 8 my c d q (f .1))
 
 pub warp-ready : (deep : Bool) (dl ds sl ss off : ℕ) (a b c d mx my : ℤ) (tl : ℕ) → lowest (warpTests deep dl ds sl ss off a b c d mx my tl) ≡ 0
-    → (deep ≡ true) × Warps dl ds sl off ss (tl / 8) (record { a = a; b = b; c = c; d = d; mx = mx; my = my })
+    → (deep ≡ true) × Warps dl ds sl (topDown off ss) (tl / 8) (record { a = a; b = b; c = c; d = d; mx = mx; my = my })
 warp-ready deep dl ds sl ss off a b c d mx my tl e =
     let q = all-met (warpTests deep dl ds sl ss off a b c d mx my tl) e in
     let p = q .1 .1 in let t = p .1 .1 .1 in let r = t .1 .1 in

@@ -54,7 +54,10 @@ pub fn put_kind(
             let first = top_down(0, s);
             put_bilin_rows(d, dst, l.dst_stride, src, first, w, h, f, g)
         }
-        Kind::Warp(m) => warp_put(d, dst, l.dst_stride, src, s, o, m, warp),
+        Kind::Warp(m) => {
+            let first = top_down(o, s);
+            warp_put(d, dst, l.dst_stride, src, first, m, warp)
+        }
     }
 }
 
@@ -91,6 +94,9 @@ pub fn prep_kind(
             let first = top_down(0, s);
             prep_bilin_rows(d, tmp, l.dst_stride, src, first, w, h, f, g)
         }
-        Kind::Warp(m) => warp_prep(d, tmp, l.dst_stride, src, s, o, m, warp),
+        Kind::Warp(m) => {
+            let first = top_down(o, s);
+            warp_prep(d, tmp, l.dst_stride, src, first, m, warp)
+        }
     }
 }

@@ -2,6 +2,7 @@ use Rattle.blocks.proofs.Usual.{_≡_, _∙_, sym, needs, length, lowes
 use Rattle.blocks.specs.words.Depth.{depthOk}
 use Rattle.blocks.specs.Warp.{warpTests}
 use Rattle.blocks.proofs.Laws.words.Depth.{depth-bits, depth-max}
+use Rattle.blocks.proofs.Laws.Loops.Stands.{around-down}
 use Rattle.blocks.proofs.Laws.Warp.Ready.{warp-ready}
 use Rattle.blocks.proofs.words.warp.hv_warp_affine_8x8_16bpc.Tie as tie
 
@@ -17,18 +18,20 @@ number c =
 
 returns : tie.Need-returns
 returns c =
-    let n = c .before .before .before .before in let t = n .before in let f = begin (t .before) .fits in
+    let n = c .before .before .before .before in let s = n .before in let t = s .before in let b = begin (t .before) in let f = b .fits in
     let e =
-    rw (n .depth-numbers .ensures, back (f .depth), back (f .mx), back (f .my), back (f .a), back (f .b), back (f .c), back (f .d))
+    rw (s .top-down .ensures, around-down 3 (b .args .src .now) (b .args .src-off) (b .args .src-stride), n .depth-numbers .ensures, back (f .depth), back (f .mx), back (f .my), back (f .a), back (f .b), back (f .c), back (f .d))
     at (c .before .before .warp-put .ensures) in
     (number (t .before), e ∙ sym (done _ _ _ (t .if1 .taken)))
 
 warp-put-requires : tie.Need-warp-put-requires
 warp-put-requires c κs =
-    let t = c .before .before in let k = t .before in let r = warp-ready _ _ _ _ _ _ _ _ _ _ _ _ _ (sym (k .check-warp .ensures) ∙ t .if1 .taken) in
-    let p = sym (k .before .depth-ok .ensures) ∙ r .0 in rw (c .before .depth-numbers .ensures) (r .1, depth-bits _ p, depth-max _ p)
+    let s = c .before .before in let t = s .before in let k = t .before in let r = warp-ready _ _ _ _ _ _ _ _ _ _ _ _ _ (sym (k .check-warp .ensures) ∙ t .if1 .taken) in
+    let p = sym (k .before .depth-ok .ensures) ∙ r .0 in rw (s .top-down .ensures, c .before .depth-numbers .ensures) (r .1, depth-bits _ p, depth-max _ p)
 
 pub hv-warp-affine-8x8-16bpc-spec : {M : Type 1} → Rattle.blocks.proofs.words.warp.hv_warp_affine_8x8_16bpc.Statement.statement M
 hv-warp-affine-8x8-16bpc-spec = tie.close (tie.spec (λ c κs. search needs) (λ c κs. search needs)  -- depth-ok, check-warp
-    (λ c κs. let k = c .before in sym (k .before .depth-ok .ensures) ∙ warp-ready _ _ _ _ _ _ _ _ _ _ _ _ _ (sym (k .check-warp .ensures) ∙ c .if1 .taken) .0)
+    (λ c κs. search needs)  -- top-down, depth-numbers
+    (λ c κs. let t = c .before in let k = t .before in
+    sym (k .before .depth-ok .ensures) ∙ warp-ready _ _ _ _ _ _ _ _ _ _ _ _ _ (sym (k .check-warp .ensures) ∙ t .if1 .taken) .0)
     warp-put-requires (λ c. search needs) returns (λ c. (number (c .before), sym (refused _ _ _ (c .if1 .left)))))  -- same-length, refused

@@ -1,28 +1,28 @@
 use Rattle.blocks.proofs.Usual.{_∙_, refl, arith, needs, w32, w16, told-back}
-use Rattle.blocks.proofs.Laws.Warp.Passes.{taps-in, put-second}
+use Rattle.blocks.proofs.Laws.Warp.Passes.{put-second}
 use Rattle.blocks.proofs.words.warp.warp_put.Tie as tie
 
-warp-mid-requires : tie.Need-warp-mid-requires
-warp-mid-requires c κs =
+warp-first-requires : tie.Need-warp-first-requires
+warp-first-requires c κs =
     let g = c .before .struct-told .given in let s = c .before .before .before .before in
-    rw (told-back w32 (g .1 .1 .1 .1), told-back w16 g, told-back w16 (g .1)) (refl, taps-in (s .pre .0 .src), s .pre .0 .first, s .pre .1)
+    rw (told-back w32 (g .1 .1 .1 .1), told-back w16 g, told-back w16 (g .1)) (refl, s .pre .0 .src, s .pre .0 .first, s .pre .1)
 
 warp-put-rows-requires : tie.Need-warp-put-rows-requires
 warp-put-rows-requires c κs =
     let k = c .before .before .struct-told2 .given in let one = c .before .before .before .before in
     let s = one .before .before .before .before .before in
     rw (told-back w32 (k .1 .1 .1 .1 .1), told-back w16 (k .1 .1), told-back w16 (k .1 .1 .1))
-    (s .pre .0 .dst, omega (arith, one .warp-mid .kept .0), s .pre .0 .second, omega arith, omega arith)
+    (s .pre .0 .dst, omega (arith, one .warp-first .kept .0), s .pre .0 .second, omega arith, omega arith)
 
 returns : tie.Need-returns
 returns c =
     let two = c .before .before in let one = two .before .before .before .before .before in let k = two .before .before .before .struct-told2 .given in
     let s = one .before .before .before .before .before in let g = one .before .before .struct-told .given in
-    let first = rw (told-back w32 (g .1 .1 .1 .1), told-back w16 g, told-back w16 (g .1)) at (one .warp-mid .ensures) in
+    let first = rw (told-back w32 (g .1 .1 .1 .1), told-back w16 g, told-back w16 (g .1)) at (one .warp-first .ensures) in
     (rw (told-back w32 (k .1 .1 .1 .1 .1), told-back w16 (k .1 .1), told-back w16 (k .1 .1 .1)) at (two .warp-put-rows .ensures))
-    ∙ put-second _ _ _ _ _ _ _ _ (s .pre .0 .src .before) _ _ refl first _ _ _ _ _ _ (omega (arith, s .pre .0 .dst))
+    ∙ put-second _ _ _ _ _ _ _ _ _ refl first _ _ _ _ _ _ (omega (arith, s .pre .0 .dst))
 
 pub warp-put-spec : {M : Type 1} → Rattle.blocks.proofs.words.warp.warp_put.Statement.statement M
 warp-put-spec = tie.close (tie.spec
-    (λ c. search needs) (λ c. search needs) (λ c. search needs) (λ c. search needs)  -- 3 * src_stride, 3 * src_stride + 3, src_off - .., mid's length
-    warp-mid-requires (λ c. search needs) warp-put-rows-requires (λ c. search needs) returns)  -- mid's length again, same-length
+    (λ c. search needs)  -- mid's length
+    warp-first-requires (λ c. search needs) warp-put-rows-requires (λ c. search needs) returns)  -- mid's length again, same-length

@@ -1,5 +1,5 @@
 -- Made from crates/blocks/proofs/words/order/kinds/put_kind/Proof.antt by tools/sets: change that.
-use Rattle.blocks.proofs.Usual.{_∙_, ap, arith, needs, fill, putRule, before}
+use Rattle.blocks.proofs.Usual.{_∙_, ap, _*_, _+_, arith, needs, fill, putRule, before}
 use Rattle.rows.specs.Copy.{put}
 use Rattle.blocks.proofs.Laws.Loops.Stands.{around-down}
 use Rattle.blocks.proofs.Laws.Order.Kinds.{copy-ready, subpel-ready, bilin-ready, warp-ready}
@@ -28,9 +28,9 @@ bilin-requires c κs =
 
 warp-requires : tie.Need-warp-put-requires
 warp-requires c κs =
-    let k = c .before .before in
+    let s = c .before in let k = s .before .before in
     let p = k .before .before .before .before .pre in
-    (warp-ready (p .0) (p .1) (k .k3 .given .1), p .2, p .4)
+    rw (s .top-down3 .ensures) (warp-ready (p .0) (p .1) (k .k3 .given .1), p .2, p .4)
 
 copy-returns : tie.Need-returns
 unfolding putRule
@@ -58,16 +58,16 @@ bilin-returns c =
 warp-returns : tie.Need-returns-4
 unfolding putRule before
 warp-returns c =
-    let t = c .before .before .before in
-    let k = t .before .before in
-    let e = k .k3 .given .1 in
-    let z = warp-size (k .before .before .before .before .pre .0) e in
-    rw (z .0, z .1, e) (c .before .before .warp-put .ensures)
+    let s = c .before .before .before .before in let k = s .before .before in
+    let e = k .k3 .given .1 in let b = k .before .before .before .before in let a = b .args in
+    let z = warp-size (b .pre .0) e in
+    rw (z .0, z .1, e) (rw (s .top-down3 .ensures, around-down 3 (a .src .now) (3 * a .l .«src_stride» + 3) (a .l .«src_stride»))
+    at (c .before .before .warp-put .ensures))
 
 pub put-kind-spec : {M : Type 1} → Rattle.blocks.proofs.bytes.order.kinds.put_kind.Statement.statement M
 put-kind-spec = tie.close (tie.spec
     (λ c. omega (arith, c .before .before .pre .0 .src .most)) (λ c. omega (arith, c .before .before .pre .0 .src .most))  -- first
     (λ c. search needs) (λ c κs. search needs) copy-requires (λ c. search needs) subpel-requires (λ c. search needs)  -- enum-told, top-down, enum-known-k
-    (λ c κs. search needs) (λ c κs. search needs) (λ c κs. search needs) bilin-requires (λ c. search needs) warp-requires  -- above, top-down, enum-known-k
+    (λ c κs. search needs) (λ c κs. search needs) (λ c κs. search needs) bilin-requires (λ c. search needs) (λ c κs. search needs) warp-requires  -- above, top-down, enum-known-k
     (λ c. search needs) copy-returns (λ c. search needs) subpel-returns (λ c. search needs) bilin-returns (λ c. search needs)  -- same-length
     warp-returns)
