@@ -1,7 +1,7 @@
 // Where the rows of a source stand, after one another or, with the last row first in memory, before one another.
 ghost use mathlib.Core.Path.{_≡_};
 ghost use Prim.Native.Nat.{_≤_, _<_, _+_, _*_, _^_};
-ghost use Rattle.blocks.specs.inner.Source.{topDown, rowFirst, rowsFrom, lowerRow, cornerOf};
+ghost use Rattle.blocks.specs.inner.Source.{topDown, standAt, rowFirst, rowsFrom, lowerRow, cornerOf};
 
 // The place of row 0's first pixel, and how far each next row stands after it or before it: one of the two is 0.
 pub struct Stand {
@@ -18,6 +18,17 @@ pub fn top_down(off: usize, stride: usize) -> Stand
         off,
         forth: stride,
         back: 0,
+    }
+}
+
+// The same rows, of which row 0 begins at another place.
+pub fn stand_at(s: Stand, off: usize) -> Stand
+    ensures { λ r. ⌜ r ≡ standAt s off ⌝ }
+{
+    Stand {
+        off,
+        forth: s.forth,
+        back: s.back,
     }
 }
 

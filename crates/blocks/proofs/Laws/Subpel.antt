@@ -2,6 +2,7 @@
 pub mod Choice
 pub mod Ready
 pub mod Lines
+pub mod Turned
 pub mod Cases
 pub mod Answers
 pub mod Places

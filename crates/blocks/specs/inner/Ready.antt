@@ -20,6 +20,8 @@ use Rattle.blocks.specs.declared.order.Kind.{Kind}
 use Rattle.blocks.specs.declared.refuse.DepthNumbers.{DepthNumbers}
 use Rattle.blocks.specs.declared.source.Stand.{Stand}
 use Rattle.blocks.specs.declared.warp.Shears.{Shears}
+use Rattle.blocks.specs.declared.source.Stand.{Stand}
+use Rattle.blocks.specs.inner.Source.{Stood}
 
 -- a block of w columns and h rows
 pub record Block (w h : ℕ) : Type 0 where
@@ -145,12 +147,14 @@ pub record Wider (l0 : ℕ) (s0 : Stand) (l1 : ℕ) (s1 : Stand) (w h : ℕ) : T
   pub first : Stood l0 s0 (w + 8) (h + 8)
   pub second : Stood l1 s1 (w + 8) (h + 8)
 
--- an 8-tap block's source, whose first pixel is at place o: the place of each tap is in it, and the filters are in their tables
-pub record Taps (sl o s w h : ℕ) (mx my filterType : ℤ) (tl el : ℕ) : Type 0 where
-  pub wide : w ≤ s
-  pub most : s ≤ 32768
-  pub before : 3 * on my * s + 3 * on mx ≤ o
-  pub last : o + (h - 1 + 4 * on my) * s + (w - 1 + 4 * on mx) < sl
+-- an 8-tap block's source, whose rows stand as s says: the place of each tap is in it, and the filters are in their tables
+pub record Taps (sl : ℕ) (s : Stand) (w h : ℕ) (mx my filterType : ℤ) (tl el : ℕ) : Type 0 where
+  pub wide : w ≤ s .forth + s .back
+  pub forth : s .forth ≤ 32768
+  pub back : s .back ≤ 32768
+  pub one : 0 < s .back → s .forth ≡ 0
+  pub before : 3 * on my * s .forth + (h - 1 + 4 * on my) * s .back + 3 * on mx ≤ s .off
+  pub last : s .off + (h - 1 + 4 * on my) * s .forth + 3 * on my * s .back + (w - 1 + 4 * on mx) < sl
   pub across : Held tl el (filterOf filterType (up mx) w)
   pub down : Held tl el (filterOf filterType (up my) h)
 
@@ -168,11 +172,11 @@ pub record Weighing (l1 l2 w h ml ms mw mh : ℕ) : Type 0 where
   pub mw1 : 1 ≤ mw
   pub mask : Rows ml ms mw mh
 
--- h rows of w into a buffer of dl places, from rows s apart from place o on, with the seven places after each, a step apart
-pub record Lines (dl ds sl o s step w h : ℕ) : Type 0 where
+-- h rows of w into a buffer of dl places, from rows that stand as s says, with the seven places after each, a step apart
+pub record Lines (dl ds sl : ℕ) (s : Stand) (step w h : ℕ) : Type 0 where
   pub w1 : 1 ≤ w
   pub dst : Rows dl ds w h
-  pub src : o + (h - 1) * s + w + 7 * step ≤ sl
+  pub src : Stood sl s (w + 7 * step) h
 
 -- a block of a kind, from a source that begins at its window's first pixel: the window's rows at the stride s in sl places; its numbers, and its filters in
 -- tables of tl, el and wl numbers

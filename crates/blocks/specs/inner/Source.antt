@@ -11,6 +11,10 @@ use Rattle.blocks.specs.declared.source.Stand.{Stand}
 abbrev pub topDown : (off stride : ℕ) → Stand
 topDown off stride = record { off = off; forth = stride; back = 0 }
 
+-- the same rows, of which row 0 begins at place off
+abbrev pub standAt : Stand → (off : ℕ) → Stand
+standAt s off = record { off = off; forth = s .forth; back = s .back }
+
 -- where row j begins
 unfoldable pub rowFirst : Stand → ℕ → ℕ
 rowFirst s j = s .off + j * s .forth - j * s .back

@@ -5,12 +5,14 @@ use mathlib.Core.Bool.{true, false}
 use mathlib.Core.List.{List}
 use lib.ListN.{getD}
 use Rattle.rows.specs.Places.{rowOf}
-use Rattle.rows.specs.Numbers.{half, clip, low16, minus16}
+use Rattle.rows.specs.Numbers.{at, half, clip, low16, minus16}
 use Rattle.rows.specs.Copy.{put, prep}
 use Rattle.rows.specs.Subpel.{Axis, whole, by, filter, family, axis, tapped}
 use Rattle.blocks.specs.declared.subpel.plan.Filter.{Filter}
 use Rattle.blocks.specs.declared.subpel.plan.Filter.the-variants.{Off, Ext, Subpel}
 use Rattle.blocks.specs.declared.subpel.plan.Plan.{Plan}
+use Rattle.blocks.specs.declared.source.Stand.{Stand}
+use Rattle.blocks.specs.inner.Source.{standAt, rowFirst}
 
 -- what each case of the code's filter is: none, or the filter of that number in ext or in subpel
 unfoldable pub axisOf : (subpel ext : List ℤ) → Filter → Axis
@@ -35,21 +37,29 @@ unfoldable pub tapsOf : Axis → List ℤ
 tapsOf whole = rowOf 8 (λ t. pos 0)
 tapsOf (by f) = f
 
--- how the rows of a block are made whose first pixel is at place o of rows s apart: N; whether the vertical filter follows after the horizontal; where
--- the taps of the first filter begin and how far apart they stand, 0 without a filter; put's rounding with one filter; the filters' taps
-abbrev pub byOne : (bits start step round : ℕ) → List ℤ → Plan
-byOne bits start step round f = record { bits = bits; both = false; start = start; step = step; round = round; first = f; second = f }
+-- taps down a column in the order in which their rows stand in memory
+unfoldable pub inMemory : (back : ℕ) → List ℤ → List ℤ
+inMemory zero f = f
+inMemory (suc b) f = rowOf 8 (λ t. at f (7 - t))
 
-unfoldable pub planOf : (o s w h : ℕ) (subpel ext : List ℤ) (filterType : ℤ) (N B : ℕ) (mx my : ℕ) → Plan
-planOf o s w h subpel ext filterType N B zero zero = byOne N o 0 (half N) (tapsOf (axis subpel ext filterType zero h))
-planOf o s w h subpel ext filterType N B zero (suc v) = byOne N (o - 3 * s) s (half N) (tapsOf (axis subpel ext filterType (suc v) h))
-planOf o s w h subpel ext filterType N B (suc u) zero =
-    byOne N (o - 3) 1 (half N + half (N - B)) (tapsOf (axis subpel ext filterType (suc u) w))
-planOf o s w h subpel ext filterType N B (suc u) (suc v) =
+-- how the rows of a block are made whose own rows stand as s says: N; whether the vertical filter follows after the horizontal; where the first taps of the
+-- first filter stand in each row, and how far apart its taps are, 0 without a filter; put's rounding with one filter; the filters' taps
+abbrev pub byOne : (bits : ℕ) → Stand → (step round : ℕ) → List ℤ → Plan
+byOne bits rows step round f = record { bits = bits; both = false; rows = rows; step = step; round = round; first = f; second = f }
+
+-- the first taps of a column are those that stand lowest in memory: three rows after one another before the block's, or four before one another after it
+unfoldable pub planOf : Stand → (w h : ℕ) (subpel ext : List ℤ) (filterType : ℤ) (N B : ℕ) (mx my : ℕ) → Plan
+planOf s w h subpel ext filterType N B zero zero = byOne N s 0 (half N) (tapsOf (axis subpel ext filterType zero h))
+planOf s w h subpel ext filterType N B zero (suc v) =
+    byOne N (standAt s (s .off - (3 * s .forth + 4 * s .back))) (s .forth + s .back) (half N)
+    (inMemory (s .back) (tapsOf (axis subpel ext filterType (suc v) h)))
+planOf s w h subpel ext filterType N B (suc u) zero =
+    byOne N (standAt s (s .off - 3)) 1 (half N + half (N - B)) (tapsOf (axis subpel ext filterType (suc u) w))
+planOf s w h subpel ext filterType N B (suc u) (suc v) =
     record {
       bits = N;
       both = true;
-      start = o - (3 * s + 3);
+      rows = standAt s (s .off + 3 * s .back - (3 * s .forth + 3));
       step = 1;
       round = half N + half (N - B);
       first = tapsOf (axis subpel ext filterType (suc u) w);
@@ -65,15 +75,23 @@ unfoldable pub prepLine : (B P : ℕ) (f : List ℤ) (n step : ℕ) → (ℕ →
 prepLine B P f n zero x = prep B P (x 0)
 prepLine B P f n (suc s) x = minus16 (low16 (tapped f (half n) n (λ t. pos (x t)))) (pos P)
 
--- these pixels, for column i of row j of rows s apart
-abbrev pub along : List ℕ → (start s step i j : ℕ) → ℕ → ℕ
-along src start s step i j t = getD src (start + j * s + i + t * step) 0
+-- these pixels, for column i of row j of rows that stand so
+abbrev pub along : List ℕ → Stand → (step i j : ℕ) → ℕ → ℕ
+along src s step i j t = getD src (rowFirst s j + i + t * step) 0
 
 -- the first of two passes: column i of row j of the plan's intermediates
-abbrev pub firstPass : Plan → (B : ℕ) → List ℕ → (s i j : ℕ) → ℤ
-firstPass p B src s i j = prepLine B 0 (p .first) (p .bits - B) (p .step) (along src (p .start) s (p .step) i j)
+abbrev pub firstPass : Plan → (B : ℕ) → List ℕ → (i j : ℕ) → ℤ
+firstPass p B src i j = prepLine B 0 (p .first) (p .bits - B) (p .step) (along src (p .rows) (p .step) i j)
 
--- the plan from another place on
-abbrev pub planFrom : Plan → (start : ℕ) → Plan
-planFrom p start =
-    record { bits = p .bits; both = p .both; start = start; step = p .step; round = p .round; first = p .first; second = p .second }
+-- the plan from row y on
+abbrev pub planFrom : Plan → (y : ℕ) → Plan
+planFrom p y =
+    record {
+      bits = p .bits;
+      both = p .both;
+      rows = standAt (p .rows) (rowFirst (p .rows) y);
+      step = p .step;
+      round = p .round;
+      first = p .first;
+      second = p .second;
+    }

@@ -9,6 +9,7 @@ ghost use Rattle.rows.specs.Places.{fill};
 ghost use Rattle.rows.specs.Subpel.{tapped};
 ghost use Rattle.rows.specs.inner.Subpel.{Near};
 ghost use Rattle.blocks.specs.inner.Ready.{Lines};
+ghost use Rattle.blocks.specs.inner.Source.{topDown};
 use rows::numbers::half_power;
 use rows::subpel::mid_prep_row;
 
@@ -24,7 +25,7 @@ pub fn mid_prep_lines(
     w: usize,
     h: usize,
 )
-    requires { ⌜ Lines (length (now tmp)) «tmp_stride» (length (now mid)) 0 64 64 w h × (near ≡ true → Near (now f)) × (n ≤ 7) × (bias ≤ 8192) ⌝ }
+    requires { ⌜ Lines (length (now tmp)) «tmp_stride» (length (now mid)) (topDown 0 64) 64 w h × (near ≡ true → Near (now f)) × (n ≤ 7) × (bias ≤ 8192) ⌝ }
     ensures { λ _. ⌜ now (tmp .exit)
         ≡ fill (now (tmp .entry)) «tmp_stride» w h
         (λ i j. minus16 (low16 (tapped (now (f .entry)) (half n) n (λ t. at (now (mid .entry)) (j * 64 + i + t * 64)))) (pos bias)) ⌝ }

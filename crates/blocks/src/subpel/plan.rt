@@ -1,12 +1,12 @@
 // The tests of 8-tap, the filter of an axis, and the plan of a block: which of the four cases it is.
 ghost use mathlib.Core.Path.{_≡_};
-ghost use Prim.Native.Nat.{_+_, _*_, _≤_};
+ghost use Prim.Native.Nat.{_+_, _*_, _^_, _≤_, _<_};
 ghost use lib.ListN.{length};
 ghost use Rattle.rows.specs.Numbers.{up};
 ghost use Rattle.rows.specs.Subpel.{filterBits};
 ghost use Rattle.blocks.specs.Refuse.{need, lowest, reads, wholeFilters};
 ghost use Rattle.blocks.specs.Subpel.{typeOk, fractionOk, subpelOk, filterIn, on, subpelTests};
-ghost use Rattle.blocks.specs.inner.Subpel.{axisOf, filterOf, Held, tapsOf, byOne, planOf, planFrom};
+ghost use Rattle.blocks.specs.inner.Subpel.{axisOf, filterOf, Held, tapsOf, inMemory, byOne, planOf, planFrom};
 use crate::numbers::on_axis;
 use crate::numbers::up32;
 use crate::refuse::Layout;
@@ -15,6 +15,9 @@ use crate::refuse::needed;
 use crate::refuse::reads_around;
 use crate::refuse::sizes;
 use crate::refuse::stride;
+use crate::source::Stand;
+use crate::source::row_first;
+use crate::source::stand_at;
 use rows::numbers::half_power;
 use rows::subpel::eight;
 
@@ -156,25 +159,41 @@ fn filter_bits(filter_type: i32) -> u32
     if filter_type < 0 { 7 } else { 6 }
 }
 
-// How the rows of a block are made: N, whether the second filter follows, where the taps of the first begin and how far apart they stand, put's
-// rounding with one filter, and the taps.
+// Taps down a column in the order in which their rows stand in memory: the other way round where each row stands before the one above it.
+fn in_memory(f: [i8; 8], back: usize) -> [i8; 8]
+    ensures { λ r. ⌜ r ≡ inMemory back f ⌝ }
+{
+    if back == 0 {
+        return f;
+    }
+    let mut r = [0i8; 8];
+    let mut t = 0;
+    while t < 8 {
+        r[t] = f[7 - t];
+        t += 1;
+    }
+    r
+}
+
+// How the rows of a block are made: N, whether the second filter follows, where the first taps of the first filter stand in each row and how far apart its
+// taps are, put's rounding with one filter, and the taps.
 pub struct Plan {
     pub bits: u32,
     pub both: bool,
-    pub start: usize,
+    pub rows: Stand,
     pub step: usize,
     pub round: u32,
     pub first: [i8; 8],
     pub second: [i8; 8],
 }
 
-fn by_one(bits: u32, start: usize, step: usize, round: u32, f: [i8; 8]) -> Plan
-    ensures { λ r. ⌜ r ≡ byOne bits start step round f ⌝ }
+fn by_one(bits: u32, rows: Stand, step: usize, round: u32, f: [i8; 8]) -> Plan
+    ensures { λ r. ⌜ r ≡ byOne bits rows step round f ⌝ }
 {
     Plan {
         bits,
         both: false,
-        start,
+        rows,
         step,
         round,
         first: f,
@@ -184,8 +203,7 @@ fn by_one(bits: u32, start: usize, step: usize, round: u32, f: [i8; 8]) -> Plan
 
 // The four cases.
 pub fn plan_8tap(
-    o: usize,
-    s: usize,
+    s: Stand,
     w: usize,
     h: usize,
     m: SubpelMotion,
@@ -193,10 +211,10 @@ pub fn plan_8tap(
     subpel: &[i8],
     ext: &[i8],
 ) -> Plan
-    requires { ⌜ (b ≤ 4) × (3 * on (m .my) * s + 3 * on (m .mx) ≤ o)
+    requires { ⌜ (b ≤ 4) × (3 * on (m .my) * s .forth + 4 * on (m .my) * s .back + 3 * on (m .mx) ≤ s .off) × (s .off + 3 * on (m .my) * s .back < 2 ^ 64)
         × Held (length (now subpel)) (length (now ext)) (filterOf (m .«filter_type») (up (m .mx)) w)
         × Held (length (now subpel)) (length (now ext)) (filterOf (m .«filter_type») (up (m .my)) h) ⌝ }
-    ensures { λ r. ⌜ r ≡ planOf o s w h (now (subpel .entry)) (now (ext .entry))
+    ensures { λ r. ⌜ r ≡ planOf s w h (now (subpel .entry)) (now (ext .entry))
         (m .«filter_type») (filterBits (m .«filter_type»)) b (up (m .mx)) (up (m .my)) ⌝ }
 {
     let t = m.filter_type;
@@ -208,18 +226,22 @@ pub fn plan_8tap(
     let round = half_power(n);
     if x == 0 {
         if y == 0 {
-            return by_one(n, o, 0, round, g);
+            return by_one(n, s, 0, round, g);
         }
-        return by_one(n, o - 3 * s, s, round, g);
+        let low = stand_at(s, s.off - (3 * s.forth + 4 * s.back));
+        let g = in_memory(g, s.back);
+        return by_one(n, low, s.forth + s.back, round, g);
     }
     let round = round + half_power(n - b);
     if y == 0 {
-        return by_one(n, o - 3, 1, round, f);
+        let left = stand_at(s, s.off - 3);
+        return by_one(n, left, 1, round, f);
     }
+    let above = stand_at(s, s.off + 3 * s.back - (3 * s.forth + 3));
     Plan {
         bits: n,
         both: true,
-        start: o - (3 * s + 3),
+        rows: above,
         step: 1,
         round,
         first: f,
@@ -227,16 +249,19 @@ pub fn plan_8tap(
     }
 }
 
-// The same from another place of the source on.
-pub fn plan_from(p: Plan, start: usize) -> Plan
-    ensures { λ r. ⌜ r ≡ planFrom p start ⌝ }
+// The same from row y on.
+pub fn plan_from(p: Plan, y: usize) -> Plan
+    requires { ⌜ (y * p .rows .back ≤ p .rows .off) × (p .rows .off + y * p .rows .forth < 2 ^ 64) ⌝ }
+    ensures { λ r. ⌜ r ≡ planFrom p y ⌝ }
 {
+    let s = p.rows;
+    let rows = stand_at(s, row_first(s, y));
     let first = p.first;
     let second = p.second;
     Plan {
         bits: p.bits,
         both: p.both,
-        start,
+        rows,
         step: p.step,
         round: p.round,
         first,

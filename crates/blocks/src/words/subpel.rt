@@ -3,10 +3,11 @@ ghost use mathlib.Core.Path.{_≡_};
 ghost use Prim.Native.Nat.{_+_};
 ghost use lib.ListN.{length};
 ghost use Rattle.rows.specs.Numbers.{up};
-ghost use Rattle.rows.specs.Places.{fill, around};
+ghost use Rattle.rows.specs.Places.{fill};
 ghost use Rattle.rows.specs.inner.words.Pixel.{BitsOk, BiasOk, MaxOk};
 ghost use Rattle.blocks.specs.words.Depth.{depthOk};
 ghost use Rattle.blocks.specs.inner.Ready.{Block, Rows, Taps};
+ghost use Rattle.blocks.specs.inner.Source.{aroundIn};
 ghost use Rattle.blocks.specs.Subpel.{put8Rule, prep8Rule, Put8Answer, Prep8Answer};
 use super::depth::depth_numbers;
 use super::depth::depth_ok;
@@ -16,6 +17,8 @@ use super::subpel::lines::prep_lines;
 use super::subpel::lines::put_lines;
 use crate::refuse::DepthNumbers;
 use crate::refuse::Layout;
+use crate::source::Stand;
+use crate::source::top_down;
 use crate::subpel::plan::SubpelMotion;
 use crate::subpel::plan::check_8tap;
 use crate::subpel::plan::plan_8tap;
@@ -29,30 +32,29 @@ pub fn put_8tap_rows(
     d: DepthNumbers,
     dst: &mut [Pixel],
     src: &[Pixel],
-    o: usize,
+    s: Stand,
     l: Layout,
     m: SubpelMotion,
     subpel: &[i8],
     ext: &[i8],
 )
     requires { ⌜ Block (l .w) (l .h) × Rows (length (now dst)) (l .«dst_stride») (l .w) (l .h)
-        × Taps (length (now src)) o (l .«src_stride») (l .w) (l .h) (m .mx) (m .my) (m .«filter_type») (length (now subpel)) (length (now ext))
+        × Taps (length (now src)) s (l .w) (l .h) (m .mx) (m .my) (m .«filter_type») (length (now subpel)) (length (now ext))
         × BitsOk (d .bits) × BiasOk (d .bias) × MaxOk (d .max) ⌝ }
     ensures { λ _. ⌜ now (dst .exit)
         ≡ fill (now (dst .entry)) (l .«dst_stride») (l .w) (l .h)
         (λ i j. put8Rule (d .max) (d .bits) (now (subpel .entry)) (now (ext .entry)) (m .mx) (m .my) (m .«filter_type») (l .w) (l .h)
-        (around 3 (now (src .entry)) o (l .«src_stride») i j)) ⌝ }
+        (aroundIn 3 (now (src .entry)) s i j)) ⌝ }
 {
     let bits = d.bits;
     let w = l.w;
     let h = l.h;
-    let s = l.src_stride;
-    let p = plan_8tap(o, s, w, h, m, bits, subpel, ext);
+    let p = plan_8tap(s, w, h, m, bits, subpel, ext);
     if p.both {
-        put_8tap_both(d, dst, l.dst_stride, src, s, p, w, h);
+        put_8tap_both(d, dst, l.dst_stride, src, p, w, h);
         return;
     }
-    put_lines(dst, l.dst_stride, src, s, p, d.max, w, h);
+    put_lines(dst, l.dst_stride, src, p, d.max, w, h);
 }
 
 // The same of intermediates.
@@ -60,30 +62,29 @@ pub fn prep_8tap_rows(
     d: DepthNumbers,
     tmp: &mut [i16],
     src: &[Pixel],
-    o: usize,
+    s: Stand,
     l: Layout,
     m: SubpelMotion,
     subpel: &[i8],
     ext: &[i8],
 )
     requires { ⌜ Block (l .w) (l .h) × Rows (length (now tmp)) (l .«dst_stride») (l .w) (l .h)
-        × Taps (length (now src)) o (l .«src_stride») (l .w) (l .h) (m .mx) (m .my) (m .«filter_type») (length (now subpel)) (length (now ext))
+        × Taps (length (now src)) s (l .w) (l .h) (m .mx) (m .my) (m .«filter_type») (length (now subpel)) (length (now ext))
         × BitsOk (d .bits) × BiasOk (d .bias) ⌝ }
     ensures { λ _. ⌜ now (tmp .exit)
         ≡ fill (now (tmp .entry)) (l .«dst_stride») (l .w) (l .h)
         (λ i j. prep8Rule (d .bits) (d .bias) (now (subpel .entry)) (now (ext .entry)) (m .mx) (m .my) (m .«filter_type») (l .w) (l .h)
-        (around 3 (now (src .entry)) o (l .«src_stride») i j)) ⌝ }
+        (aroundIn 3 (now (src .entry)) s i j)) ⌝ }
 {
     let bits = d.bits;
     let w = l.w;
     let h = l.h;
-    let s = l.src_stride;
-    let p = plan_8tap(o, s, w, h, m, bits, subpel, ext);
+    let p = plan_8tap(s, w, h, m, bits, subpel, ext);
     if p.both {
-        prep_8tap_both(d, tmp, l.dst_stride, src, s, p, w, h);
+        prep_8tap_both(d, tmp, l.dst_stride, src, p, w, h);
         return;
     }
-    prep_lines(tmp, l.dst_stride, src, s, p, bits, d.bias, w, h);
+    prep_lines(tmp, l.dst_stride, src, p, bits, d.bias, w, h);
 }
 
 #[no_mangle]
@@ -128,7 +129,8 @@ pub extern "C" fn hv_put_8tap_16bpc(
     );
     if number == 0 {
         let d = depth_numbers(depth);
-        put_8tap_rows(d, dst, src, src_off, l, m, subpel, ext);
+        let s = top_down(src_off, src_stride);
+        put_8tap_rows(d, dst, src, s, l, m, subpel, ext);
     }
     number
 }
@@ -175,7 +177,8 @@ pub extern "C" fn hv_prep_8tap_16bpc(
     );
     if number == 0 {
         let d = depth_numbers(depth);
-        prep_8tap_rows(d, tmp, src, src_off, l, m, subpel, ext);
+        let s = top_down(src_off, src_stride);
+        prep_8tap_rows(d, tmp, src, s, l, m, subpel, ext);
     }
     number
 }

@@ -179,6 +179,25 @@ group {dl} {ds} {sl} {o} {s} {c} {x} {w} {h} y k rows reads lt e =
       dst = omega (arith, add-mul y (k - 1) ds, row-fits dl ds w h (y + (k - 1)) (rows .fits) (omega arith));
     }
 
+-- the same of the destination alone
+pub record GroupTo (dl ds w h y k : ℕ) : Type 0 where
+  pub some : 1 ≤ k
+  pub most : k ≤ 8
+  pub left : y + k ≤ h
+  pub whole : y + k < h → k ≡ 8
+  pub dst : y * ds + (k - 1) * ds + w ≤ dl
+
+pub group-to : {dl ds w h : ℕ} (y k : ℕ) → Rows dl ds w h → y < h → k ≡ min 8 (h - y) → GroupTo dl ds w h y k
+group-to {dl} {ds} {w} {h} y k rows lt e =
+    let a : (1 ≤ k) × (k ≤ 8) × (y + k ≤ h) = omega arith in
+    record {
+      some = a .0;
+      most = a .1;
+      left = a .2;
+      whole = λ b. omega arith;
+      dst = omega (arith, add-mul y (k - 1) ds, row-fits dl ds w h (y + (k - 1)) (rows .fits) (omega arith));
+    }
+
 -- the first y rows of the destination are the picture F's, and the array has the c rows of G that the next ones begin with
 module _ {A : Type 0} where
   pub record Grouped (c ml s w : ℕ) (F : ℕ → ℕ → A) (G : ℕ → ℕ → ℤ) (d₀ : List A) (h : ℕ) (d : List A) (m : List ℤ) (y : ℕ) : Type 0 where

@@ -14,7 +14,7 @@ use Rattle.blocks.specs.declared.order.Kind.the-variants.{Copy, Subpel, 
 use Rattle.blocks.specs.declared.subpel.plan.SubpelMotion.{SubpelMotion}
 use Rattle.blocks.specs.declared.order.BilinMotion.{BilinMotion}
 use Rattle.blocks.specs.declared.warp.Shears.{Shears}
-use Rattle.blocks.proofs.Laws.Subpel.Ready.{held}
+use Rattle.blocks.proofs.Laws.Subpel.Ready.{held, taps-down}
 use Rattle.blocks.proofs.Laws.Bilinear.Ready.{sixteenth-met}
 use Rattle.blocks.proofs.Laws.Calls.Told.{Told, passed, told-one}
 use Rattle.blocks.proofs.Laws.Warp.Ready.{passes}
@@ -88,7 +88,7 @@ module _ {k : Kind} {sl s w h tl el wl dl ds : ℕ} (p : Windowed k sl s w h tl 
       (p .block, dst, stood-from (r .most) (omega arith))
 
   pub subpel-ready : {m : SubpelMotion} → k ≡ Subpel m
-      → Block w h × Rows dl ds w h × Taps sl (3 * s + 3) s w h (m .mx) (m .my) (m .«filter_type») tl el
+      → Block w h × Rows dl ds w h × Taps sl (topDown (3 * s + 3) s) w h (m .mx) (m .my) (m .«filter_type») tl el
   unfolding before after motionOk filtersOk
   subpel-ready {m} e =
       let t = m .«filter_type» in
@@ -99,14 +99,9 @@ module _ {k : Kind} {sl s w h tl el wl dl ds : ℕ} (p : Windowed k sl s w h tl 
       let z : 3 + h + 4 - 1 ≡ h - 1 + 7 = omega (arith, p .block) in (
         p .block,
         dst,
-        record {
-          wide = omega (arith, q .src .wide);
-          most = q .src .most;
-          before = taps-before s (on (m .mx)) (on (m .my)) (omega arith) (omega arith);
-          last = taps-last sl s w (h - 1) (on (m .mx)) (on (m .my)) (p .block .w1) (omega arith) (omega arith) (rw z at (q .src .fits));
-          across = held t (m .mx) w tl el (n .0) (f .0) (p .subpel) (i .0);
-          down = held t (m .my) h tl el (n .0) (f .1) (p .subpel) (i .1);
-        },
+        taps-down (omega (arith, q .src .wide)) (q .src .most) (taps-before s (on (m .mx)) (on (m .my)) (omega arith) (omega arith))
+            (taps-last sl s w (h - 1) (on (m .mx)) (on (m .my)) (p .block .w1) (omega arith) (omega arith) (rw z at (q .src .fits)))
+            (held t (m .mx) w tl el (n .0) (f .0) (p .subpel) (i .0)) (held t (m .my) h tl el (n .0) (f .1) (p .subpel) (i .1)),
       )
 
   pub bilin-ready : {m : BilinMotion} → k ≡ Bilinear m → Bilin dl ds sl (topDown 0 s) w h (up (m .mx)) (up (m .my))

@@ -2,7 +2,9 @@
 use Rattle.blocks.proofs.Usual.{true, List, _≡_, refl, ap, ℕ, _≤_, _*_, _+_, _-_, _<_, suc, zero, _%_, arith, le-ltb, lt-ltb, pos, ℤ, negsuc, up, half}
 use Rattle.blocks.proofs.Usual.{dn}
 use Rattle.rows.specs.Subpel.{family, axis, filterBits}
-use Rattle.blocks.specs.inner.Subpel.{axisOf, filterOf, tapsOf, byOne, planOf}
+use Rattle.blocks.specs.inner.Subpel.{axisOf, filterOf, tapsOf, inMemory, byOne, planOf}
+use Rattle.blocks.specs.inner.Source.{standAt}
+use Rattle.blocks.specs.declared.source.Stand.{Stand}
 use Rattle.blocks.specs.declared.subpel.plan.Filter.the-variants.{Off, Ext, Subpel}
 
 -- ---- the filter of an axis
@@ -49,42 +51,46 @@ pub bits-fit : (t : ℤ) → (6 ≤ filterBits t) × (filterBits t ≤ 7)
 bits-fit (pos t) = omega arith
 bits-fit (negsuc t) = omega arith
 
--- ---- the four cases, by which fractions are 0: n is N, r and q its halves, f and g the taps
-module _ (o s w h : ℕ) (subpel ext : List ℤ) (t : ℤ) (N B x y : ℕ) {n r : ℕ} (n-is : n ≡ N) (r-is : r ≡ half N) where
-  pub plan-none : {g : List ℤ} → g ≡ tapsOf (axis subpel ext t y h) → x ≡ 0 → y ≡ 0 → byOne n o 0 r g ≡ planOf o s w h subpel ext t N B x y
+-- ---- the four cases, by which fractions are 0: n is N, r and q its halves, f and g the taps, a where the first taps stand
+module _ (s : Stand) (w h : ℕ) (subpel ext : List ℤ) (t : ℤ) (N B x y : ℕ) {n r : ℕ} (n-is : n ≡ N) (r-is : r ≡ half N) where
+  pub plan-none : {g : List ℤ} → g ≡ tapsOf (axis subpel ext t y h) → x ≡ 0 → y ≡ 0 → byOne n s 0 r g ≡ planOf s w h subpel ext t N B x y
   unfolding planOf
   plan-none g-is e f = rw (n-is, r-is, g-is, e, f) refl
 
-  pub plan-down : {g : List ℤ} → g ≡ tapsOf (axis subpel ext t y h) → x ≡ 0 → 0 < y → byOne n (o - 3 * s) s r g ≡ planOf o s w h subpel ext t N B x y
+  pub plan-down : {a : Stand} {g : List ℤ} → a ≡ standAt s (s .off - (3 * s .forth + 4 * s .back)) → g ≡ inMemory (s .back) (tapsOf (axis subpel ext t y h))
+      → x ≡ 0 → 0 < y → byOne n a (s .forth + s .back) r g ≡ planOf s w h subpel ext t N B x y
   unfolding planOf
-  plan-down g-is e f = rw (n-is, r-is, g-is, e) (more y f) where
-    more : (y : ℕ) → 0 < y → byOne N (o - 3 * s) s (half N) (tapsOf (axis subpel ext t y h)) ≡ planOf o s w h subpel ext t N B 0 y
+  plan-down a-is g-is e f = rw (n-is, r-is, a-is, g-is, e) (more y f) where
+    more : (y : ℕ) → 0 < y
+        → byOne N (standAt s (s .off - (3 * s .forth + 4 * s .back))) (s .forth + s .back) (half N) (inMemory (s .back) (tapsOf (axis subpel ext t y h)))
+        ≡ planOf s w h subpel ext t N B 0 y
     more zero f = absurd (omega arith)
     more (suc y) f = refl
 
-  module _ {q : ℕ} {f : List ℤ} (q-is : q ≡ half (N - B)) (f-is : f ≡ tapsOf (axis subpel ext t x w)) where
-    pub plan-across : 0 < x → y ≡ 0 → byOne n (o - 3) 1 (r + q) f ≡ planOf o s w h subpel ext t N B x y
+  module _ {q : ℕ} {a : Stand} {f : List ℤ} (q-is : q ≡ half (N - B)) (f-is : f ≡ tapsOf (axis subpel ext t x w)) where
+    pub plan-across : a ≡ standAt s (s .off - 3) → 0 < x → y ≡ 0 → byOne n a 1 (r + q) f ≡ planOf s w h subpel ext t N B x y
     unfolding planOf
-    plan-across e z = rw (n-is, r-is, q-is, f-is, z) (more x e) where
-      more : (x : ℕ) → 0 < x → byOne N (o - 3) 1 (half N + half (N - B)) (tapsOf (axis subpel ext t x w)) ≡ planOf o s w h subpel ext t N B x 0
+    plan-across a-is e z = rw (n-is, r-is, q-is, a-is, f-is, z) (more x e) where
+      more : (x : ℕ) → 0 < x
+          → byOne N (standAt s (s .off - 3)) 1 (half N + half (N - B)) (tapsOf (axis subpel ext t x w)) ≡ planOf s w h subpel ext t N B x 0
       more zero e = absurd (omega arith)
       more (suc x) e = refl
 
-    pub plan-both : {g : List ℤ} → g ≡ tapsOf (axis subpel ext t y h) → 0 < x → 0 < y
-        → record { bits = n; both = true; start = o - (3 * s + 3); step = 1; round = r + q; first = f; second = g } ≡ planOf o s w h subpel ext t N B x y
+    pub plan-both : {g : List ℤ} → a ≡ standAt s (s .off + 3 * s .back - (3 * s .forth + 3)) → g ≡ tapsOf (axis subpel ext t y h) → 0 < x → 0 < y
+        → record { bits = n; both = true; rows = a; step = 1; round = r + q; first = f; second = g } ≡ planOf s w h subpel ext t N B x y
     unfolding planOf
-    plan-both g-is e z = rw (n-is, r-is, q-is, f-is, g-is) (more x y e z) where
+    plan-both a-is g-is e z = rw (n-is, r-is, q-is, a-is, f-is, g-is) (more x y e z) where
       more : (x y : ℕ) → 0 < x → 0 < y
           → record {
             bits = N;
             both = true;
-            start = o - (3 * s + 3);
+            rows = standAt s (s .off + 3 * s .back - (3 * s .forth + 3));
             step = 1;
             round = half N + half (N - B);
             first = tapsOf (axis subpel ext t x w);
             second = tapsOf (axis subpel ext t y h);
           }
-          ≡ planOf o s w h subpel ext t N B x y
+          ≡ planOf s w h subpel ext t N B x y
       more zero y e f = absurd (omega arith)
       more (suc x) zero e f = absurd (omega arith)
       more (suc x) (suc y) e f = refl

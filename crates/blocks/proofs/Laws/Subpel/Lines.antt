@@ -1,11 +1,13 @@
 -- 8-tap: the rows of a block by one filter at most, and the turns of the loops over them. Assumes nothing.
 use Rattle.blocks.proofs.Usual.{List, _≡_, refl, ap, ℕ, _≤_, _*_, _+_, _-_, _<_, _^_, suc, zero, arith, pos, ℤ, length, getD, clip, minus16, half, low16}
-use Rattle.blocks.proofs.Usual.{span, rowOf, row-same, row-fits, Filled, row-in, filled-span}
+use Rattle.blocks.proofs.Usual.{span, rowOf, row-same, Filled, row-in, filled-span}
 use native.Mathlib.Nat.{pow-le-pow-right}
 use Rattle.rows.specs.Copy.{put, prep}
 use Rattle.rows.specs.Subpel.{tapped}
 use Rattle.blocks.specs.inner.Ready.{Lines}
 use Rattle.blocks.specs.inner.Subpel.{putLine, prepLine}
+use Rattle.blocks.specs.declared.source.Stand.{Stand}
+use Rattle.blocks.proofs.Laws.Loops.Stands.{StoodRow, stood-row}
 
 -- ---- the rounding of a shift by n
 pub half-le : (n k : ℕ) → n ≤ k → 2 * half n ≤ 2 ^ k
@@ -16,17 +18,17 @@ half-short {r} {n} e h = omega (arith, half-le n 7 h)
 
 -- ---- in a turn at row y of a loop, the row is within both buffers, and the part lent is as long as the row
 module _ {A : Type 0} where
-  pub record Turn (d : List A) (ds sl o s step w y : ℕ) : Type 0 where
+  pub record Turn (d : List A) (ds sl : ℕ) (s : Stand) (step w y : ℕ) : Type 0 where
     pub dst : y * ds + w ≤ length d
-    pub src : o + y * s + w + 7 * step ≤ sl
+    pub src : StoodRow sl s (w + 7 * step) y
     pub long : length (span d (y * ds) (y * ds + w)) ≡ w
 
-  pub turn : (z : A) {ds sl o s step w h y : ℕ} {f : ℕ → ℕ → A} {d₀ d : List A} → Lines (length d₀) ds sl o s step w h → Filled ds w f d₀ h y d → y < h
-      → Turn d ds sl o s step w y
-  turn z {ds} {sl} {o} {s} {step} {w} {h} {y} {f} {d₀} {d} p g lt =
+  pub turn : (z : A) {ds sl : ℕ} {s : Stand} {step w h y : ℕ} {f : ℕ → ℕ → A} {d₀ d : List A} → Lines (length d₀) ds sl s step w h → Filled ds w f d₀ h y d
+      → y < h → Turn d ds sl s step w y
+  turn z {ds} {sl} {s} {step} {w} {h} {y} {f} {d₀} {d} p g lt =
       record {
         dst = omega (arith, row-in y (p .dst) lt, g);
-        src = omega (arith, row-fits sl s (o + w + 7 * step) h y (omega (arith, p .src)) lt);
+        src = stood-row y (p .src) lt;
         long = filled-span z g (p .dst) lt;
       }
 

@@ -1,10 +1,11 @@
 -- 8-tap: the tests in two parts, as the code makes them, and what they tell where none refuses. Assumes nothing.
-use Rattle.blocks.proofs.Usual.{true, Bool, false, _&&_, List, [], _∷_, _≡_, _∙_, refl, sym, ℕ, _≤_, _*_, _+_, _-_, suc, zero, arith, leb-true, le-ltb}
+use Rattle.blocks.proofs.Usual.{true, Bool, false, _&&_, List, [], _∷_, _≡_, _∙_, refl, sym, ℕ, _≤_, _*_, _+_, _-_, _<_, suc, zero, arith, leb-true, le-ltb}
 use Rattle.blocks.proofs.Usual.{eqb-true, ltb-true, leb, ltb, pos, ℤ, negsuc, leZ, up, lowest, Test, _asks_, blockSide, stride, size, strideOk, sizeOk}
 use Rattle.blocks.proofs.Usual.{reads, Rows, Block, and-true, by-lt, rows-met, block-met, all-met, stride-met}
 use mathlib.Core.Bool.{_||_}
 use Rattle.rows.specs.Subpel.{family}
 use Rattle.blocks.specs.inner.Ready.{Taps}
+use Rattle.blocks.specs.inner.Source.{topDown}
 use Rattle.blocks.specs.Subpel.{typeOk, sixteenthOk, fractionOk, subpelOk, filterIn, on, subpelTests}
 use Rattle.blocks.specs.inner.Subpel.{filterOf, Held}
 use Rattle.blocks.proofs.Laws.Subpel.Choice.{family-low, family-high}
@@ -43,8 +44,24 @@ held (pos t) (pos (suc f)) side tl el a b c d =
     let n = leb-true (suc f) 15 (and-true (leb 0 (suc f)) (leb (suc f) 15) q .1) in
     omega (arith, eqb-true tl 600 c)
 
+-- a source whose rows stand a stride apart
+pub taps-down : {sl o ss w h : ℕ} {mx my t : ℤ} {tl el : ℕ} → w ≤ ss → ss ≤ 32768 → 3 * on my * ss + 3 * on mx ≤ o
+    → o + (h - 1 + 4 * on my) * ss + (w - 1 + 4 * on mx) < sl → Held tl el (filterOf t (up mx) w) → Held tl el (filterOf t (up my) h)
+    → Taps sl (topDown o ss) w h mx my t tl el
+taps-down wide most before last across down =
+    record {
+      wide = omega arith;
+      forth = most;
+      back = omega arith;
+      one = λ b. absurd (omega arith);
+      before = omega arith;
+      last = omega arith;
+      across = across;
+      down = down;
+    }
+
 pub subpel-ready : (deep : Bool) (dl ds sl o ss w h : ℕ) (mx my t : ℤ) (tl el : ℕ) → lowest (subpelTests deep dl ds sl o ss w h mx my t tl el) ≡ 0
-    → (deep ≡ true) × Block w h × Rows dl ds w h × Taps sl o ss w h mx my t tl el
+    → (deep ≡ true) × Block w h × Rows dl ds w h × Taps sl (topDown o ss) w h mx my t tl el
 unfolding reads
 subpel-ready deep dl ds sl o ss w h mx my t tl el e =
     let m = all-met (subpelTests deep dl ds sl o ss w h mx my t tl el) e in
@@ -57,12 +74,6 @@ subpel-ready deep dl ds sl o ss w h mx my t tl el e =
       s .1 .1 .0,
       block-met w h (m .0) (m .1 .0),
       rows-met dl ds w h (s .0) (z .1 .0),
-      record {
-        wide = p .0;
-        most = p .1;
-        before = leb-true _ _ (r .0);
-        last = ltb-true _ _ (r .1);
-        across = held t mx w tl el (n .0) (n .1 .0) (q .0) (q .1 .1 .0);
-        down = held t my h tl el (n .0) (n .1 .1 .0) (q .0) (q .1 .1 .1 .0);
-      },
+      taps-down (p .0) (p .1) (leb-true _ _ (r .0)) (ltb-true _ _ (r .1)) (held t mx w tl el (n .0) (n .1 .0) (q .0) (q .1 .1 .0))
+          (held t my h tl el (n .0) (n .1 .1 .0) (q .0) (q .1 .1 .1 .0)),
     )

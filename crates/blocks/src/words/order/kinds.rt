@@ -47,7 +47,10 @@ pub fn put_kind(
             let first = top_down(0, s);
             put_rows(dst, l.dst_stride, src, first, w, h)
         }
-        Kind::Subpel(m) => put_8tap_rows(d, dst, src, o, l, m, subpel, ext),
+        Kind::Subpel(m) => {
+            let first = top_down(o, s);
+            put_8tap_rows(d, dst, src, first, l, m, subpel, ext)
+        }
         Kind::Bilinear(m) => {
             let f = up32(m.mx);
             let g = up32(m.my);
@@ -87,7 +90,10 @@ pub fn prep_kind(
             let first = top_down(0, s);
             prep_rows(d, tmp, l.dst_stride, src, first, w, h)
         }
-        Kind::Subpel(m) => prep_8tap_rows(d, tmp, src, o, l, m, subpel, ext),
+        Kind::Subpel(m) => {
+            let first = top_down(o, s);
+            prep_8tap_rows(d, tmp, src, first, l, m, subpel, ext)
+        }
         Kind::Bilinear(m) => {
             let f = up32(m.mx);
             let g = up32(m.my);

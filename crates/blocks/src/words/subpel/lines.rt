@@ -9,7 +9,9 @@ ghost use Rattle.rows.specs.Subpel.{tapped};
 ghost use Rattle.rows.specs.inner.Subpel.{Near};
 ghost use Rattle.rows.specs.inner.words.Pixel.{BitsOk, BiasOk, MaxOk};
 ghost use Rattle.blocks.specs.inner.Ready.{Lines};
+ghost use Rattle.blocks.specs.inner.Source.{topDown};
 ghost use Rattle.blocks.specs.inner.Subpel.{putLine, prepLine, along};
+use crate::source::row_first;
 use crate::subpel::plan::Plan;
 use rows::near::is_near;
 use rows::numbers::half_power;
@@ -73,28 +75,28 @@ pub fn put_lines(
     dst: &mut [Pixel],
     dst_stride: usize,
     src: &[Pixel],
-    src_stride: usize,
     p: Plan,
     max: u16,
     w: usize,
     h: usize,
 )
-    requires { ⌜ Lines (length (now dst)) «dst_stride» (length (now src)) (p .start) «src_stride» (p .step) w h × (p .round ≤ 127) × (6 ≤ p .bits)
+    requires { ⌜ Lines (length (now dst)) «dst_stride» (length (now src)) (p .rows) (p .step) w h × (p .round ≤ 127) × (6 ≤ p .bits)
         × (p .bits ≤ 7) × MaxOk max ⌝ }
     ensures { λ _. ⌜ now (dst .exit)
         ≡ fill (now (dst .entry)) «dst_stride» w h
-        (λ i j. putLine max (p .first) (p .round) (p .bits) (p .step) (along (now (src .entry)) (p .start) «src_stride» (p .step) i j)) ⌝ }
+        (λ i j. putLine max (p .first) (p .round) (p .bits) (p .step) (along (now (src .entry)) (p .rows) (p .step) i j)) ⌝ }
 {
     let f = p.first;
     let near = is_near(&f);
+    let s = p.rows;
     let mut y = 0;
     while y < h {
+        let o = row_first(s, y);
         let d = y * dst_stride;
-        let s = p.start + y * src_stride;
         put_line_row(
             &mut dst[d..d + w],
             src,
-            s,
+            o,
             p.step,
             &f,
             near,
@@ -111,27 +113,27 @@ pub fn prep_lines(
     tmp: &mut [i16],
     tmp_stride: usize,
     src: &[Pixel],
-    src_stride: usize,
     p: Plan,
     bits: u32,
     bias: u32,
     w: usize,
     h: usize,
 )
-    requires { ⌜ Lines (length (now tmp)) «tmp_stride» (length (now src)) (p .start) «src_stride» (p .step) w h × (6 ≤ p .bits) × (p .bits ≤ 7)
+    requires { ⌜ Lines (length (now tmp)) «tmp_stride» (length (now src)) (p .rows) (p .step) w h × (6 ≤ p .bits) × (p .bits ≤ 7)
         × BitsOk bits × BiasOk bias ⌝ }
     ensures { λ _. ⌜ now (tmp .exit)
         ≡ fill (now (tmp .entry)) «tmp_stride» w h
-        (λ i j. prepLine bits bias (p .first) (p .bits - bits) (p .step) (along (now (src .entry)) (p .start) «src_stride» (p .step) i j)) ⌝ }
+        (λ i j. prepLine bits bias (p .first) (p .bits - bits) (p .step) (along (now (src .entry)) (p .rows) (p .step) i j)) ⌝ }
 {
     let f = p.first;
     let near = is_near(&f);
+    let s = p.rows;
     let n = p.bits - bits;
     let mut y = 0;
     while y < h {
+        let o = row_first(s, y);
         let d = y * tmp_stride;
-        let s = p.start + y * src_stride;
-        prep_line_row(&mut tmp[d..d + w], src, s, p.step, &f, near, n, bits, bias);
+        prep_line_row(&mut tmp[d..d + w], src, o, p.step, &f, near, n, bits, bias);
         y += 1;
     }
 }
@@ -148,7 +150,7 @@ pub fn mid_lines(
     w: usize,
     h: usize,
 )
-    requires { ⌜ Lines (length (now dst)) «dst_stride» (length (now mid)) 0 64 64 w h × (near ≡ true → Near (now f)) × (1 ≤ n) × (n ≤ 11) × MaxOk max ⌝ }
+    requires { ⌜ Lines (length (now dst)) «dst_stride» (length (now mid)) (topDown 0 64) 64 w h × (near ≡ true → Near (now f)) × (1 ≤ n) × (n ≤ 11) × MaxOk max ⌝ }
     ensures { λ _. ⌜ now (dst .exit)
         ≡ fill (now (dst .entry)) «dst_stride» w h
         (λ i j. clip max (tapped (now (f .entry)) (half n) n (λ t. at (now (mid .entry)) (j * 64 + i + t * 64)))) ⌝ }

@@ -1,17 +1,18 @@
 -- Made from crates/blocks/proofs/words/subpel/prep_8tap_rows/Proof.antt by tools/sets: change that.
 use Rattle.blocks.proofs.Usual.{_∙_, arith, needs}
-use Rattle.blocks.proofs.Laws.Subpel.Cases.{Planned, bits-in, one-ready, both-reach, prep-block, prep-two}
+use Rattle.blocks.proofs.Laws.Subpel.Cases.{taps-before, Planned, bits-in, one-ready, both-reach, prep-block, prep-two}
 use Rattle.blocks.proofs.bytes.subpel.prep_8tap_rows.Tie as tie
 
 abbrev begin : tie.After-plan-8tap → tie.Start
 begin c = c .before .before
 
 planned : (c : tie.After-plan-8tap) → let a = begin c .args in
-    Planned (a .subpel .now) (a .ext .now) (a .o) (a .l .«src_stride») (a .l .w) (a .l .h) (a .m .mx) (a .m .my) (a .m .«filter_type») (a .d .bits) (c .plan-8tap .result)
+    Planned (a .subpel .now) (a .ext .now) (a .s) (a .l .w) (a .l .h) (a .m .mx) (a .m .my) (a .m .«filter_type») (a .d .bits) (c .plan-8tap .result)
 planned c = record { is = c .plan-8tap .ensures }
 
 plan-8tap-requires : tie.Need-plan-8tap-requires
-plan-8tap-requires c κs = let s = c .before in (omega arith, s .pre .2 .before, s .pre .2 .across, s .pre .2 .down)
+plan-8tap-requires c κs = let s = c .before in let k = s .pre .2 in
+    (omega arith, taps-before k (s .pre .0), omega (arith, k .last), k .across, k .down)
 
 prep-8tap-both-requires : tie.Need-prep-8tap-both-requires
 prep-8tap-both-requires c κs =

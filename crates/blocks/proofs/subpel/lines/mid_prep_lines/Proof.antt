@@ -1,6 +1,7 @@
 use Rattle.blocks.proofs.Usual.{_*_, _+_, _-_, arith, needs, pos, length, w16, at, minus16, half, low16, backn, Filled}
 use Rattle.blocks.proofs.Usual.{filled-none, block-loop, filled-more}
 use Rattle.rows.specs.Subpel.{tapped}
+use Rattle.blocks.specs.inner.Source.{topDown}
 use Rattle.blocks.proofs.Laws.Subpel.Lines.{Turn, turn, half-short}
 use Rattle.blocks.proofs.subpel.lines.mid_prep_lines.Tie as tie
 
@@ -16,7 +17,7 @@ abbrev entry : tie.In-loop Inv-loop μ-loop → tie.Start Inv-loop μ-loop
 entry c = c .before .before .before
 
 row : (c : tie.In-loop Inv-loop μ-loop) → let a = entry c .args in
-    Turn (c .before .loop .tmp) (a .tmp-stride) (length (a .mid .now)) 0 64 64 (a .w) (c .before .loop .y)
+    Turn (c .before .loop .tmp) (a .tmp-stride) (length (a .mid .now)) (topDown 0 64) 64 (a .w) (c .before .loop .y)
 row c = turn (pos 0) (entry c .pre .0) (c .before .loop .inv) (c .loop-test .taken)
 
 loop-again : tie.Need-loop-again Inv-loop μ-loop

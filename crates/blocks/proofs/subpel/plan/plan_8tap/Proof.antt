@@ -1,7 +1,7 @@
-use Rattle.blocks.proofs.Usual.{List, _≡_, _∙_, ap, ℕ, _≤_, _*_, _+_, _-_, arith, needs, ℤ, w32, up, half, told-back}
+use Rattle.blocks.proofs.Usual.{List, _≡_, _∙_, ap, ℕ, _≤_, _*_, _+_, _-_, _<_, _^_, arith, needs, ℤ, w32, up, half, told-back}
 use Rattle.rows.specs.Subpel.{axis, filterBits}
 use Rattle.blocks.specs.Subpel.{on}
-use Rattle.blocks.specs.inner.Subpel.{axisOf, filterOf, tapsOf}
+use Rattle.blocks.specs.inner.Subpel.{axisOf, filterOf, tapsOf, inMemory}
 use Rattle.blocks.specs.declared.subpel.plan.Filter.{Filter}
 use Rattle.blocks.proofs.Laws.Subpel.Choice.{axis-of, bits-fit, plan-none, plan-down, plan-across, plan-both}
 use Rattle.blocks.proofs.subpel.plan.plan_8tap.Tie as tie
@@ -54,58 +54,72 @@ known c =
     }
 
 -- the places before the block
-before : (c : tie.After-half-power) (x y : ℕ) → let a = begin (filters c) .args in on (a .m .mx) ≡ x → on (a .m .my) ≡ y → 3 * y * a .s + 3 * x ≤ a .o
+before : (c : tie.After-half-power) (x y : ℕ) → let a = begin (filters c) .args in on (a .m .mx) ≡ x → on (a .m .my) ≡ y → 3 * y * a .s .forth + 4 * y * a .s .back + 3 * x ≤ a .s .off
 before c x y e f = rw (← e, ← f) (begin (filters c) .pre .1)
 
-only-down : (c : tie.Else2) → let a = begin (filters (c .before .before)) .args in 3 * a .s ≤ a .o
+above : (c : tie.After-half-power) (y : ℕ) → let a = begin (filters c) .args in on (a .m .my) ≡ y → a .s .off + 3 * y * a .s .back < 2 ^ 64
+above c y f = rw (← f) (begin (filters c) .pre .2)
+
+only-down : (c : tie.Else2) → let a = begin (filters (c .before .before)) .args in 3 * a .s .forth + 4 * a .s .back ≤ a .s .off
 only-down c = let t = c .before .before in omega (arith, before t 0 1 (omega (arith, known t)) (omega (arith, known t)))
 
-both : (c : tie.Else3) → let a = begin (filters (c .before .before .before)) .args in 3 * a .s + 3 ≤ a .o
-both c = let t = c .before .before .before in omega (arith, before t 1 1 (omega (arith, known t)) (omega (arith, known t)))
+both : (c : tie.Else3) → let a = begin (filters (c .before .before .before)) .args in (3 * a .s .forth + 4 * a .s .back + 3 ≤ a .s .off) × (a .s .off + 3 * a .s .back < 2 ^ 64)
+both c =
+    let t = c .before .before .before in
+    let p = begin (filters t) in
+    let y : on (p .args .m .my) ≡ 1 = omega (arith, known t) in
+    (omega (arith, before t 1 1 (omega (arith, known t)) y), omega (arith, above t 1 y))
 
 returns : tie.Need-returns
 returns c =
     let k = known (c .before .before .before) in
-    c .by-one .ensures ∙ plan-none _ _ _ _ _ _ _ _ _ _ _ (k .n) (k .r) (k .g) (omega arith) (omega arith)
+    c .by-one .ensures ∙ plan-none _ _ _ _ _ _ _ _ _ _ (k .n) (k .r) (k .g) (omega arith) (omega arith)
 
 returns-2 : tie.Need-returns-2
 returns-2 c =
-    let k = known (c .before .before .before) in
-    c .by-one2 .ensures ∙ plan-down _ _ _ _ _ _ _ _ _ _ _ (k .n) (k .r) (k .g) (omega arith) (omega arith)
+    let m = c .before .before in let d = m .before in let t = d .before .before .before .before in
+    let k = known (t .before .before) in
+    let a = begin (filters (t .before .before)) .args in
+    c .by-one2 .ensures
+    ∙ plan-down _ _ _ _ _ _ _ _ _ _ (k .n) (k .r) (d .stand-at .ensures) (m .in-memory .ensures ∙ ap (inMemory (a .s .back)) (k .g)) (omega arith) (omega arith)
 
 returns-3 : tie.Need-returns-3
 returns-3 c =
-    let h = c .before .before in
+    let l = c .before in
+    let h = l .before .before .before in
     let k = known (h .before .before) in
     let a = begin (filters (h .before .before)) .args in
     let q = h .half-power2 .ensures .0 ∙ ap (λ (n : ℕ). half (n - a .b)) (k .n) in
-    c .by-one3 .ensures ∙ plan-across _ _ _ _ _ _ _ _ _ (up (a .m .mx)) (up (a .m .my)) (k .n) (k .r) q (k .f) (omega arith) (omega arith)
+    c .by-one3 .ensures ∙ plan-across _ _ _ _ _ _ _ _ (up (a .m .mx)) (up (a .m .my)) (k .n) (k .r) q (k .f) (l .stand-at2 .ensures) (omega arith) (omega arith)
 
 returns-4 : tie.Need-returns-4
 returns-4 c =
-    let h = c .before in
+    let h = c .before .before .before .before .before in
     let k = known (h .before .before) in
     let a = begin (filters (h .before .before)) .args in
     let q = h .half-power2 .ensures .0 ∙ ap (λ (n : ℕ). half (n - a .b)) (k .n) in
-    plan-both _ _ _ _ _ _ _ _ _ (up (a .m .mx)) (up (a .m .my)) (k .n) (k .r) q (k .f) (k .g) (omega arith) (omega arith)
+    plan-both _ _ _ _ _ _ _ _ (up (a .m .mx)) (up (a .m .my)) (k .n) (k .r) q (k .f) (c .stand-at3 .ensures) (k .g) (omega arith) (omega arith)
 
 pub plan-8tap-spec : {M : Type 1} → Rattle.blocks.proofs.subpel.plan.plan_8tap.Statement.statement M
 plan-8tap-spec = tie.close (tie.spec (λ c κs. search needs) (λ c κs. search needs)  -- filter-bits, get-filter
-    (λ c κs. rw (across c) (c .before .before .before .before .pre .2))  -- taps-requires
+    (λ c κs. rw (across c) (c .before .before .before .before .pre .3))  -- taps-requires
     (λ c κs. search needs)  -- get-filter-requires-2
-    (λ c κs. rw (down c) (c .before .before .before .before .before .before .before .pre .3))  -- taps-requires-2
+    (λ c κs. rw (down c) (c .before .before .before .before .before .before .before .pre .4))  -- taps-requires-2
     (λ c κs. search needs) (λ c κs. search needs)  -- on-axis
     (λ c κs. let d = c .before .before .before .before in omega (arith, bits (d .before .before .before .before .before .before), bits-fit (begin d .args .m .«filter_type»)))  -- half-power-requires
     (λ c κs. search needs) returns  -- by-one
-    (λ c. omega (arith, only-down c))  -- mul-by-one
-    (λ c. only-down c)  -- sub-by-one
+    (λ c. omega (arith, only-down (c .before))) (λ c. omega (arith, only-down (c .before .before)))  -- 3 * s.forth, 4 * s.back
+    (λ c. omega (arith, only-down (c .before .before))) (λ c. omega (arith, only-down (c .before .before .before)))  -- s.off - (.. + ..)
+    (λ c κs. search needs) (λ c κs. search needs)  -- stand-at, in-memory
+    (λ c. omega (arith, only-down (c .before .before .before .before .before .before)))  -- s.forth + s.back
     (λ c κs. search needs) returns-2  -- by-one
     (λ c. omega (arith, known (c .before)))  -- n - b
     (λ c κs. omega (arith, known (c .before)))  -- half-power-requires-2
     (λ c. search needs)  -- add-round
-    (λ c. let t = c .before .before .before in omega (arith, known t, begin (filters t) .pre .1))  -- o - 3
-    (λ c κs. search needs) returns-3  -- by-one
-    (λ c. omega (arith, both c))  -- mul
-    (λ c. omega (arith, both c))  -- add
-    (λ c. both c)  -- sub
+    (λ c. let t = c .before .before .before .before in omega (arith, known t, begin (filters t) .pre .1))  -- s.off - 3
+    (λ c κs. search needs) (λ c κs. search needs) returns-3  -- stand-at, by-one
+    (λ c. omega (arith, both (c .before))) (λ c. omega (arith, both (c .before .before)))  -- s.off + 3 * s.back
+    (λ c. omega (arith, both (c .before .before .before))) (λ c. omega (arith, both (c .before .before .before)))  -- 3 * s.forth + 3
+    (λ c. omega (arith, both (c .before .before .before)))  -- .. - ..
+    (λ c κs. search needs)  -- stand-at
     returns-4)

@@ -12,10 +12,11 @@ copy-requires c κs =
 
 subpel-requires : tie.Need-put-8tap-rows-requires
 subpel-requires c κs =
-    let k = c .before .before in
+    let d = c .before in
+    let k = d .before .before in
     let p = k .before .before .before .before .pre in
     let r = subpel-ready (p .0) (p .1) (k .k .given .1) in
-    (r .0, r .1, r .2, p .2, p .3, p .4)
+    rw (d .top-down2 .ensures) (r .0, r .1, r .2, p .2, p .3, p .4)
 
 bilin-requires : tie.Need-put-bilin-rows-requires
 bilin-requires c κs =
@@ -23,13 +24,13 @@ bilin-requires c κs =
     let a = b .before in
     let k = a .before .before .before in
     let p = k .before .before .before .before .pre in
-    rw (s .top-down2 .ensures, a .up32 .ensures, u .up322 .ensures) (bilin-ready (p .0) (p .1) (bilin-passed (k .k2 .given .1) (b .struct-told2 .given)), p .2, p .4)
+    rw (s .top-down3 .ensures, a .up32 .ensures, u .up322 .ensures) (bilin-ready (p .0) (p .1) (bilin-passed (k .k2 .given .1) (b .struct-told2 .given)), p .2, p .4)
 
 warp-requires : tie.Need-warp-put-requires
 warp-requires c κs =
     let s = c .before in let k = s .before .before in
     let p = k .before .before .before .before .pre in
-    rw (s .top-down3 .ensures) (warp-ready (p .0) (p .1) (k .k3 .given .1), p .2, p .4)
+    rw (s .top-down4 .ensures) (warp-ready (p .0) (p .1) (k .k3 .given .1), p .2, p .4)
 
 copy-returns : tie.Need-returns
 unfolding putRule
@@ -40,9 +41,9 @@ copy-returns c =
 subpel-returns : tie.Need-returns-2
 unfolding putRule before
 subpel-returns c =
-    let t = c .before .before .before in
-    let k = t .before .before in
-    rw (k .k .given .1) (c .before .before .put-8tap-rows .ensures)
+    let d = c .before .before .before .before in
+    let k = d .before .before in
+    rw (k .k .given .1, ← around-down 3 _ _ _) (rw (d .top-down2 .ensures) at (c .before .before .put-8tap-rows .ensures))
 
 bilin-returns : tie.Need-returns-3
 unfolding putRule before
@@ -51,7 +52,7 @@ bilin-returns c =
     let a = b .before .before in
     let k = a .before .before .before in
     let r = k .before .before .before .before .args in
-    let e = rw (s .top-down2 .ensures, around-down 0 (r .src .now) 0 (r .l .«src_stride»), a .up32 .ensures, b .up322 .ensures) at (c .before .before .put-bilin-rows .ensures) in
+    let e = rw (s .top-down3 .ensures, around-down 0 (r .src .now) 0 (r .l .«src_stride»), a .up32 .ensures, b .up322 .ensures) at (c .before .before .put-bilin-rows .ensures) in
     rw (bilin-passed (k .k2 .given .1) (b .before .struct-told2 .given), no-margin (k .before .before .before .before .args .l .«src_stride»)) e
 
 warp-returns : tie.Need-returns-4
@@ -60,13 +61,14 @@ warp-returns c =
     let s = c .before .before .before .before in let k = s .before .before in
     let e = k .k3 .given .1 in let b = k .before .before .before .before in let a = b .args in
     let z = warp-size (b .pre .0) e in
-    rw (z .0, z .1, e) (rw (s .top-down3 .ensures, around-down 3 (a .src .now) (3 * a .l .«src_stride» + 3) (a .l .«src_stride»))
+    rw (z .0, z .1, e) (rw (s .top-down4 .ensures, around-down 3 (a .src .now) (3 * a .l .«src_stride» + 3) (a .l .«src_stride»))
     at (c .before .before .warp-put .ensures))
 
 pub put-kind-spec : {M : Type 1} → Rattle.blocks.proofs.words.order.kinds.put_kind.Statement.statement M
 put-kind-spec = tie.close (tie.spec
     (λ c. omega (arith, c .before .before .pre .0 .src .most)) (λ c. omega (arith, c .before .before .pre .0 .src .most))  -- first
-    (λ c. search needs) (λ c κs. search needs) copy-requires (λ c. search needs) subpel-requires (λ c. search needs)  -- enum-told, top-down, enum-known-k
-    (λ c κs. search needs) (λ c κs. search needs) (λ c κs. search needs) bilin-requires (λ c. search needs) (λ c κs. search needs) warp-requires  -- above, top-down, enum-known-k
+    (λ c. search needs) (λ c κs. search needs) copy-requires (λ c. search needs) (λ c κs. search needs) subpel-requires (λ c. search needs)  -- enum-told, top-down, enum-known-k
+    (λ c κs. search needs) (λ c κs. search needs) (λ c κs. search needs) bilin-requires (λ c. search needs)  -- above, top-down, enum-known-k
+    (λ c κs. search needs) warp-requires  -- top-down
     (λ c. search needs) copy-returns (λ c. search needs) subpel-returns (λ c. search needs) bilin-returns (λ c. search needs)  -- same-length
     warp-returns)

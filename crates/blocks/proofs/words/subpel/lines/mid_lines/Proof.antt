@@ -1,6 +1,7 @@
 use Rattle.blocks.proofs.Usual.{_*_, _+_, _-_, arith, needs, length, at, clip, half, Filled, filled-none, block-loop}
 use Rattle.blocks.proofs.Usual.{filled-more}
 use Rattle.rows.specs.Subpel.{tapped}
+use Rattle.blocks.specs.inner.Source.{topDown}
 use Rattle.blocks.proofs.Laws.Subpel.Lines.{Turn, turn}
 use Rattle.blocks.proofs.words.subpel.lines.mid_lines.Tie as tie
 
@@ -15,7 +16,7 @@ abbrev entry : tie.In-loop Inv-loop μ-loop → tie.Start Inv-loop μ-loop
 entry c = c .before .before .before .before
 
 row : (c : tie.In-loop Inv-loop μ-loop) → let a = entry c .args in
-    Turn (c .before .loop .dst) (a .dst-stride) (length (a .mid .now)) 0 64 64 (a .w) (c .before .loop .y)
+    Turn (c .before .loop .dst) (a .dst-stride) (length (a .mid .now)) (topDown 0 64) 64 (a .w) (c .before .loop .y)
 row c = turn 0 (entry c .pre .0) (c .before .loop .inv) (c .loop-test .taken)
 
 loop-again : tie.Need-loop-again Inv-loop μ-loop
