@@ -47,7 +47,7 @@ inMemory (suc b) f = rowOf 8 (λ t. at f (7 - t))
 abbrev pub byOne : (bits : ℕ) → Stand → (step round : ℕ) → List ℤ → Plan
 byOne bits rows step round f = record { bits = bits; both = false; rows = rows; step = step; round = round; first = f; second = f }
 
--- the first taps of a column are those that stand lowest in memory: three rows after one another before the block's, or four before one another after it
+-- down a column, the taps are read from the lowest in memory on: that is three rows above, and four rows below where the rows stand before one another
 unfoldable pub planOf : Stand → (w h : ℕ) (subpel ext : List ℤ) (filterType : ℤ) (N B : ℕ) (mx my : ℕ) → Plan
 planOf s w h subpel ext filterType N B zero zero = byOne N s 0 (half N) (tapsOf (axis subpel ext filterType zero h))
 planOf s w h subpel ext filterType N B zero (suc v) =

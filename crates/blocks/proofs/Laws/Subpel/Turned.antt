@@ -1,6 +1,6 @@
 -- 8-tap down the columns of rows that stand before one another: the taps and the pixels are both read the other way round, and the sum is the same.
 -- Assumes nothing.
-use Rattle.blocks.proofs.Usual.{List, _≡_, _∙_, refl, sym, ap, ap₂, ℕ, _≤_, _*_, _+_, _-_, _<_, suc, zero, arith, pos, ℤ, _+ℤ_, _*ℤ_, at, rowOf}
+use Rattle.blocks.proofs.Usual.{List, _≡_, _∙_, refl, ap, ap₂, ℕ, _-_, _<_, suc, zero, arith, pos, ℤ, _+ℤ_, _*ℤ_, at, rowOf}
 use lib.IntN.{+ℤ-assoc, +ℤ-comm}
 use Rattle.rows.specs.Numbers.{sumZ, _>>_}
 use Rattle.rows.specs.Subpel.{S, tapped}

@@ -1,4 +1,4 @@
-use Rattle.blocks.proofs.Usual.{_∙_, _-_, arith, needs, pos, at, back, fit}
+use Rattle.blocks.proofs.Usual.{_∙_, _-_, arith, pos, at, back, fit}
 use mir.Syntax.{w8}
 use Rattle.rows.proofs.Laws.Blocks.Row.{Upto, upto-none, upto-more, upto-all}
 use Rattle.blocks.proofs.Laws.Subpel.Turned.{memory-same, memory-turned}
