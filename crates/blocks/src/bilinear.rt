@@ -16,7 +16,7 @@ use crate::source::Stand;
 use rows::bilinear::mid_bilin_prep_row;
 
 // How a row is made of pairs: the second of each stands a step on and has f sixteenths, and their sum is rounded by n bits.
-#[derive(Drop)]
+#[derive(Clone, Copy)]
 pub struct PairWay {
     pub step: usize,
     pub f: u32,
@@ -24,7 +24,7 @@ pub struct PairWay {
 }
 
 // A pixel's own rounding after that, of v to (v + r) >> k.
-#[derive(Drop)]
+#[derive(Clone, Copy)]
 pub struct LastRounding {
     pub r: u32,
     pub k: u32,

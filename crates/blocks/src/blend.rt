@@ -8,7 +8,7 @@ ghost use Rattle.blocks.specs.Blend.{blend_shape, first_above, spot_at, morph_te
 use crate::refuse::{held, needed, sizes, stride};
 
 // A row and a column of a block.
-#[derive(Drop)]
+#[derive(Clone, Copy)]
 pub struct Spot {
     pub row: usize,
     pub col: usize,

@@ -7,7 +7,7 @@ ghost use Rattle.blocks.specs.inner.Window.{lent_of, asked};
 use crate::refuse::size_ok;
 
 // Luma's sides and the subsampling flags.
-#[derive(Drop)]
+#[derive(Clone, Copy)]
 pub struct Frame {
     pub luma_w: usize,
     pub luma_h: usize,
@@ -16,7 +16,7 @@ pub struct Frame {
 }
 
 // A plane of a frame, luma (0) or chroma (1), and the stride at which it is lent.
-#[derive(Drop)]
+#[derive(Clone, Copy)]
 pub struct Reference {
     pub frame: Frame,
     pub plane_no: u32,
@@ -24,7 +24,7 @@ pub struct Reference {
 }
 
 // A window of ww columns and wh rows, from column `left` and row `top` of a plane of iw columns and ih rows on.
-#[derive(Drop)]
+#[derive(Clone, Copy)]
 pub struct Area {
     pub ww: usize,
     pub wh: usize,

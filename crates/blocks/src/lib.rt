@@ -1,4 +1,6 @@
 // Block kernels, windows and orders, over the contracts of the rows. The two sets of pixels have one text: src/bytes is made from src/words by tools/sets.
+#![tactic(auto)]
+
 pub mod bilinear;
 pub mod blend;
 pub mod bytes;

@@ -17,14 +17,14 @@ use crate::warp::{Shears, filters_there};
 use crate::window::{ALWAYS_SCRATCH, PLANE_IF_INSIDE, window_held};
 
 // The motion of a bilinear block: the two fractions.
-#[derive(Drop)]
+#[derive(Clone, Copy)]
 pub struct BilinMotion {
     pub mx: i32,
     pub my: i32,
 }
 
 // How a block is predicted.
-#[derive(Drop)]
+#[derive(Clone, Copy)]
 pub enum Kind {
     Copy,
     Subpel(SubpelMotion),
@@ -33,7 +33,7 @@ pub enum Kind {
 }
 
 // The reference-plane place of the block's first pixel, whole motion included; the block's size; and how it is predicted.
-#[derive(Drop)]
+#[derive(Clone, Copy)]
 pub struct Order {
     pub x: i64,
     pub y: i64,
@@ -43,7 +43,7 @@ pub struct Order {
 }
 
 // The lengths of the three tables of filters.
-#[derive(Drop)]
+#[derive(Clone, Copy)]
 pub struct TableLengths {
     pub subpel: usize,
     pub ext: usize,

@@ -15,7 +15,7 @@ use rows::bilinear::mid_bilin_prep_row;
 use rows::subpel::{Way, eight, mid_prep_by};
 
 // The motion of a scaled block: where it starts in a pixel, and its steps.
-#[derive(Drop)]
+#[derive(Clone, Copy)]
 pub struct ScaledMotion {
     pub mx: i32,
     pub my: i32,
@@ -24,7 +24,7 @@ pub struct ScaledMotion {
 }
 
 // What a call is lent: the lengths of what is written and read, and how they are laid out.
-#[derive(Drop)]
+#[derive(Clone, Copy)]
 pub struct Lent {
     pub dl: usize,
     pub dst_stride: usize,
@@ -135,7 +135,7 @@ pub fn check_scaled(
 }
 
 // How the rows of a scaled block are made: where those of the source stand, the positions of columns and rows, the families of their filters, and B.
-#[derive(Drop)]
+#[derive(Clone, Copy)]
 pub struct ScaledPlan {
     pub stand: Stand,
     pub mx: usize,
@@ -184,7 +184,7 @@ pub fn scaled_plan(
 }
 
 // The last eight filtered rows, 64 places apart, and their order: the t-th from the oldest stands at order[t].
-#[derive(Drop)]
+#[derive(Clone, Copy)]
 pub struct LastRows {
     pub rows: [i16; 512],
     pub order: [usize; 8],

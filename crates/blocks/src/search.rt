@@ -11,7 +11,7 @@ use crate::refuse::{held, needed, sizes, stride};
 use crate::source::{Stand, row_first};
 
 // The best sum so far and its offset, once one is found.
-#[derive(Drop)]
+#[derive(Clone, Copy)]
 pub struct Best {
     pub found: bool,
     pub sum: u32,
@@ -20,14 +20,14 @@ pub struct Best {
 }
 
 // The offset that is answered.
-#[derive(Drop)]
+#[derive(Clone, Copy)]
 pub struct Offset {
     pub dx: i32,
     pub dy: i32,
 }
 
 // Two buffers that are compared: the depth of their pixels, where their rows stand, and the block's size.
-#[derive(Drop)]
+#[derive(Clone, Copy)]
 pub struct Compared {
     pub depth: u32,
     pub s0: Stand,

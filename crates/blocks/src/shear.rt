@@ -11,7 +11,7 @@ use crate::refuse::needed;
 use rows::numbers::{keep32, wrapping_neg32, wrapping_sub32};
 
 // A matrix of six entries, its four shears, and whether the model is affine.
-#[derive(Drop)]
+#[derive(Clone, Copy)]
 pub struct WarpParams {
     pub matrix: [i32; 6],
     pub abcd: [i16; 4],
@@ -19,7 +19,7 @@ pub struct WarpParams {
 }
 
 // A reciprocal y and its shift, or the number that refuses.
-#[derive(Drop)]
+#[derive(Clone, Copy)]
 pub struct Divisor {
     pub number: u32,
     pub y: i32,
@@ -27,7 +27,7 @@ pub struct Divisor {
 }
 
 // A record as it comes back, with the number.
-#[derive(Drop)]
+#[derive(Clone, Copy)]
 pub struct Answered {
     pub number: u32,
     pub warp: WarpParams,

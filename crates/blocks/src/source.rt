@@ -3,7 +3,7 @@ ghost use Rattle.std.specs.Prelude.{◌≡◌, ◌≤◌, ◌<◌, ◌+◌, ◌*
 ghost use Rattle.blocks.specs.inner.Source.{top_down, stand_at, row_first, rows_from, lower_row, corner_of};
 
 // The place of row 0's first pixel, and how far each next row stands after it or before it: one of the two is 0.
-#[derive(Drop)]
+#[derive(Clone, Copy)]
 pub struct Stand {
     pub off: usize,
     pub forth: usize,

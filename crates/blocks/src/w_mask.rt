@@ -12,7 +12,7 @@ use crate::refuse::{held, needed, sizes, stride};
 use rows::w_mask::{four_row, pair_row, weight_row};
 
 // h rows of w places, a stride apart.
-#[derive(Drop)]
+#[derive(Clone, Copy)]
 pub struct Extent {
     pub stride: usize,
     pub w: usize,
@@ -21,7 +21,7 @@ pub struct Extent {
 
 // A mask's stride, and whether one of its places stands for two columns, and for two rows. The sign goes beside it: out of a record's field the compiler
 // doesn't keep a row's sums in sixteen bits.
-#[derive(Drop)]
+#[derive(Clone, Copy)]
 pub struct MaskForm {
     pub stride: usize,
     pub ss_hor: bool,
@@ -29,7 +29,7 @@ pub struct MaskForm {
 }
 
 // The lengths of what a call is lent.
-#[derive(Drop)]
+#[derive(Clone, Copy)]
 pub struct WMaskLengths {
     pub dst: usize,
     pub tmp1: usize,

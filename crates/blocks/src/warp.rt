@@ -12,7 +12,7 @@ use crate::refuse::{held, needed, stride};
 use rows::warp::{Slope, filter_no, warp_prep_row};
 
 // The four shears of a warped block, and its mx and my.
-#[derive(Drop)]
+#[derive(Clone, Copy)]
 pub struct Shears {
     pub a: i16,
     pub b: i16,

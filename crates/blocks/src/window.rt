@@ -14,7 +14,7 @@ use crate::numbers::up64;
 use crate::refuse::{held, needed, sizes, stride};
 
 // A part of a buffer: 1 the plane, 2 scratch; its first place, its stride and its length. Refused: the number and zeros.
-#[derive(Drop)]
+#[derive(Clone, Copy)]
 pub struct Part {
     pub number: u32,
     pub buffer: u32,

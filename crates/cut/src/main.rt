@@ -1,5 +1,7 @@
 // Demand 3 as a program: blocks are predicted tile by tile across the borders of a plane of 2 x 2 pixels at 10 bits, 0 200 / 100 40.
 // Prints the answer, then dst row by row; its last column is no block's, and stays 9.
+#![tactic(auto)]
+
 ghost use Rattle.std.specs.Prelude.{◌<◌};
 
 use tiles::predict_in_tiles;

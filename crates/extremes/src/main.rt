@@ -1,5 +1,7 @@
 // Runs each row of the crate `rows` once on extreme values and prints what it left: the widest pixels, taps, intermediates and weights that a
 // caller can hand over meet what the rows require. What is printed is compared with document 01's arithmetic, worked out apart from this code.
+#![tactic(auto)]
+
 use rows::bilinear::mid_bilin_prep_row;
 use rows::bytes::bilinear::{
     mid_bilin_row as mid_bilin_row8, prep_bilin_row as prep_bilin_row8,

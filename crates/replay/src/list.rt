@@ -12,7 +12,7 @@ pub const UNSET: i32 = 1515870810;
 pub const UNSET_PLACE: usize = 1515870810;
 
 // A buffer of the record: how many places it has, where the values stand that it comes with, and where those stand that it is left with.
-#[derive(Drop)]
+#[derive(Clone, Copy)]
 pub(crate) struct Layout {
     pub len: u16,
     pub period: u16,
@@ -24,14 +24,14 @@ pub(crate) struct Layout {
 }
 
 // Value k of those that begin at a place.
-#[derive(Drop)]
+#[derive(Clone, Copy)]
 pub(crate) struct Value {
     pub first: u16,
     pub k: u32,
 }
 
 // Numbers of the record that stand one after the other.
-#[derive(Drop)]
+#[derive(Clone, Copy)]
 pub(crate) struct Sizes {
     pub a: usize,
     pub b: usize,
@@ -39,14 +39,14 @@ pub(crate) struct Sizes {
     pub d: usize,
 }
 
-#[derive(Drop)]
+#[derive(Clone, Copy)]
 pub(crate) struct Ints {
     pub a: i32,
     pub b: i32,
     pub c: i32,
 }
 
-#[derive(Drop)]
+#[derive(Clone, Copy)]
 pub(crate) struct Shorts {
     pub a: i16,
     pub b: i16,

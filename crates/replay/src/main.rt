@@ -18,6 +18,8 @@ mod shear;
 mod tally;
 mod words;
 
+#![tactic(auto)]
+
 ghost use Rattle.std.specs.Prelude.{◌<◌};
 
 use crate::list::{byte, called, due, joined};

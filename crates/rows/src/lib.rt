@@ -1,4 +1,6 @@
 // Row arithmetic: pixels and intermediates along a row. The two sets of pixels have one text: src/bytes is made from src/words by tools/sets.
+#![tactic(auto)]
+
 pub mod bilinear;
 pub mod blend;
 pub mod bytes;

@@ -3,7 +3,7 @@ ghost use Rattle.std.specs.Prelude.{◌≡◌, ◌≤◌, length};
 ghost use Rattle.rows.specs.inner.Scaled.{Steps, Tabled};
 
 // Where the columns of a row stand: the first at start, each next a step on.
-#[derive(Drop)]
+#[derive(Clone, Copy)]
 pub struct Columns {
     pub start: usize,
     pub step: usize,

@@ -11,7 +11,7 @@ use crate::near::{near_highs_i16, near_i16, near_kept, near_lows_i16};
 use crate::numbers::{keep16, wrapping_sub16};
 
 // How a row is made of taps: they stand step apart, and their sum S is rounded to (S + r) >> n.
-#[derive(Drop)]
+#[derive(Clone, Copy)]
 pub struct Way {
     pub step: usize,
     pub r: u32,

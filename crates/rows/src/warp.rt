@@ -11,7 +11,7 @@ use crate::numbers::{half_power, keep16, wrapping_sub16};
 use crate::subpel::{rounded, taps_i16};
 
 // Which filters a pass has: m for the first place, a more for each column, b more for each row, in parts of 1024.
-#[derive(Drop)]
+#[derive(Clone, Copy)]
 pub struct Slope {
     pub m: i32,
     pub a: i16,

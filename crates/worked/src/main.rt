@@ -1,4 +1,6 @@
 // Runs the code on document 01's worked numbers, C1 to C10, through the functions that the decoder calls. Prints each name, then ok or bad.
+#![tactic(auto)]
+
 use blocks::bytes::calls::{
     hv_avg_8bpc, hv_prep_8tap_8bpc, hv_put_8tap_8bpc, hv_put_bilin_8bpc, hv_w_avg_8bpc,
     hv_w_mask_8bpc,

@@ -13,7 +13,7 @@ use rows::numbers::half_power;
 use rows::subpel::eight;
 
 // The motion of an 8-tap block: the two fractions and the filter type.
-#[derive(Drop)]
+#[derive(Clone, Copy)]
 pub struct SubpelMotion {
     pub mx: i32,
     pub my: i32,
@@ -109,7 +109,7 @@ pub fn check_8tap(
 }
 
 // The filter of an axis: none, or the number of one in a lent table.
-#[derive(Drop)]
+#[derive(Clone, Copy)]
 pub enum Filter {
     Off,
     Ext(usize),
@@ -170,7 +170,7 @@ fn in_memory(f: [i8; 8], back: usize) -> [i8; 8]
 
 // How the rows of a block are made: N, whether the second filter follows, where the first taps of the first filter stand in each row and how far apart its
 // taps are, put's rounding with one filter, and the taps.
-#[derive(Drop)]
+#[derive(Clone, Copy)]
 pub struct Plan {
     pub bits: u32,
     pub both: bool,

@@ -1,5 +1,5 @@
 -- Where a loop over the rows of a block stands: the first y of h rows of d₀ are filled by the picture f. Assumes nothing.
-use Rattle.rows.proofs.Usual.{List, ◌≡◌, ◌∙◌, refl, ap, ◌-◌, ◌+◌, ◌*◌, ◌≤◌, ◌<◌, ℕ, arith, needs, length, get_or, span, splice, row_of, span-length}
+use Rattle.rows.proofs.Usual.{List, ◌≡◌, ◌∙◌, refl, ap, ◌-◌, ◌+◌, ◌*◌, ◌≤◌, ◌<◌, ℕ, arith, rules, length, get_or, span, splice, row_of, span-length}
 use Rattle.rows.specs.Places.{fill}
 use Rattle.rows.proofs.Laws.Blocks.Places.{length-row_of, get_d_row_of, row_fits}
 use Rattle.rows.proofs.Laws.Blocks.Fill.{fill_none, fill_more, length-fill}
@@ -49,4 +49,4 @@ module _ {A : Type 0} where
 pub row_in : {l s w h : ℕ} (y : ℕ) → Rows l s w h → y < h → y * s + w ≤ l
 row_in {l} {s} {w} {h} y r lt = row_fits l s w h y r.fits lt
 
-pub ruleset block-loop = (filled_none, filled_all, filled_more, turn, row_in, needs)
+pub ruleset block-loop = (filled_none, filled_all, filled_more, turn, row_in, rules)

@@ -1,4 +1,4 @@
-use Rattle.blocks.proofs.Usual.{◌∙◌, sym, arith, needs, Block, back}
+use Rattle.blocks.proofs.Usual.{◌∙◌, sym, arith, rules, Block, back}
 use Rattle.blocks.proofs.Laws.Bilinear.Ready.{reads-holds}
 use Rattle.blocks.proofs.Laws.Calls.Ready.{sizes_stop, sizes_pass, sizes_block}
 use Rattle.blocks.proofs.bilinear.check_bilin.Tie as tie
@@ -35,9 +35,9 @@ returns-2 c =
     (sizes_pass _ _ _ (sym t.before.sizes.ensures ∙ t.if1.false))
 
 pub check-bilin-spec : {M : Type 1} → Rattle.blocks.proofs.bilinear.check_bilin.Statement.statement M
-check-bilin-spec = tie.close (tie.spec (λ c κs. search needs) returns (λ c κs. search needs) (λ c κs. search needs)  -- sizes, held, on-axis
+check-bilin-spec = tie.close (tie.spec (λ c κs. search rules) returns (λ c κs. search rules) (λ c κs. search rules)  -- sizes, held, on-axis
     (λ c. omega (arith, block c.before.before, c.on-axis.ensures))  -- add-held
-    (λ c κs. search needs)  -- on-axis-requires-2
+    (λ c κs. search rules)  -- on-axis-requires-2
     (λ c. omega (arith, block c.before.before.before, c.on-axis2.ensures))  -- add-held-2
-    (λ c κs. search needs) (λ c κs. search needs) (λ c κs. search needs) (λ c κs. search needs) (λ c κs. search needs)  -- held, sixteenth-ok, needed
-    (λ c κs. search needs) (λ c κs. search needs) (λ c κs. search needs) returns-2)  -- needed, stride
+    (λ c κs. search rules) (λ c κs. search rules) (λ c κs. search rules) (λ c κs. search rules) (λ c κs. search rules)  -- held, sixteenth-ok, needed
+    (λ c κs. search rules) (λ c κs. search rules) (λ c κs. search rules) returns-2)  -- needed, stride

@@ -1,4 +1,4 @@
-use Rattle.blocks.proofs.Usual.{◌*◌, ◌+◌, ◌-◌, arith, needs, pos, length, w16, to_z, at, minus16, low16, back, Filled, filled_none, block-loop}
+use Rattle.blocks.proofs.Usual.{◌*◌, ◌+◌, ◌-◌, arith, rules, pos, length, w16, to_z, at, minus16, low16, back, Filled, filled_none, block-loop}
 use Rattle.blocks.proofs.Usual.{filled_all}
 use Rattle.rows.specs.Bilinear.{R}
 use Rattle.rows.specs.inner.Bilinear.{bilin_at}
@@ -26,5 +26,5 @@ mid-bilin-prep-rows-spec = tie.close (tie.spec invariant-loop decreases-loop
     (λ c. omega (arith, row c)) (λ c. omega (arith, row c))  -- y * ts, d + w
     (λ c. omega (arith, row c)) (λ c. omega (arith, row c)) (λ c. omega (arith, row c)) (λ c. omega (arith, row c))  -- tmp[d..d + w]
     (λ c. omega (arith, row c.before)) (λ c κs. omega (arith, row c.before, (entry c.before).pre))  -- mid-bilin-prep-row
-    (λ c. search needs) (λ c. search needs) (λ c. search block-loop) (λ c. search block-loop)  -- y += 1, and the loop
+    (λ c. search rules) (λ c. search rules) (λ c. search block-loop) (λ c. search block-loop)  -- y += 1, and the loop
     (λ c. rw (← back c.before.before.ranges.bias) (filled_all c.before.loop.invariant c.loop-test.false)))  -- returns

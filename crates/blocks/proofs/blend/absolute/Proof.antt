@@ -1,4 +1,4 @@
-use Rattle.blocks.proofs.Usual.{true, ◌≡◌, ◌∙◌, ap, arith, needs, pos, ℤ, negsuc, ◌-ℤ◌, mag, lt_z, w32, SFits, to_z, of_z, back, fit, rd, signed}
+use Rattle.blocks.proofs.Usual.{true, ◌≡◌, ◌∙◌, ap, arith, rules, pos, ℤ, negsuc, ◌-ℤ◌, mag, lt_z, w32, SFits, to_z, of_z, back, fit, rd, signed}
 use Rattle.rows.proofs.Laws.Numbers.Signed.{backs, flip, below}
 use Rattle.blocks.proofs.blend.absolute.Tie as tie
 
@@ -17,4 +17,4 @@ absolute-spec = tie.close (tie.spec (λ c. rw (minus c) (fits c)) (λ c. rw (bac
     (λ c. rw (backs w32 (minus c) (fits c)) (omega (arith, fits c)))  -- + 1
     (λ c. omega (signed, rd c.before.ranges.v))  -- v as u32
     (λ c. rw (backs w32 (minus c) (fits c)) (omega (arith, below c.before.args.v (under c))))  -- returns
-    (λ c. search needs))  -- returns-2
+    (λ c. search rules))  -- returns-2

@@ -1,4 +1,4 @@
-use Rattle.blocks.proofs.Usual.{needs}
+use Rattle.blocks.proofs.Usual.{rules}
 use Rattle.blocks.proofs.blend.check_blend.Tie as tie
 
 returns : tie.Need-returns
@@ -13,5 +13,5 @@ returns c =
 
 pub check-blend-spec : {M : Type 1} → Rattle.blocks.proofs.blend.check_blend.Statement.statement M
 check-blend-spec = tie.close (tie.spec
-    (λ c κs. search needs) (λ c κs. search needs) (λ c κs. search needs) (λ c κs. search needs) (λ c κs. search needs)  -- held, stride, sizes
+    (λ c κs. search rules) (λ c κs. search rules) (λ c κs. search rules) (λ c κs. search rules) (λ c κs. search rules)  -- held, stride, sizes
     returns)

@@ -1,4 +1,4 @@
-use Rattle.blocks.proofs.Usual.{needs, back}
+use Rattle.blocks.proofs.Usual.{rules, back}
 use Rattle.blocks.proofs.blend.check_morph.Tie as tie
 
 returns : tie.Need-returns
@@ -19,6 +19,6 @@ returns c =
 
 pub check-morph-spec : {M : Type 1} → Rattle.blocks.proofs.blend.check_morph.Statement.statement M
 check-morph-spec = tie.close (tie.spec
-    (λ c κs. search needs) (λ c κs. search needs) (λ c κs. search needs) (λ c κs. search needs) (λ c κs. search needs)  -- held, absolute, needed
-    (λ c κs. search needs) (λ c κs. search needs) (λ c κs. search needs)  -- needed, stride, sizes
+    (λ c κs. search rules) (λ c κs. search rules) (λ c κs. search rules) (λ c κs. search rules) (λ c κs. search rules)  -- held, absolute, needed
+    (λ c κs. search rules) (λ c κs. search rules) (λ c κs. search rules)  -- needed, stride, sizes
     returns)

@@ -1,4 +1,4 @@
-use Rattle.blocks.proofs.Usual.{◌≡◌, refl, ◌≤◌, ◌*◌, ◌+◌, ◌-◌, mul_comm, arith, needs, length, row_in}
+use Rattle.blocks.proofs.Usual.{◌≡◌, refl, ◌≤◌, ◌*◌, ◌+◌, ◌-◌, mul_comm, arith, rules, length, row_in}
 use mathlib.Core.Logic.{⊎_elim}
 use native.Mathlib.Nat.{suc-mul, zero-mul}
 use Rattle.rows.specs.inner.Combine.{AtMost}
@@ -70,5 +70,5 @@ first-above-spec = tie.close (tie.spec invariant-loop decreases-loop
     (λ c. omega (arith, row c.before.before.before.before))  -- mul-if2
     (λ c. omega (arith, row c.before.before.before.before))  -- add-if2
     (λ c. omega (arith, row c.before.before.before.before.before))  -- shared-slice-read-if2
-    (λ c. search needs) (λ c. search needs) loop-again (λ c. search needs) (λ c. search needs)  -- add-col, loop-less, add-row, search-less
+    (λ c. search rules) (λ c. search rules) loop-again (λ c. search rules) (λ c. search rules)  -- add-col, loop-less, add-row, search-less
     search-again returns returns-2)

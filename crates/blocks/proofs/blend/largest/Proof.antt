@@ -1,4 +1,4 @@
-use Rattle.blocks.proofs.Usual.{◌≤◌, ◌-◌, arith, needs}
+use Rattle.blocks.proofs.Usual.{◌≤◌, ◌-◌, arith, rules}
 use Rattle.rows.specs.inner.Combine.{AtMost}
 use Rattle.blocks.proofs.Laws.Blend.Above.{at-most-none, at-most_more, at-most_wider}
 use Rattle.blocks.proofs.blend.largest.Tie as tie
@@ -19,6 +19,6 @@ loop-again c =
 pub largest-spec : {M : Type 1} → Rattle.blocks.proofs.blend.largest.Statement.statement M
 largest-spec = tie.close (tie.spec invariant-loop decreases-loop
     (λ c. (omega arith, at-most-none 0 c.before.args.mask.now c.before.args.q))  -- loop-holds
-    (λ c. search needs) (λ c. search needs) (λ c κs. search needs) (λ c. search needs) (λ c. search needs)  -- q + i, mask[q + i], larger, i += 1
+    (λ c. search rules) (λ c. search rules) (λ c κs. search rules) (λ c. search rules) (λ c. search rules)  -- q + i, mask[q + i], larger, i += 1
     loop-again
     (λ c i b. c.before.loop.invariant.1 i (omega arith)))  -- returns

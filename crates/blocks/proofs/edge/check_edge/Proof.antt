@@ -1,4 +1,4 @@
-use Rattle.blocks.proofs.Usual.{needs}
+use Rattle.blocks.proofs.Usual.{rules}
 use Rattle.blocks.proofs.Laws.Calls.Told.{left_passed, top_passed}
 use Rattle.blocks.proofs.edge.check_edge.Tie as tie
 
@@ -19,5 +19,5 @@ returns c =
 
 pub check-edge-spec : {M : Type 1} → Rattle.blocks.proofs.edge.check_edge.Statement.statement M
 check-edge-spec = tie.close (tie.spec
-    (λ c κs. search needs) (λ c κs. search needs) (λ c κs. search needs) (λ c κs. search needs) (λ c κs. search needs)  -- held, places, stride
-    (λ c κs. search needs) (λ c κs. search needs) returns)  -- sides
+    (λ c κs. search rules) (λ c κs. search rules) (λ c κs. search rules) (λ c κs. search rules) (λ c κs. search rules)  -- held, places, stride
+    (λ c κs. search rules) (λ c κs. search rules) returns)  -- sides

@@ -1,4 +1,4 @@
-use Rattle.blocks.proofs.Usual.{◌∙◌, ap, ◌-◌, arith, needs, pos, ◌+ℤ◌, w64, clip, fit}
+use Rattle.blocks.proofs.Usual.{◌∙◌, ap, ◌-◌, arith, rules, pos, ◌+ℤ◌, w64, clip, fit}
 use Rattle.blocks.proofs.Laws.Edge.Ready.{Below, below, clip_below}
 use Rattle.blocks.proofs.edge.nearest_row.Tie as tie
 
@@ -13,6 +13,6 @@ returns c =
 pub nearest-row-spec : {M : Type 1} → Rattle.blocks.proofs.edge.nearest_row.Statement.statement M
 nearest-row-spec = tie.close (tie.spec (λ c. fit w64 (omega arith))  -- cast-left-of
     (λ c. (row c).ranges)  -- add-left-of
-    (λ c. search needs)  -- sub-left-of
+    (λ c. search rules)  -- sub-left-of
     (λ c κs. (omega arith, (row c).nearest, omega arith))  -- left-of-requires
     returns)

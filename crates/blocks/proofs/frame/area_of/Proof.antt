@@ -1,4 +1,4 @@
-use Rattle.blocks.proofs.Usual.{◌≡◌, refl, needs, w64, to_z, of_z, back}
+use Rattle.blocks.proofs.Usual.{◌≡◌, refl, rules, w64, to_z, of_z, back}
 use Rattle.rows.proofs.Laws.Numbers.Signed.{backs}
 use Rattle.blocks.specs.Window.{window_start}
 use Rattle.blocks.proofs.Laws.Window.Ready.{start_fits}
@@ -24,7 +24,7 @@ returns c plane mode =
 pub area-of-spec : {M : Type 1} → Rattle.blocks.proofs.frame.area_of.Statement.statement M
 area-of-spec = tie.close (tie.spec (λ c κs. c.before.requires.0)  -- window-side-requires
     (λ c κs. c.before.before.requires.1)  -- window-side-requires-2
-    (λ c κs. search needs) (λ c κs. search needs)  -- plane-w, plane-h
+    (λ c κs. search rules) (λ c κs. search rules)  -- plane-w, plane-h
     (λ c κs. let s = c.before.before.before.before.before in rw (back s.ranges.x) s.requires.2)  -- window-start-requires
     (λ c κs. let s = c.before.before.before.before.before.before in rw (back s.ranges.y) s.requires.3)  -- window-start-requires-2
     returns)

@@ -1,4 +1,4 @@
-use Rattle.blocks.proofs.Usual.{◌≡◌, refl, arith, needs, ◌-ℤ◌, w64, SFits, to_z, of_z, before, back, fit, backn, fit_abs}
+use Rattle.blocks.proofs.Usual.{◌≡◌, refl, arith, rules, ◌-ℤ◌, w64, SFits, to_z, of_z, before, back, fit, backn, fit_abs}
 use Rattle.blocks.specs.Window.{window_start}
 use Rattle.blocks.proofs.Laws.Window.Ready.{margins, start_near}
 use Rattle.blocks.proofs.frame.window_start.Tie as tie
@@ -11,7 +11,7 @@ is : (c : tie.After-before2) → to_z w64 (of_z w64 c.before.args.x) -ℤ to_z w
 is c = rw (c.before2.ensures, back c.before.ranges.x, backn w64 (before c.before.args.kind) (omega (arith, margins c.before.args.kind))) refl
 
 pub window-start-spec : {M : Type 1} → Rattle.blocks.proofs.frame.window_start.Statement.statement M
-window-start-spec = tie.close (tie.spec (λ c κs. search needs)  -- before-requires
+window-start-spec = tie.close (tie.spec (λ c κs. search rules)  -- before-requires
     (λ c. fit w64 (omega (arith, c.before2.ensures, margins c.before.args.kind)))  -- cast-result
     (λ c. rw (is c) (fits c))  -- sub-result
     (λ c. rw (is c) (back (fits c))))  -- returns

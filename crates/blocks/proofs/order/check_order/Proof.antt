@@ -1,4 +1,4 @@
-use Rattle.blocks.proofs.Usual.{List, [], ◌≡◌, ◌∙◌, sym, ℕ, needs, w64, Setting, Tables, lowest, LentPlane, lent_of, told_back}
+use Rattle.blocks.proofs.Usual.{List, [], ◌≡◌, ◌∙◌, sym, ℕ, rules, w64, Setting, Tables, lowest, LentPlane, lent_of, told_back}
 use Rattle.blocks.specs.inner.Order.{setting_of}
 use Rattle.blocks.proofs.Laws.Order.Ready.{shape_tests, number_tests, shape_met, numbers_met, shape_block, shape_stop, numbers_stop, order_go}
 use Rattle.blocks.proofs.order.check_order.Tie as tie
@@ -59,5 +59,5 @@ returns-3 c depth plane tables l t =
 
 pub check-order-spec : {M : Type 1} → Rattle.blocks.proofs.order.check_order.Statement.statement M
 check-order-spec = tie.close (tie.spec
-    (λ c κs. search needs) returns (λ c κs. search needs) returns-2 (λ c κs. search needs)  -- order-shape, order-numbers, held
-    (λ c κs. search needs) window-held-requires order-tables-requires returns-3)  -- kind-number
+    (λ c κs. search rules) returns (λ c κs. search rules) returns-2 (λ c κs. search rules)  -- order-shape, order-numbers, held
+    (λ c κs. search rules) window-held-requires order-tables-requires returns-3)  -- kind-number

@@ -1,4 +1,4 @@
-use Rattle.blocks.proofs.Usual.{refl, needs, filters_ok}
+use Rattle.blocks.proofs.Usual.{refl, rules, filters_ok}
 use Rattle.blocks.proofs.Laws.Order.Kinds.{subpel_passed}
 use Rattle.blocks.proofs.Laws.Order.Ready.{warp_near}
 use Rattle.blocks.proofs.order.filters_ok.Tie as tie
@@ -30,5 +30,5 @@ returns-4 c =
 
 pub filters-ok-spec : {M : Type 1} → Rattle.blocks.proofs.order.filters_ok.Statement.statement M
 filters-ok-spec = tie.close (tie.spec
-    (λ c. search needs) (λ c. search needs) (λ c κs. search needs) (λ c κs. search needs) (λ c. search needs)  -- enum_told, enum-known-k, filter-in
-    (λ c. search needs) filters-there-requires returns returns-2 returns-3 returns-4)  -- enum-known-k
+    (λ c. search rules) (λ c. search rules) (λ c κs. search rules) (λ c κs. search rules) (λ c. search rules)  -- enum_told, enum-known-k, filter-in
+    (λ c. search rules) filters-there-requires returns returns-2 returns-3 returns-4)  -- enum-known-k

@@ -1,4 +1,4 @@
-use Rattle.blocks.proofs.Usual.{refl, needs, kind_size_ok}
+use Rattle.blocks.proofs.Usual.{refl, rules, kind_size_ok}
 use Rattle.blocks.proofs.order.kind_size_ok.Tie as tie
 
 returns : tie.Need-returns
@@ -19,4 +19,4 @@ returns-4 c = rw c.enum-told4.given.1 refl
 
 pub kind-size-ok-spec : {M : Type 1} → Rattle.blocks.proofs.order.kind_size_ok.Statement.statement M
 kind-size-ok-spec = tie.close (tie.spec
-    (λ c. search needs) (λ c. search needs) (λ c. search needs) (λ c. search needs) returns returns-2 returns-3 returns-4)  -- enum_told
+    (λ c. search rules) (λ c. search rules) (λ c. search rules) (λ c. search rules) returns returns-2 returns-3 returns-4)  -- enum_told

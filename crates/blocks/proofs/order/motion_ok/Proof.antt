@@ -1,4 +1,4 @@
-use Rattle.blocks.proofs.Usual.{refl, needs, motion_ok}
+use Rattle.blocks.proofs.Usual.{refl, rules, motion_ok}
 use Rattle.blocks.specs.Warp.{warp_place_ok}
 use Rattle.blocks.proofs.Laws.Order.Kinds.{subpel_passed, bilin_passed, warp_passed}
 use Rattle.blocks.proofs.order.motion_ok.Tie as tie
@@ -32,6 +32,6 @@ returns-4 c =
 
 pub motion-ok-spec : {M : Type 1} → Rattle.blocks.proofs.order.motion_ok.Statement.statement M
 motion-ok-spec = tie.close (tie.spec
-    (λ c. search needs) (λ c. search needs) (λ c κs. search needs) (λ c κs. search needs)  -- enum_told, enum-known-k, type-ok, fraction-ok
-    (λ c κs. search needs) (λ c. search needs) (λ c κs. search needs) (λ c κs. search needs)  -- fraction-ok, enum-known-k, sixteenth-ok
-    (λ c. search needs) (λ c κs. search needs) (λ c κs. search needs) returns returns-2 returns-3 returns-4)  -- enum-known-k, within
+    (λ c. search rules) (λ c. search rules) (λ c κs. search rules) (λ c κs. search rules)  -- enum_told, enum-known-k, type-ok, fraction-ok
+    (λ c κs. search rules) (λ c. search rules) (λ c κs. search rules) (λ c κs. search rules)  -- fraction-ok, enum-known-k, sixteenth-ok
+    (λ c. search rules) (λ c κs. search rules) (λ c κs. search rules) returns returns-2 returns-3 returns-4)  -- enum-known-k, within

@@ -1,4 +1,4 @@
-use Rattle.blocks.proofs.Usual.{needs, back}
+use Rattle.blocks.proofs.Usual.{rules, back}
 use Rattle.blocks.proofs.order.order_numbers.Tie as tie
 
 returns : tie.Need-returns
@@ -18,5 +18,5 @@ returns c =
 
 pub order-numbers-spec : {M : Type 1} → Rattle.blocks.proofs.order.order_numbers.Statement.statement M
 order-numbers-spec = tie.close (tie.spec
-    (λ c κs. search needs) (λ c κs. search needs) (λ c κs. search needs) (λ c κs. search needs)  -- motion-ok, needed, places, frame-names-ok
-    (λ c κs. search needs) (λ c κs. search needs) (λ c κs. search needs) returns)  -- needed
+    (λ c κs. search rules) (λ c κs. search rules) (λ c κs. search rules) (λ c κs. search rules)  -- motion-ok, needed, places, frame-names-ok
+    (λ c κs. search rules) (λ c κs. search rules) (λ c κs. search rules) returns)  -- needed

@@ -1,4 +1,4 @@
-use Rattle.blocks.proofs.Usual.{needs}
+use Rattle.blocks.proofs.Usual.{rules}
 use Rattle.blocks.proofs.order.order_shape.Tie as tie
 
 returns : tie.Need-returns
@@ -17,5 +17,5 @@ returns c =
 
 pub order-shape-spec : {M : Type 1} → Rattle.blocks.proofs.order.order_shape.Statement.statement M
 order-shape-spec = tie.close (tie.spec
-    (λ c κs. search needs) (λ c κs. search needs) (λ c κs. search needs) (λ c κs. search needs)  -- plane-w, stride, kind-size-ok
-    (λ c κs. search needs) (λ c κs. search needs) (λ c κs. search needs) (λ c κs. search needs) returns)  -- needed, sizes, frame-sizes-ok
+    (λ c κs. search rules) (λ c κs. search rules) (λ c κs. search rules) (λ c κs. search rules)  -- plane-w, stride, kind-size-ok
+    (λ c κs. search rules) (λ c κs. search rules) (λ c κs. search rules) (λ c κs. search rules) returns)  -- needed, sizes, frame-sizes-ok

@@ -1,4 +1,4 @@
-use Rattle.blocks.proofs.Usual.{needs, whole_filters}
+use Rattle.blocks.proofs.Usual.{rules, whole_filters}
 use Rattle.blocks.specs.Subpel.{subpel_ok}
 use Rattle.blocks.proofs.order.order_tables.Tie as tie
 
@@ -10,4 +10,4 @@ returns c =
 
 pub order-tables-spec : {M : Type 1} → Rattle.blocks.proofs.order.order_tables.Statement.statement M
 order-tables-spec = tie.close (tie.spec
-    (λ c κs. search needs) (λ c κs. search needs) (λ c κs. search needs) (λ c κs. search needs) (λ c κs. search needs) returns)  -- filters-ok, needed
+    (λ c κs. search rules) (λ c κs. search rules) (λ c κs. search rules) (λ c κs. search rules) (λ c κs. search rules) returns)  -- filters-ok, needed

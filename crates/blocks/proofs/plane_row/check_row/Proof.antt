@@ -1,4 +1,4 @@
-use Rattle.blocks.proofs.Usual.{refl, needs, back}
+use Rattle.blocks.proofs.Usual.{refl, rules, back}
 use Rattle.blocks.proofs.plane_row.check_row.Tie as tie
 
 returns : tie.Need-returns
@@ -22,6 +22,6 @@ returns c plane long =
 
 pub check-row-spec : {M : Type 1} → Rattle.blocks.proofs.plane_row.check_row.Statement.statement M
 check-row-spec = tie.close (tie.spec
-    (λ c κs. search needs) (λ c κs. search needs) (λ c κs. search needs) (λ c κs. search needs)  -- plane-w, plane-h, held, frame-names-ok
-    (λ c κs. search needs) (λ c κs. search needs) (λ c κs. search needs) (λ c κs. search needs)  -- row_ok, needed, frame-sizes-ok
-    (λ c κs. search needs) (λ c κs. search needs) returns)  -- stride, needed
+    (λ c κs. search rules) (λ c κs. search rules) (λ c κs. search rules) (λ c κs. search rules)  -- plane-w, plane-h, held, frame-names-ok
+    (λ c κs. search rules) (λ c κs. search rules) (λ c κs. search rules) (λ c κs. search rules)  -- row_ok, needed, frame-sizes-ok
+    (λ c κs. search rules) (λ c κs. search rules) returns)  -- stride, needed

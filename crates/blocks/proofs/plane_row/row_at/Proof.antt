@@ -1,4 +1,4 @@
-use Rattle.blocks.proofs.Usual.{List, ◌≡◌, ◌∙◌, sym, ap, ℕ, arith, needs, length, up, lowest, row_at, lent_of, back, done}
+use Rattle.blocks.proofs.Usual.{List, ◌≡◌, ◌∙◌, sym, ap, ℕ, arith, rules, length, up, lowest, row_at, lent_of, back, done}
 use Rattle.blocks.specs.Window.{row_tests}
 use Rattle.blocks.proofs.Laws.Window.Ready.{plane_of_lem, no_part_of}
 use Rattle.blocks.proofs.Laws.Window.Rows.{row-there}
@@ -29,5 +29,5 @@ returns-2 c plane l =
     rw (row_is c.before, c.plane-w.ensures) (sym (done _ _ _ (sym (is e.before plane l) ∙ e.if1.false)))
 
 pub row-at-spec : {M : Type 1} → Rattle.blocks.proofs.plane_row.row_at.Statement.statement M
-row-at-spec = tie.close (tie.spec (λ c κs. search needs) (λ c κs. search needs) returns (λ c κs. search needs) mul-place  -- check-row, no_part, up64
-    (λ c κs. search needs) returns-2)  -- plane-w
+row-at-spec = tie.close (tie.spec (λ c κs. search rules) (λ c κs. search rules) returns (λ c κs. search rules) mul-place  -- check-row, no_part, up64
+    (λ c κs. search rules) returns-2)  -- plane-w

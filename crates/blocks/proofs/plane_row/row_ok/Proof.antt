@@ -1,4 +1,4 @@
-use Rattle.blocks.proofs.Usual.{◌∙◌, ap, ℕ, needs, ltb, up, back}
+use Rattle.blocks.proofs.Usual.{◌∙◌, ap, ℕ, rules, ltb, up, back}
 use Rattle.blocks.proofs.Laws.Window.Rows.{below_none, from_none}
 use Rattle.blocks.proofs.plane_row.row_ok.Tie as tie
 
@@ -12,4 +12,4 @@ returns-2 c =
     ∙ from_none s.args.row s.args.h (rw (back s.ranges.row) at c.before.if1.false)
 
 pub row-ok-spec : {M : Type 1} → Rattle.blocks.proofs.plane_row.row_ok.Statement.statement M
-row-ok-spec = tie.close (tie.spec (λ c κs. search needs) returns returns-2)  -- up64
+row-ok-spec = tie.close (tie.spec (λ c κs. search rules) returns returns-2)  -- up64

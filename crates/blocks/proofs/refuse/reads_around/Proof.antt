@@ -1,4 +1,4 @@
-use Rattle.blocks.proofs.Usual.{◌≡◌, ◌∙◌, refl, sym, ℕ, ◌≤◌, ◌*◌, ◌+◌, ◌-◌, mul-le-mul_right, arith, needs, le-leb, le-ltb, lt-leb, lt-ltb, ltb, reads}
+use Rattle.blocks.proofs.Usual.{◌≡◌, ◌∙◌, refl, sym, ℕ, ◌≤◌, ◌*◌, ◌+◌, ◌-◌, mul-le-mul_right, arith, rules, le-leb, le-ltb, lt-leb, lt-ltb, ltb, reads}
 use Rattle.blocks.proofs.Usual.{by-lt}
 use Rattle.blocks.proofs.Laws.Calls.Refuse.{reads_past}
 use Rattle.blocks.proofs.refuse.reads_around.Tie as tie
@@ -30,8 +30,8 @@ returns-3 c =
     rw (le-leb (a.c * a.s + a.b) a.o (omega arith)) (moved ((a.h - 1 + a.d) * a.s) (a.w - 1 + a.e) a.o a.sl (omega arith))
 
 pub reads-around-spec : {M : Type 1} → Rattle.blocks.proofs.refuse.reads_around.Statement.statement M
-reads-around-spec = tie.close (tie.spec (λ c. search needs) (λ c. search needs)  -- sub-last, add-last
+reads-around-spec = tie.close (tie.spec (λ c. search rules) (λ c. search rules)  -- sub-last, add-last
     (λ c. omega (arith, small c))  -- mul-last
-    (λ c. search needs) (λ c. search needs)  -- sub-last-2, add-last-2
+    (λ c. search rules) (λ c. search rules)  -- sub-last-2, add-last-2
     (λ c. omega (arith, small c)) (λ c. omega (arith, small c)) (λ c. omega (arith, small c))  -- add-last-3, mul-if1, add-if1
     returns returns-2 returns-3)

@@ -1,4 +1,4 @@
-use Rattle.blocks.proofs.Usual.{List, ◌≡◌, ◌∙◌, sym, arith, needs, lowest, Test, later, sooner}
+use Rattle.blocks.proofs.Usual.{List, ◌≡◌, ◌∙◌, sym, arith, rules, lowest, Test, later, sooner}
 use Rattle.blocks.proofs.Laws.Scaled.Ready.{number_tests, numbers_met}
 use Rattle.blocks.proofs.scaled.check_scaled.Tie as tie
 
@@ -22,8 +22,8 @@ returns-2 c =
     rw (c.needed4.ensures, r.reads-scaled.ensures, c.before.held.ensures) (later (first r.before.before) _ (none r.before))
 
 pub check-scaled-spec : {M : Type 1} → Rattle.blocks.proofs.scaled.check_scaled.Statement.statement M
-check-scaled-spec = tie.close (tie.spec (λ c κs. search needs) (λ c κs. search needs) (λ c κs. search needs) (λ c κs. search needs)  -- needed, scaled-motion
-    (λ c κs. search needs) (λ c κs. search needs) (λ c κs. search needs)  -- stride, sizes
+check-scaled-spec = tie.close (tie.spec (λ c κs. search rules) (λ c κs. search rules) (λ c κs. search rules) (λ c κs. search rules)  -- needed, scaled-motion
+    (λ c κs. search rules) (λ c κs. search rules) (λ c κs. search rules)  -- stride, sizes
     (λ c. shape c.before ∙ sooner (first c.before) _ (λ q. c.if1.true (shape c.before ∙ q)))  -- returns
     (λ c κs. omega (arith, numbers_met _ _ _ _ _ _ _ _ _ _ _ (none c)))  -- reads-scaled
-    (λ c κs. search needs) (λ c κs. search needs) returns-2)  -- held, needed
+    (λ c κs. search rules) (λ c κs. search rules) returns-2)  -- held, needed

@@ -1,4 +1,4 @@
-use Rattle.blocks.proofs.Usual.{◌≡◌, sym, min, arith, needs}
+use Rattle.blocks.proofs.Usual.{◌≡◌, sym, min, arith, rules}
 use mathlib.Core.Logic.{⊎_elim}
 use Rattle.rows.specs.Scaled.{sixteenth}
 use Rattle.blocks.specs.Scaled.{column_read}
@@ -21,6 +21,6 @@ unfolding column_read
 returns-3 c = rw (c.reads-around2.ensures, c.before.if2.false)
 
 pub column-read-spec : {M : Type 1} → Rattle.blocks.proofs.scaled.column_read.Statement.statement M
-column-read-spec = tie.close (tie.spec (λ c. search needs) returns (λ c. search needs)
+column-read-spec = tie.close (tie.spec (λ c. search rules) returns (λ c. search rules)
     (λ c. omega (arith, filtered c.before)) (λ c. omega (arith, filtered c.before)) (λ c κs. omega (arith, filtered c.before))
-    returns-2 (λ c κs. search needs) returns-3)
+    returns-2 (λ c κs. search rules) returns-3)

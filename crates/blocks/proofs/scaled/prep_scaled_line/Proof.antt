@@ -1,4 +1,4 @@
-use Rattle.blocks.proofs.Usual.{◌∙◌, sym, subst, ◌<◌, arith, needs, get_or, w16, backn}
+use Rattle.blocks.proofs.Usual.{◌∙◌, sym, subst, ◌<◌, arith, rules, get_or, w16, backn}
 use lib.Dec.{T}
 use Rattle.blocks.proofs.Laws.Scaled.Lines.{turned_lt, prep_line_whole, prep_line_by}
 use Rattle.blocks.proofs.scaled.prep_scaled_line.Tie as tie
@@ -27,14 +27,14 @@ returns-2 c =
     (rw e.eight.ensures at r.by_rows.ensures) a.bias
 
 pub prep-scaled-line-spec : {M : Type 1} → Rattle.blocks.proofs.scaled.prep_scaled_line.Statement.statement M
-prep-scaled-line-spec = tie.close (tie.spec (λ c. search needs)  -- order[3]
+prep-scaled-line-spec = tie.close (tie.spec (λ c. search rules)  -- order[3]
     (λ c. omega (arith, third c))  -- order[3] * 64
-    (λ c. search needs)  -- bias as i16
+    (λ c. search rules)  -- bias as i16
     (λ c κs. omega (arith, third c))  -- mid-bilin-prep-row
     (λ c. omega arith) (λ c. omega arith) (λ c. omega arith)  -- 15 * family + (f - 1)
     (λ c κs. omega arith)  -- eight
-    (λ c. search needs)  -- order[0]
+    (λ c. search rules)  -- order[0]
     (λ c κs. c.before.before.requires.2.0)  -- by_rows
-    (λ c. search needs)  -- bias as i16
+    (λ c. search rules)  -- bias as i16
     (λ c κs. (omega arith, omega arith, λ e. absurd (subst T (sym e) tt)))  -- mid-prep-by
-    (λ c. search needs) returns (λ c. search needs) returns-2)
+    (λ c. search rules) returns (λ c. search rules) returns-2)

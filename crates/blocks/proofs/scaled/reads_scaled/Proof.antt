@@ -1,4 +1,4 @@
-use Rattle.blocks.proofs.Usual.{true, Bool, false, ◌≡◌, refl, sym, ℕ, ◌≤◌, ◌*◌, ◌-◌, arith, needs, w32, up, told_back}
+use Rattle.blocks.proofs.Usual.{true, Bool, false, ◌≡◌, refl, sym, ℕ, ◌≤◌, ◌*◌, ◌-◌, arith, rules, w32, up, told_back}
 use mathlib.Core.Bool.{not}
 use native.Mathlib.Nat.{mul-le-mul}
 use native.Mathlib.Numerals.{add-one}
@@ -93,11 +93,11 @@ returns-3 c =
 pub reads-scaled-spec : {M : Type 1} → Rattle.blocks.proofs.scaled.reads_scaled.Statement.statement M
 unfolding every
 reads-scaled-spec = tie.close (tie.spec invariant-loop decreases-loop returns
-    (λ c κs. search needs) (λ c. search needs) (λ c. search needs) (λ c κs. search needs) (λ c. search needs)  -- above, cast-rows, sub-rows, above, cast-rows
+    (λ c κs. search rules) (λ c. search rules) (λ c. search rules) (λ c κs. search rules) (λ c. search rules)  -- above, cast-rows, sub-rows, above, cast-rows
     (λ c. omega (arith, last_row c)) (λ c. omega (arith, down c, last_row c)) (λ c. omega (arith, down c, last_row c))  -- mul-rows, add-rows, add-rows-2
-    (λ c κs. search needs) (λ c. search needs) (λ c κs. search needs) (λ c. search needs)  -- above, cast-start, above, cast-step
+    (λ c κs. search rules) (λ c. search rules) (λ c κs. search rules) (λ c. search rules)  -- above, cast-start, above, cast-step
     (λ c. omega arith) (λ c. omega (arith, last-column-near c)) (λ c. omega (arith, across c.before, last-column-near c))  -- start + (w - 1) * step
     column-read-requires returns-2
     (λ c. (omega arith, refl))  -- loop-holds
     (λ c. omega (arith, column c)) (λ c. omega (arith, across c.before.before.before, column c))  -- start + x * step
-    column-read-requires-2 (λ c. search needs) (λ c. search needs) loop-again returns-3)  -- column-read, add-x, loop-less
+    column-read-requires-2 (λ c. search rules) (λ c. search rules) loop-again returns-3)  -- column-read, add-x, loop-less

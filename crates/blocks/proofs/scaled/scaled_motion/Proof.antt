@@ -1,4 +1,4 @@
-use Rattle.blocks.proofs.Usual.{needs, w32, told_back}
+use Rattle.blocks.proofs.Usual.{rules, w32, told_back}
 use Rattle.blocks.proofs.scaled.scaled_motion.Tie as tie
 
 returns : tie.Need-returns
@@ -12,5 +12,5 @@ returns c =
     (rw (told_back w32 g, told_back w32 g.1, told_back w32 g.1.1, told_back w32 g.1.1.1)))
 
 pub scaled-motion-spec : {M : Type 1} → Rattle.blocks.proofs.scaled.scaled_motion.Statement.statement M
-scaled-motion-spec = tie.close (tie.spec (λ c κs. search needs) (λ c κs. search needs) (λ c κs. search needs) (λ c κs. search needs)  -- step_ok, needed
-    (λ c κs. search needs) (λ c κs. search needs) (λ c κs. search needs) (λ c κs. search needs) returns)  -- start-ok, needed
+scaled-motion-spec = tie.close (tie.spec (λ c κs. search rules) (λ c κs. search rules) (λ c κs. search rules) (λ c κs. search rules)  -- step_ok, needed
+    (λ c κs. search rules) (λ c κs. search rules) (λ c κs. search rules) (λ c κs. search rules) returns)  -- start-ok, needed

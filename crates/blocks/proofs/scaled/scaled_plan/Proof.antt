@@ -1,4 +1,4 @@
-use Rattle.blocks.proofs.Usual.{refl, needs, w32, back, told_back}
+use Rattle.blocks.proofs.Usual.{refl, rules, w32, back, told_back}
 use Rattle.blocks.specs.inner.Scaled.{scaled_plan}
 use Rattle.blocks.proofs.scaled.scaled_plan.Tie as tie
 
@@ -27,6 +27,6 @@ returns c =
     refl
 
 pub scaled-plan-spec : {M : Type 1} → Rattle.blocks.proofs.scaled.scaled_plan.Statement.statement M
-scaled-plan-spec = tie.close (tie.spec (λ c κs. search needs) (λ c. search needs) (λ c κs. search needs) (λ c. search needs)  -- mx, my
-    (λ c κs. search needs) (λ c. search needs) (λ c κs. search needs) (λ c. search needs)  -- dx, dy
-    (λ c κs. search needs) (λ c κs. search needs) returns)  -- family_of
+scaled-plan-spec = tie.close (tie.spec (λ c κs. search rules) (λ c. search rules) (λ c κs. search rules) (λ c. search rules)  -- mx, my
+    (λ c κs. search rules) (λ c. search rules) (λ c κs. search rules) (λ c. search rules)  -- dx, dy
+    (λ c κs. search rules) (λ c κs. search rules) returns)  -- family_of

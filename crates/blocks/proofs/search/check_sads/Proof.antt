@@ -1,4 +1,4 @@
-use Rattle.blocks.proofs.Usual.{◌∙◌, sym, arith, needs, size_ok, Block}
+use Rattle.blocks.proofs.Usual.{◌∙◌, sym, arith, rules, size_ok, Block}
 use Rattle.blocks.proofs.Laws.Calls.Ready.{sizes_stop, sizes_pass, sizes_block}
 use Rattle.blocks.proofs.search.check_sads.Tie as tie
 
@@ -11,9 +11,9 @@ returns-2 c =
     cc (sizes_pass (size_ok 64 a.w) (size_ok 64 a.h) c.stride2.result (sym e.before.sizes.ensures ∙ e.if1.false))
 
 pub check-sads-spec : {M : Type 1} → Rattle.blocks.proofs.search.check_sads.Statement.statement M
-check-sads-spec = tie.close (tie.spec (λ c κs. search needs)  -- sizes-requires
+check-sads-spec = tie.close (tie.spec (λ c κs. search rules)  -- sizes-requires
     (λ c. c.before.sizes.ensures ∙ sizes_stop _ _ _ (λ e. c.if1.true (c.before.sizes.ensures ∙ e)))  -- returns
     (λ c. omega (arith, block c))  -- add-row
     (λ c. omega (arith, block c))  -- add-rows
-    (λ c κs. search needs) (λ c κs. search needs) (λ c κs. search needs) (λ c κs. search needs) (λ c κs. search needs)  -- held, needed, stride
+    (λ c κs. search rules) (λ c κs. search rules) (λ c κs. search rules) (λ c κs. search rules) (λ c κs. search rules)  -- held, needed, stride
     returns-2)

@@ -1,4 +1,4 @@
-use Rattle.blocks.proofs.Usual.{needs, back}
+use Rattle.blocks.proofs.Usual.{rules, back}
 use Rattle.blocks.proofs.Laws.Search.Ready.{start_place}
 use Rattle.blocks.proofs.search.second_place.Tie as tie
 
@@ -12,4 +12,4 @@ returns c =
     rw (t.before.behind.ensures.0, t.behind2.ensures.0, back s.ranges.dx, back s.ranges.dy) at c.stand-at.ensures
 
 pub second-place-spec : {M : Type 1} → Rattle.blocks.proofs.search.second_place.Statement.statement M
-second-place-spec = tie.close (tie.spec (λ c κs. search needs) (λ c κs. search needs) stand-at-requires returns)  -- behind
+second-place-spec = tie.close (tie.spec (λ c κs. search rules) (λ c κs. search rules) stand-at-requires returns)  -- behind

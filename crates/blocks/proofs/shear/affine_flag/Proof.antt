@@ -1,4 +1,4 @@
-use Rattle.blocks.proofs.Usual.{true, Bool, false, ◌≡◌, refl, arith, needs, pos, nat_abs, w32, to_z, reading}
+use Rattle.blocks.proofs.Usual.{true, Bool, false, ◌≡◌, refl, arith, rules, pos, nat_abs, w32, to_z, reading}
 use mathlib.Core.Bool.{cond}
 use mir.Val.{bool_byte}
 use Rattle.rows.specs.Shear.{affine_of}
@@ -32,16 +32,16 @@ returns c = rw (flag _, one c.before.before.before, two c.before.before, three c
 
 pub affine-flag-spec : {M : Type 1} → Rattle.blocks.proofs.shear.affine_flag.Statement.statement M
 affine-flag-spec = tie.close (tie.spec (λ c. search reading)  -- cast-abs32
-    (λ c κs. search needs)  -- abs32-requires
+    (λ c κs. search rules)  -- abs32-requires
     (λ c. omega (arith, one c, abs_mag c.before.args.a))  -- mul-first
     (λ c. search reading)  -- cast-abs32-2
-    (λ c κs. search needs)  -- abs32-requires-2
+    (λ c κs. search rules)  -- abs32-requires-2
     (λ c. omega (arith, two c, abs_mag c.before.before.args.b))  -- mul-first-2
     (λ c. omega (arith, one c.before, abs_mag c.before.before.args.a, two c, abs_mag c.before.before.args.b))  -- add-first
     (λ c. search reading)  -- cast-abs32-3
-    (λ c κs. search needs)  -- abs32-requires-3
+    (λ c κs. search rules)  -- abs32-requires-3
     (λ c. omega (arith, three c, abs_mag c.before.before.before.args.c))  -- mul-second
     (λ c. search reading)  -- cast-abs32-4
-    (λ c κs. search needs)  -- abs32-requires-4
+    (λ c κs. search rules)  -- abs32-requires-4
     (λ c. omega (arith, four c, abs_mag c.before.before.before.before.args.d))  -- mul-second-2
-    add-second (λ c. search needs) returns)  -- cast-result
+    add-second (λ c. search rules) returns)  -- cast-result

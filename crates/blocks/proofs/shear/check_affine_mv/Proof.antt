@@ -1,4 +1,4 @@
-use Rattle.blocks.proofs.Usual.{needs, back}
+use Rattle.blocks.proofs.Usual.{rules, back}
 use Rattle.blocks.proofs.shear.check_affine_mv.Tie as tie
 
 returns : tie.Need-returns
@@ -10,5 +10,5 @@ returns c =
 
 pub check-affine-mv-spec : {M : Type 1} → Rattle.blocks.proofs.shear.check_affine_mv.Statement.statement M
 check-affine-mv-spec = tie.close (tie.spec
-    (λ c κs. search needs) (λ c κs. search needs) (λ c κs. search needs) (λ c κs. search needs)  -- lies, entries-ok, needed
-    (λ c κs. search needs) (λ c κs. search needs) (λ c κs. search needs) returns)  -- moves, needed
+    (λ c κs. search rules) (λ c κs. search rules) (λ c κs. search rules) (λ c κs. search rules)  -- lies, entries-ok, needed
+    (λ c κs. search rules) (λ c κs. search rules) (λ c κs. search rules) returns)  -- moves, needed

@@ -1,4 +1,4 @@
-use Rattle.blocks.proofs.Usual.{needs, w32, back, fit}
+use Rattle.blocks.proofs.Usual.{rules, w32, back, fit}
 use Rattle.blocks.specs.Shear.{recip_ok}
 use Rattle.blocks.proofs.shear.check_shear.Tie as tie
 
@@ -16,5 +16,5 @@ returns c =
 
 pub check-shear-spec : {M : Type 1} → Rattle.blocks.proofs.shear.check_shear.Statement.statement M
 check-shear-spec = tie.close (tie.spec
-    (λ c κs. search needs) (λ c. search needs) (λ c κs. search needs) (λ c κs. search needs) (λ c κs. search needs)  -- entries-ok, matrix[2], needed
+    (λ c κs. search rules) (λ c. search rules) (λ c κs. search rules) (λ c κs. search rules) (λ c κs. search rules)  -- entries-ok, matrix[2], needed
     returns)

@@ -1,4 +1,4 @@
-use Rattle.blocks.proofs.Usual.{needs, w32, back, fit}
+use Rattle.blocks.proofs.Usual.{rules, w32, back, fit}
 use Rattle.blocks.specs.Shear.{entries_ok}
 use Rattle.blocks.proofs.shear.entries_ok.Tie as tie
 
@@ -18,5 +18,5 @@ returns c =
     )
 
 pub entries-ok-spec : {M : Type 1} → Rattle.blocks.proofs.shear.entries_ok.Statement.statement M
-entries-ok-spec = tie.close (tie.spec (λ c. search needs) (λ c κs. search needs) (λ c. search needs) (λ c κs. search needs)  -- matrix[2], within, matrix[3]
-    (λ c. search needs) (λ c κs. search needs) (λ c. search needs) (λ c κs. search needs) returns)  -- matrix[4], within, matrix[5]
+entries-ok-spec = tie.close (tie.spec (λ c. search rules) (λ c κs. search rules) (λ c. search rules) (λ c κs. search rules)  -- matrix[2], within, matrix[3]
+    (λ c. search rules) (λ c κs. search rules) (λ c. search rules) (λ c κs. search rules) returns)  -- matrix[4], within, matrix[5]

@@ -1,4 +1,4 @@
-use Rattle.blocks.proofs.Usual.{sym, needs, w32, SFits, back, fit, refused}
+use Rattle.blocks.proofs.Usual.{sym, rules, w32, SFits, back, fit, refused}
 use Rattle.blocks.specs.Shear.{ShearAnswer}
 use Rattle.blocks.proofs.shear.hv_get_shear_params.Tie as tie
 
@@ -15,6 +15,6 @@ returns-2 c =
     rw (back out) (answer r)
 
 pub hv-get-shear-params-spec : {M : Type 1} → Rattle.blocks.proofs.shear.hv_get_shear_params.Statement.statement M
-hv-get-shear-params-spec = tie.close (tie.spec (λ c κs. search needs)  -- get-shear-params-requires
+hv-get-shear-params-spec = tie.close (tie.spec (λ c κs. search rules)  -- get-shear-params-requires
     (λ c. ((answer c.before).0, sym (refused _ _ _ c.if1.true)))  -- returns
     returns-2)

@@ -1,4 +1,4 @@
-use Rattle.blocks.proofs.Usual.{sym, needs, back, refused}
+use Rattle.blocks.proofs.Usual.{sym, rules, back, refused}
 use Rattle.blocks.specs.Shear.{AffineMvAnswer}
 use Rattle.blocks.proofs.shear.hv_set_affine_mv2d.Tie as tie
 
@@ -9,6 +9,6 @@ answer r =
     rw (back f.bw4, back f.bh4, back f.mv_x, back f.mv_y, back f.bx4, back f.by4) at r.set-affine-mv2d.ensures.0
 
 pub hv-set-affine-mv2d-spec : {M : Type 1} → Rattle.blocks.proofs.shear.hv_set_affine_mv2d.Statement.statement M
-hv-set-affine-mv2d-spec = tie.close (tie.spec (λ c κs. search needs)  -- set-affine-mv2d-requires
+hv-set-affine-mv2d-spec = tie.close (tie.spec (λ c κs. search rules)  -- set-affine-mv2d-requires
     (λ c. ((answer c.before).0, sym (refused _ _ _ c.if1.true)))  -- returns
     (λ c. answer c.before.before.before))  -- returns-2

@@ -1,4 +1,4 @@
-use Rattle.blocks.proofs.Usual.{arith, needs, pos, ℤ, ◌+ℤ◌, ◌-ℤ◌, shr_z, w32, w16, w64, SFits, back, reading, back32}
+use Rattle.blocks.proofs.Usual.{arith, rules, pos, ℤ, ◌+ℤ◌, ◌-ℤ◌, shr_z, w32, w16, w64, SFits, back, reading, back32}
 use Rattle.rows.specs.Shear.{is_neg, Q}
 use Rattle.rows.proofs.Laws.Numbers.Signed.{mag-add, mag-sub, mag_shr}
 use Rattle.blocks.proofs.Laws.Warp.Shears.{neg_bit, neg_small, down_fits}
@@ -48,4 +48,4 @@ returns c =
 pub iclip-wmp-spec : {M : Type 1} → Rattle.blocks.proofs.shear.iclip_wmp.Statement.statement M
 iclip-wmp-spec = tie.close (tie.spec (λ c. search reading)  -- cast-keep32
     (λ c. rw (back32 c.ranges.v) (sum c))  -- add-keep32
-    (λ c. search needs) sub-keep32 (λ c κs. search needs) mul-clip-wmp (λ c κs. search needs) returns)  -- cast-keep32, keep32, clip-wmp
+    (λ c. search rules) sub-keep32 (λ c κs. search rules) mul-clip-wmp (λ c κs. search rules) returns)  -- cast-keep32, keep32, clip-wmp

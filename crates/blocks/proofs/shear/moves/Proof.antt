@@ -1,4 +1,4 @@
-use Rattle.blocks.proofs.Usual.{needs, back}
+use Rattle.blocks.proofs.Usual.{rules, back}
 use Rattle.blocks.proofs.shear.moves.Tie as tie
 
 returns : tie.Need-returns
@@ -22,5 +22,5 @@ returns c =
 
 pub moves-spec : {M : Type 1} → Rattle.blocks.proofs.shear.moves.Statement.statement M
 moves-spec = tie.close (tie.spec
-    (λ c κs. search needs) (λ c κs. search needs) (λ c κs. search needs) (λ c κs. search needs) (λ c κs. search needs)  -- lies, within, needed
-    (λ c κs. search needs) (λ c κs. search needs) (λ c κs. search needs) returns)  -- needed
+    (λ c κs. search rules) (λ c κs. search rules) (λ c κs. search rules) (λ c κs. search rules) (λ c κs. search rules)  -- lies, within, needed
+    (λ c κs. search rules) (λ c κs. search rules) (λ c κs. search rules) returns)  -- needed

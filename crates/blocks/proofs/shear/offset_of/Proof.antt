@@ -1,5 +1,5 @@
 -- Every step is below 2^42.
-use Rattle.blocks.proofs.Usual.{◌≤◌, ◌^◌, arith, needs, pos, ℤ, nat_abs, ◌-ℤ◌, ◌*ℤ◌, w32, w64, SFits, back, fit_abs, reading, back32}
+use Rattle.blocks.proofs.Usual.{◌≤◌, ◌^◌, arith, rules, pos, ℤ, nat_abs, ◌-ℤ◌, ◌*ℤ◌, w32, w64, SFits, back, fit_abs, reading, back32}
 use Rattle.rows.specs.Shear.{offset_of}
 use Rattle.rows.proofs.Laws.Numbers.Signed.{abs-sub, abs-mul-le}
 use Rattle.blocks.proofs.shear.offset_of.Tie as tie
@@ -82,4 +82,4 @@ offset-of-spec = tie.close (tie.spec (λ c. search reading)  -- cast-clip-entry
     (λ c. search reading)  -- cast-clip-entry-4
     (λ c. search reading)  -- cast-clip-entry-5
     (λ c. simp (back32 c.ranges.y, back32 c.ranges.q) (d c))  -- mul-clip-entry-3
-    sub-clip-entry-2 (λ c κs. search needs) returns)  -- clip-entry
+    sub-clip-entry-2 (λ c κs. search rules) returns)  -- clip-entry

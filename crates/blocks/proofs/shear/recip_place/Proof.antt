@@ -1,5 +1,5 @@
 -- No bit is lost by a shift, and the place is at most 128.
-use Rattle.blocks.proofs.Usual.{◌≡◌, sym, ◌*◌, ◌-◌, ◌^◌, ◌%◌, arith, needs}
+use Rattle.blocks.proofs.Usual.{◌≡◌, sym, ◌*◌, ◌-◌, ◌^◌, ◌%◌, arith, rules}
 use Rattle.blocks.proofs.Laws.Warp.Shears.{Top, top-is, one_shl, few, place_few, place_many, Many, many}
 use Rattle.blocks.proofs.shear.recip_place.Tie as tie
 
@@ -30,10 +30,10 @@ returns-2 c =
 pub recip-place-spec : {M : Type 1} → Rattle.blocks.proofs.shear.recip_place.Statement.statement M
 recip-place-spec = tie.close (tie.spec (λ c. (at_top c).small)  -- shl-e
     (λ c. rw (one c) (at_top c).low)  -- sub-e
-    (λ c. search needs) (λ c. search needs) (λ c. search needs)  -- shl-result, cast-result, sub-result
+    (λ c. search rules) (λ c. search rules) (λ c. search rules)  -- shl-result, cast-result, sub-result
     (λ c. omega (arith, at_top c.before))  -- shl-result-2
     (λ c. rw (one c.before, eighth c.before) (omega (arith, at-many c)))  -- add-result
-    (λ c. search needs)  -- sub-result-2
+    (λ c. search rules)  -- sub-result-2
     (λ c. omega (arith, at_top c.before))  -- shr-result
     (λ c. rw (one c.before, eighth c.before) (omega (arith, at-many c)))  -- cast-result-2
     returns returns-2)

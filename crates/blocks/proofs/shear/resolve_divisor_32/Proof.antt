@@ -1,4 +1,4 @@
-use Rattle.blocks.proofs.Usual.{sym, ◌+◌, arith, needs, pos, length, get_or, w32, SFits, back, backn, done, refused}
+use Rattle.blocks.proofs.Usual.{sym, ◌+◌, arith, rules, pos, length, get_or, w32, SFits, back, backn, done, refused}
 use Rattle.rows.specs.Shear.{recip_of, shift_of}
 use Rattle.blocks.specs.inner.Ready.{Divides}
 use Rattle.blocks.specs.Shear.{divisor_of}
@@ -32,10 +32,10 @@ returns-2 c =
     (sym (done _ _ _ (rw e at c.before.before.before.if1.false)))
 
 pub resolve-divisor-32-spec : {M : Type 1} → Rattle.blocks.proofs.shear.resolve_divisor_32.Statement.statement M
-resolve-divisor-32-spec = tie.close (tie.spec (λ c κs. search needs) returns  -- check-divisor
+resolve-divisor-32-spec = tie.close (tie.spec (λ c κs. search rules) returns  -- check-divisor
     (λ c κs. omega (arith, ok c))  -- top-bit-requires
     (λ c κs. (omega (arith, ok c.before), c.top_bit.ensures))  -- recip-place-requires
-    (λ c. search needs)  -- 2 * f
+    (λ c. search rules)  -- 2 * f
     (λ c. omega (arith, ok c.before.before.before, c.before.recip-place.ensures.1))  -- recip[f]
     (λ c. omega (arith, c.shared-slice-known2.given c.before.recip-place.result))  -- cast-y
     (λ c. omega (arith, at_top c.before.before))  -- cast-shift

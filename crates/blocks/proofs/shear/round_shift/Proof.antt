@@ -1,4 +1,4 @@
-use Rattle.blocks.proofs.Usual.{◌≡◌, ◌∙◌, ap, ℕ, ◌≤◌, ◌*◌, ◌+◌, ◌-◌, ◌<◌, ◌^◌, ◌/◌, ◌%◌, arith, needs, pos, nat_abs, w32, w64, SFits, to_z, back, fit}
+use Rattle.blocks.proofs.Usual.{◌≡◌, ◌∙◌, ap, ℕ, ◌≤◌, ◌*◌, ◌+◌, ◌-◌, ◌<◌, ◌^◌, ◌/◌, ◌%◌, arith, rules, pos, nat_abs, w32, w64, SFits, to_z, back, fit}
 use Rattle.blocks.proofs.Usual.{backn}
 use native.Mathlib.Nat.{div-le_self}
 use lib.Pow.{pow_mono}
@@ -55,8 +55,8 @@ returns-2 c =
 
 pub round-shift-spec : {M : Type 1} → Rattle.blocks.proofs.shear.round_shift.Statement.statement M
 round-shift-spec = tie.close (tie.spec
-    (λ c κs. search needs) (λ c. search needs) (λ c. search needs) (λ c. search needs)  -- abs64, sub-keep32, cast-keep32, shl-keep32
+    (λ c κs. search rules) (λ c. search rules) (λ c. search rules) (λ c. search rules)  -- abs64, sub-keep32, cast-keep32, shl-keep32
     (λ c. let p = c.before.requires in omega (arith, sum c.before.args.k c.abs64.result p.2 (small c)))  -- add-keep32
-    (λ c. search needs)  -- shr-keep32
+    (λ c. search rules)  -- shr-keep32
     (λ c. let p = c.before.requires in fit w64 (quotient c.before.args.k c.abs64.result p.2 (small c)))  -- cast-keep32-2
-    (λ c κs. search needs) (λ c κs. search needs) returns returns-2)  -- keep32, wrapping-neg32
+    (λ c κs. search rules) (λ c κs. search rules) returns returns-2)  -- keep32, wrapping-neg32

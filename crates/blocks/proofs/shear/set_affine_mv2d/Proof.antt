@@ -1,4 +1,4 @@
-use Rattle.blocks.proofs.Usual.{◌≡◌, ◌∙◌, refl, sym, ap, needs, lowest, back, done, refused}
+use Rattle.blocks.proofs.Usual.{◌≡◌, ◌∙◌, refl, sym, ap, rules, lowest, back, done, refused}
 use Rattle.blocks.specs.Shear.{affine_mv_tests}
 use Rattle.blocks.specs.declared.shear.WarpParams.{WarpParams}
 use Rattle.blocks.proofs.Laws.Warp.Shears.{affine_mv_ready}
@@ -25,6 +25,6 @@ returns-2 c =
     ((is t, m), ap (λ (w : WarpParams). w.abcd) e, ap (λ (w : WarpParams). w.affine) e)
 
 pub set-affine-mv2d-spec : {M : Type 1} → Rattle.blocks.proofs.shear.set_affine_mv2d.Statement.statement M
-set-affine-mv2d-spec = tie.close (tie.spec (λ c κs. search needs)  -- check-affine-mv-requires
+set-affine-mv2d-spec = tie.close (tie.spec (λ c κs. search rules)  -- check-affine-mv-requires
     (λ c. ((is c.before, sym (refused _ _ _ c.if1.true)), refl, refl))  -- returns
     with-mv-requires returns-2)

@@ -1,5 +1,5 @@
 -- The products are below 2^54.
-use Rattle.blocks.proofs.Usual.{◌≤◌, ◌^◌, arith, needs, pos, ℤ, nat_abs, ◌*ℤ◌, w32, w16, w64, SFits, back, reading, back32}
+use Rattle.blocks.proofs.Usual.{◌≤◌, ◌^◌, arith, rules, pos, ℤ, nat_abs, ◌*ℤ◌, w32, w16, w64, SFits, back, reading, back32}
 use Rattle.rows.specs.Shear.{shear_c}
 use Rattle.rows.proofs.Laws.Numbers.Signed.{abs-mul-le, mag-abs}
 use Rattle.blocks.proofs.shear.shear_c.Tie as tie
@@ -37,4 +37,4 @@ shear-c-spec = tie.close (tie.spec (λ c. search reading)  -- cast-round-shift
     (λ c. search reading)  -- cast-round-shift-2
     (λ c. rw (back32 c.ranges.m4, back32 c.ranges.y, back (first_fits c)) (v-fits c))  -- mul-round-shift-2
     (λ c κs. rw (back32 c.ranges.m4, back32 c.ranges.y, back (first_fits c), back (v-fits c)) (omega (arith, v-le c)))  -- round-shift-requires
-    (λ c κs. search needs) returns)  -- iclip-wmp
+    (λ c κs. search rules) returns)  -- iclip-wmp

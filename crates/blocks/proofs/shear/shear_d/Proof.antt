@@ -1,5 +1,5 @@
 -- The products are below 2^60.
-use Rattle.blocks.proofs.Usual.{◌≤◌, ◌^◌, arith, needs, ℤ, nat_abs, ◌*ℤ◌, w32, w16, w64, SFits, back, reading, back32}
+use Rattle.blocks.proofs.Usual.{◌≤◌, ◌^◌, arith, rules, ℤ, nat_abs, ◌*ℤ◌, w32, w16, w64, SFits, back, reading, back32}
 use Rattle.rows.specs.Shear.{shear_d}
 use Rattle.rows.proofs.Laws.Numbers.Signed.{abs-mul-le, mag-abs}
 use Rattle.blocks.proofs.shear.shear_d.Tie as tie
@@ -62,4 +62,4 @@ shear-d-spec = tie.close (tie.spec (λ c. search reading)  -- cast-v
     (λ c. rw (back32 c.ranges.m3, back32 c.ranges.m4) (first_fits c))  -- mul-v
     (λ c. search reading)  -- cast-v-3
     (λ c. rw (back32 c.ranges.m3, back32 c.ranges.m4, back32 c.ranges.y, back (first_fits c)) (v-fits c))  -- mul-v-2
-    round-shift-requires (λ c κs. search needs) (λ c κs. search needs) (λ c κs. search needs) returns)  -- wrapping-sub32, iclip-wmp
+    round-shift-requires (λ c κs. search rules) (λ c κs. search rules) (λ c κs. search rules) returns)  -- wrapping-sub32, iclip-wmp

@@ -1,4 +1,4 @@
-use Rattle.blocks.proofs.Usual.{◌≡◌, ◌∙◌, ℕ, ◌≤◌, arith, needs, pos, ℤ, nat_abs, ◌-ℤ◌, w32, SFits, to_z, of_z, at, back, fit, fit_abs}
+use Rattle.blocks.proofs.Usual.{◌≡◌, ◌∙◌, ℕ, ◌≤◌, arith, rules, pos, ℤ, nat_abs, ◌-ℤ◌, w32, SFits, to_z, of_z, at, back, fit, fit_abs}
 use Rattle.rows.specs.Shear.{middle, entry0, entry1}
 use Rattle.rows.proofs.Laws.Numbers.Signed.{abs-sub}
 use Rattle.blocks.specs.Shear.{with_mv}
@@ -87,9 +87,9 @@ pub with-mv-spec : {M : Type 1} → Rattle.blocks.proofs.shear.with_mv.Statement
 with-mv-spec = tie.close (tie.spec
     (λ c κs. let s = c.before.before.before in rw (back s.ranges.bx4, back s.ranges.bw4) (omega (arith, s.requires)))  -- middle-of-requires
     (λ c κs. let s = c.before.before.before.before in rw (back s.ranges.by4, back s.ranges.bh4) (omega (arith, s.requires)))  -- middle-of-requires-2
-    (λ c. search needs) (λ c. search needs) (λ c. search needs)  -- array-copy-out-m2, array-copy-out-m3, array-copy-out-m4
-    (λ c. search needs)  -- array-copy-out-m5
+    (λ c. search rules) (λ c. search rules) (λ c. search rules)  -- array-copy-out-m2, array-copy-out-m3, array-copy-out-m4
+    (λ c. search rules)  -- array-copy-out-m5
     (λ c. rw (back (entries c).0) (g2 c))  -- sub-offset-of
     offset-of-requires
     (λ c. rw (back (entries c.before).3) (g5 c.before))  -- sub-offset-of-2
-    offset-of-requires-2 (λ c. search needs) (λ c. search needs) returns)  -- array-set-from-matrix
+    offset-of-requires-2 (λ c. search rules) (λ c. search rules) returns)  -- array-set-from-matrix

@@ -1,4 +1,4 @@
-use Rattle.blocks.proofs.Usual.{◌≡◌, ◌∙◌, ap, ℕ, ◌≤◌, ◌<◌, ◌^◌, arith, needs, pos, ℤ, nat_abs, w32, w16, SFits, to_z, of_z, at, back, fit, fit_abs}
+use Rattle.blocks.proofs.Usual.{◌≡◌, ◌∙◌, ap, ℕ, ◌≤◌, ◌<◌, ◌^◌, arith, rules, pos, ℤ, nat_abs, w32, w16, SFits, to_z, of_z, at, back, fit, fit_abs}
 use Rattle.rows.specs.Shear.{recip_place, recip_of, shift_of, shear_a, shear_b}
 use Rattle.rows.proofs.Laws.Numbers.Signed.{backs}
 use Rattle.blocks.specs.Shear.{divisor_of, sheared}
@@ -96,8 +96,8 @@ returns c =
 
 pub with-shears-spec : {M : Type 1} → Rattle.blocks.proofs.shear.with_shears.Statement.statement M
 with-shears-spec = tie.close (tie.spec
-    (λ c. search needs) (λ c. search needs) (λ c. search needs) (λ c. search needs)  -- matrix[2], matrix[3], matrix[4], matrix[5]
-    (λ c κs. search needs) (λ c κs. search needs)  -- abs32, resolve-divisor
+    (λ c. search rules) (λ c. search rules) (λ c. search rules) (λ c. search rules)  -- matrix[2], matrix[3], matrix[4], matrix[5]
+    (λ c κs. search rules) (λ c κs. search rules)  -- abs32, resolve-divisor
     (λ c. let r = c.before.before.before in rw (k-is r) (tt, omega (arith, small-k (E r))))  -- cast-k
-    (λ c κs. search needs) (λ c κs. search needs) (λ c κs. search needs) shear-c-requires shear-d-requires  -- wrapping-sub32, iclip-wmp
-    (λ c κs. search needs) returns)  -- affine-flag
+    (λ c κs. search rules) (λ c κs. search rules) (λ c κs. search rules) shear-c-requires shear-d-requires  -- wrapping-sub32, iclip-wmp
+    (λ c κs. search rules) returns)  -- affine-flag

@@ -1,4 +1,4 @@
-use Rattle.blocks.proofs.Usual.{needs, back}
+use Rattle.blocks.proofs.Usual.{rules, back}
 use Rattle.blocks.proofs.w_mask.check_w_mask.Tie as tie
 
 returns : tie.Need-returns
@@ -21,6 +21,6 @@ returns c =
 
 pub check-w-mask-spec : {M : Type 1} → Rattle.blocks.proofs.w_mask.check_w_mask.Statement.statement M
 check-w-mask-spec = tie.close (tie.spec
-    (λ c κs. search needs) (λ c κs. search needs) (λ c κs. search needs) (λ c κs. search needs)  -- mask-side, mask-buffers, mask-numbers
-    (λ c κs. search needs) (λ c κs. search needs) (λ c κs. search needs) (λ c κs. search needs) (λ c κs. search needs)  -- stride, even-ok, needed
-    (λ c κs. search needs) (λ c κs. search needs) returns)  -- needed, sizes
+    (λ c κs. search rules) (λ c κs. search rules) (λ c κs. search rules) (λ c κs. search rules)  -- mask-side, mask-buffers, mask-numbers
+    (λ c κs. search rules) (λ c κs. search rules) (λ c κs. search rules) (λ c κs. search rules) (λ c κs. search rules)  -- stride, even-ok, needed
+    (λ c κs. search rules) (λ c κs. search rules) returns)  -- needed, sizes

@@ -1,4 +1,4 @@
-use Rattle.blocks.proofs.Usual.{◌≤◌, ◌*◌, ◌+◌, ◌-◌, arith, needs, length, Filled, filled_none, row_in, block-loop, Turn, turn}
+use Rattle.blocks.proofs.Usual.{◌≤◌, ◌*◌, ◌+◌, ◌-◌, arith, rules, length, Filled, filled_none, row_in, block-loop, Turn, turn}
 use Rattle.blocks.proofs.Laws.WMask.Weighed.{weigh}
 use Rattle.blocks.proofs.w_mask.keep_each.Tie as tie
 
@@ -24,4 +24,4 @@ keep-each-spec = tie.close (tie.spec invariant-loop decreases-loop
     (λ c. omega (arith, row c)) (λ c. omega (arith, row c))  -- y * mask_stride, k + w
     (λ c. omega (arith, row c)) (λ c. omega (arith, row c)) (λ c. omega (arith, row c))  -- mask[k..k + w]
     (λ c. omega (arith, row c.before)) (λ c κs. omega (arith, row c.before, (entry c.before).pre.1))  -- weight-row
-    (λ c. search needs) (λ c. search needs) (λ c. search block-loop) (λ c. search block-loop) (λ c. search block-loop))  -- y += 1, and the loop
+    (λ c. search rules) (λ c. search rules) (λ c. search block-loop) (λ c. search block-loop) (λ c. search block-loop))  -- y += 1, and the loop

@@ -1,4 +1,4 @@
-use Rattle.blocks.proofs.Usual.{true, ◌++◌, ◌≡◌, refl, sym, ◌≤◌, ◌*◌, ◌+◌, ◌-◌, ◌<◌, ◌/◌, arith, needs, length, drop, Filled, filled_none, row_in}
+use Rattle.blocks.proofs.Usual.{true, ◌++◌, ◌≡◌, refl, sym, ◌≤◌, ◌*◌, ◌+◌, ◌-◌, ◌<◌, ◌/◌, arith, rules, length, drop, Filled, filled_none, row_in}
 use Rattle.blocks.proofs.Usual.{filled_more, Turn, turn, filled_all}
 use Rattle.rows.specs.WMask.{mask_at}
 use Rattle.blocks.proofs.Laws.WMask.Weighed.{weigh, Front, front, front_span, fours}
@@ -91,6 +91,6 @@ keep-fours-spec = tie.close (tie.spec invariant-loop decreases-loop
     (λ c. omega (arith, row (turn2 c.before))) (λ c. omega (arith, row (turn2 c.before)))  -- mask[k..k + w / 2]
     (λ c. sym (first c.before.before.before.before.before.before).len) (λ c. sym (second c.before.before.before.before).len)  -- &m, &n
     four-row-requires
-    (λ c. search needs) (λ c. search needs) loop-again  -- y += 1, and the loop
+    (λ c. search rules) (λ c. search rules) loop-again  -- y += 1, and the loop
     (λ c. c.before.loop.invariant.0.len)  -- same-length
     (λ c. filled_all c.before.loop.invariant.0 c.loop-test.false))  -- returns

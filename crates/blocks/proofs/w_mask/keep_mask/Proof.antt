@@ -1,4 +1,4 @@
-use Rattle.blocks.proofs.Usual.{true, ◌≡◌, arith, needs}
+use Rattle.blocks.proofs.Usual.{true, ◌≡◌, arith, rules}
 use Rattle.rows.specs.WMask.{mask_at}
 use Rattle.blocks.proofs.Laws.WMask.Ready.{flags_met}
 use Rattle.blocks.proofs.w_mask.keep_mask.Tie as tie
@@ -32,5 +32,5 @@ returns-3 c = let r = c.before.before in let i = r.before.before in rw (i.if2.fa
 
 pub keep-mask-spec : {M : Type 1} → Rattle.blocks.proofs.w_mask.keep_mask.Statement.statement M
 keep-mask-spec = tie.close (tie.spec
-    keep-fours-requires keep-pairs-requires keep-each-requires (λ c. search needs) returns (λ c. search needs) returns-2  -- same-length
-    (λ c. search needs) returns-3)  -- same-length
+    keep-fours-requires keep-pairs-requires keep-each-requires (λ c. search rules) returns (λ c. search rules) returns-2  -- same-length
+    (λ c. search rules) returns-3)  -- same-length

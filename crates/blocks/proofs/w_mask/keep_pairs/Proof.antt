@@ -1,4 +1,4 @@
-use Rattle.blocks.proofs.Usual.{true, false, ◌++◌, ◌≡◌, refl, sym, ◌≤◌, ◌*◌, ◌+◌, ◌-◌, ◌/◌, arith, needs, length, drop, Filled, filled_none, row_in}
+use Rattle.blocks.proofs.Usual.{true, false, ◌++◌, ◌≡◌, refl, sym, ◌≤◌, ◌*◌, ◌+◌, ◌-◌, ◌/◌, arith, rules, length, drop, Filled, filled_none, row_in}
 use Rattle.blocks.proofs.Usual.{filled_more, Turn, turn, filled_all}
 use Rattle.rows.specs.WMask.{mask_at}
 use Rattle.blocks.proofs.Laws.WMask.Weighed.{weigh, Front, front, front_span, pairs}
@@ -57,6 +57,6 @@ keep-pairs-spec = tie.close (tie.spec invariant-loop decreases-loop
     (λ c. omega (arith, row c.before.before.before)) (λ c. omega (arith, row c.before.before.before))  -- k + w / 2
     (λ c. omega (arith, row c.before.before.before)) (λ c. omega (arith, row c.before.before.before))  -- mask[k..k + w / 2]
     (λ c. sym (line c.before.before.before).len) pair-row-requires  -- pair_row
-    (λ c. search needs) (λ c. search needs) loop-again  -- y += 1, and the loop
+    (λ c. search rules) (λ c. search rules) loop-again  -- y += 1, and the loop
     (λ c. c.before.loop.invariant.0.len)  -- same-length
     (λ c. filled_all c.before.loop.invariant.0 c.loop-test.false))  -- returns

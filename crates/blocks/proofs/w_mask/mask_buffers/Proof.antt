@@ -1,4 +1,4 @@
-use Rattle.blocks.proofs.Usual.{needs}
+use Rattle.blocks.proofs.Usual.{rules}
 use Rattle.blocks.proofs.w_mask.mask_buffers.Tie as tie
 
 returns : tie.Need-returns
@@ -11,5 +11,5 @@ returns c =
     )
 
 pub mask-buffers-spec : {M : Type 1} → Rattle.blocks.proofs.w_mask.mask_buffers.Statement.statement M
-mask-buffers-spec = tie.close (tie.spec (λ c κs. search needs) (λ c κs. search needs) (λ c κs. search needs) (λ c κs. search needs)  -- held
+mask-buffers-spec = tie.close (tie.spec (λ c κs. search rules) (λ c κs. search rules) (λ c κs. search rules) (λ c κs. search rules)  -- held
     returns)

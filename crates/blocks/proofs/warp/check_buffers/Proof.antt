@@ -1,4 +1,4 @@
-use Rattle.blocks.proofs.Usual.{needs, whole_filters}
+use Rattle.blocks.proofs.Usual.{rules, whole_filters}
 use Rattle.blocks.proofs.warp.check_buffers.Tie as tie
 
 returns : tie.Need-returns
@@ -16,5 +16,5 @@ returns c =
 
 pub check-buffers-spec : {M : Type 1} → Rattle.blocks.proofs.warp.check_buffers.Statement.statement M
 check-buffers-spec = tie.close (tie.spec
-    (λ c κs. search needs) (λ c κs. search needs) (λ c κs. search needs) (λ c κs. search needs)  -- filters-there, margins-held, held, needed
-    (λ c κs. search needs) (λ c κs. search needs) returns)  -- needed
+    (λ c κs. search rules) (λ c κs. search rules) (λ c κs. search rules) (λ c κs. search rules)  -- filters-there, margins-held, held, needed
+    (λ c κs. search rules) (λ c κs. search rules) returns)  -- needed

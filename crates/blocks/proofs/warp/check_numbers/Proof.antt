@@ -1,4 +1,4 @@
-use Rattle.blocks.proofs.Usual.{needs, back}
+use Rattle.blocks.proofs.Usual.{rules, back}
 use Rattle.blocks.specs.Warp.{warp_place_ok}
 use Rattle.blocks.proofs.warp.check_numbers.Tie as tie
 
@@ -21,5 +21,5 @@ returns c =
 
 pub check-numbers-spec : {M : Type 1} → Rattle.blocks.proofs.warp.check_numbers.Statement.statement M
 check-numbers-spec = tie.close (tie.spec
-    (λ c κs. search needs) (λ c κs. search needs) (λ c κs. search needs) (λ c κs. search needs) (λ c κs. search needs)  -- within, needed
-    (λ c κs. search needs) (λ c κs. search needs) returns)  -- stride
+    (λ c κs. search rules) (λ c κs. search rules) (λ c κs. search rules) (λ c κs. search rules) (λ c κs. search rules)  -- within, needed
+    (λ c κs. search rules) (λ c κs. search rules) returns)  -- stride

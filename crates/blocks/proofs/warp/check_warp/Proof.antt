@@ -1,4 +1,4 @@
-use Rattle.blocks.proofs.Usual.{◌≡◌, ◌∙◌, sym, needs, w32, lowest, told_back}
+use Rattle.blocks.proofs.Usual.{◌≡◌, ◌∙◌, sym, rules, w32, lowest, told_back}
 use Rattle.blocks.proofs.Laws.Warp.Ready.{number_tests, numbers_ready, warp_stop, warp_go}
 use Rattle.blocks.proofs.warp.check_warp.Tie as tie
 
@@ -16,4 +16,4 @@ returns-2 : tie.Need-returns-2
 returns-2 c = c.check-buffers.ensures ∙ sym (warp_go _ _ _ _ _ _ _ _ _ _ _ _ _ (sym (is c.before.before) ∙ c.before.if1.false))
 
 pub check-warp-spec : {M : Type 1} → Rattle.blocks.proofs.warp.check_warp.Statement.statement M
-check-warp-spec = tie.close (tie.spec (λ c κs. search needs) returns check-buffers-requires returns-2)  -- check-numbers
+check-warp-spec = tie.close (tie.spec (λ c κs. search rules) returns check-buffers-requires returns-2)  -- check-numbers

@@ -1,4 +1,4 @@
-use Rattle.blocks.proofs.Usual.{◌≡◌, ◌∙◌, sym, ap, arith, needs, w32, SFits, back}
+use Rattle.blocks.proofs.Usual.{◌≡◌, ◌∙◌, sym, ap, arith, rules, w32, SFits, back}
 use Rattle.rows.specs.Warp.{filter_no, is_there}
 use Rattle.rows.proofs.Laws.Numbers.Signed.{above, abs_mag}
 use Rattle.blocks.proofs.Laws.Warp.Corners.{in_below, in_above}
@@ -25,4 +25,4 @@ returns-2 c =
     (in_above _ _ (rw (back (f c.before)) at c.if1.false) ∙ ap (is_there c.before.before.args.n) (is c.before))
 
 pub corner-there-spec : {M : Type 1} → Rattle.blocks.proofs.warp.corner_there.Statement.statement M
-corner-there-spec = tie.close (tie.spec (λ c κs. search needs) cast-result returns returns-2)
+corner-there-spec = tie.close (tie.spec (λ c κs. search rules) cast-result returns returns-2)

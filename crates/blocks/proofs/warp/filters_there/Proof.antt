@@ -1,4 +1,4 @@
-use Rattle.blocks.proofs.Usual.{needs, w32, w16, told_back}
+use Rattle.blocks.proofs.Usual.{rules, w32, w16, told_back}
 use Rattle.rows.specs.Warp.{all_there}
 use Rattle.blocks.proofs.warp.filters_there.Tie as tie
 
@@ -19,4 +19,4 @@ returns c =
     )
 
 pub filters-there-spec : {M : Type 1} → Rattle.blocks.proofs.warp.filters_there.Statement.statement M
-filters-there-spec = tie.close (tie.spec (λ c κs. search needs) (λ c κs. search needs) returns)
+filters-there-spec = tie.close (tie.spec (λ c κs. search rules) (λ c κs. search rules) returns)

@@ -1,4 +1,4 @@
-use Rattle.blocks.proofs.Usual.{sym, ◌*◌, ◌+◌, ◌-◌, arith, needs, le-ltb, leb, reads}
+use Rattle.blocks.proofs.Usual.{sym, ◌*◌, ◌+◌, ◌-◌, arith, rules, le-ltb, leb, reads}
 use Rattle.rows.proofs.Laws.Blocks.Fill.{and_false}
 use Rattle.blocks.proofs.Laws.Warp.Corners.{same_lt}
 use Rattle.blocks.proofs.warp.margins_held.Tie as tie
@@ -17,5 +17,5 @@ returns-2 c =
 
 pub margins-held-spec : {M : Type 1} → Rattle.blocks.proofs.warp.margins_held.Statement.statement M
 margins-held-spec = tie.close (tie.spec
-    (λ c. search needs) (λ c. search needs) (λ c. search needs) (λ c. search needs) (λ c. search needs)  -- 3 s, 3 s + 3, 11 s, 11 s + 11, sl - o
+    (λ c. search rules) (λ c. search rules) (λ c. search rules) (λ c. search rules) (λ c. search rules)  -- 3 s, 3 s + 3, 11 s, 11 s + 11, sl - o
     returns returns-2)

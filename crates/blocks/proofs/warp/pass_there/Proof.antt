@@ -1,4 +1,4 @@
-use Rattle.blocks.proofs.Usual.{arith, needs, back}
+use Rattle.blocks.proofs.Usual.{arith, rules, back}
 use Rattle.blocks.proofs.Laws.Warp.Corners.{four_all}
 use Rattle.blocks.proofs.warp.pass_there.Tie as tie
 
@@ -17,4 +17,4 @@ returns c =
     (four_all s.args.n s.args.last s.args.m s.args.a s.args.b (omega (arith, s.requires)))
 
 pub pass-there-spec : {M : Type 1} → Rattle.blocks.proofs.warp.pass_there.Statement.statement M
-pass-there-spec = tie.close (tie.spec (λ c κs. search needs) (λ c κs. search needs) (λ c κs. search needs) (λ c κs. search needs) returns)
+pass-there-spec = tie.close (tie.spec (λ c κs. search rules) (λ c κs. search rules) (λ c κs. search rules) (λ c κs. search rules) returns)

@@ -1,4 +1,4 @@
-use Rattle.blocks.proofs.Usual.{◌≤◌, ◌*◌, ◌+◌, ◌-◌, arith, needs, pos, length, w16, at, minus16, low16, backn, Filled, filled_none, row_in, block-loop}
+use Rattle.blocks.proofs.Usual.{◌≤◌, ◌*◌, ◌+◌, ◌-◌, arith, rules, pos, length, w16, at, minus16, low16, backn, Filled, filled_none, row_in, block-loop}
 use Rattle.blocks.proofs.Usual.{filled_span}
 use Rattle.rows.specs.Warp.{warped}
 use Rattle.blocks.proofs.Laws.Warp.Passes.{filled_row}
@@ -39,4 +39,4 @@ warp-prep-rows-spec = tie.close (tie.spec invariant-loop decreases-loop
     (λ c. omega (arith, row c)) (λ c. omega (arith, row c)) (λ c. omega (arith, row c)) (λ c. omega (arith, row c))  -- tmp[d..d + 8]
     (λ c. omega (arith, c.before.loop-test.true)) (λ c. omega arith)  -- y as u32, bias as i16
     warp-prep-row-requires
-    (λ c. search needs) (λ c. search needs) loop-again (λ c. search block-loop) (λ c. search block-loop))  -- y += 1, and the loop
+    (λ c. search rules) (λ c. search rules) loop-again (λ c. search block-loop) (λ c. search block-loop))  -- y += 1, and the loop

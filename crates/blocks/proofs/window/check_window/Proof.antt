@@ -1,4 +1,4 @@
-use Rattle.blocks.proofs.Usual.{[], ◌∙◌, sym, needs, Asked, lent_of, back}
+use Rattle.blocks.proofs.Usual.{[], ◌∙◌, sym, rules, Asked, lent_of, back}
 use Rattle.blocks.specs.inner.Window.{asked}
 use Rattle.blocks.proofs.Laws.Window.Ready.{sizes_small, window_stop, window_go}
 use Rattle.blocks.proofs.window.check_window.Tie as tie
@@ -25,5 +25,5 @@ window-held-requires c κs =
     sizes_small (lent_of s.args.lent []) (want s) (sym c.before.window-sizes.ensures ∙ c.if1.false)
 
 pub check-window-spec : {M : Type 1} → Rattle.blocks.proofs.window.check_window.Statement.statement M
-check-window-spec = tie.close (tie.spec (λ c κs. search needs) returns window-held-requires  -- window-sizes
-    (λ c κs. search needs) returns-2)  -- window-numbers
+check-window-spec = tie.close (tie.spec (λ c κs. search rules) returns window-held-requires  -- window-sizes
+    (λ c κs. search rules) returns-2)  -- window-numbers

@@ -1,4 +1,4 @@
-use Rattle.blocks.proofs.Usual.{List, ◌≡◌, ◌∙◌, sym, ℕ, needs, length, lowest, window_tests, area_of, window_of, lent_of, back}
+use Rattle.blocks.proofs.Usual.{List, ◌≡◌, ◌∙◌, sym, ℕ, rules, length, lowest, window_tests, area_of, window_of, lent_of, back}
 use Rattle.blocks.specs.inner.Window.{asked}
 use Rattle.blocks.proofs.Laws.Window.Ready.{plane_of_lem, no_part_of, Accepted, accepted_small, accepted_ready, accepted_part}
 use Rattle.blocks.proofs.window.find_window.Tie as tie
@@ -38,4 +38,4 @@ returns-2 c plane l = let p = c.before in accepted_part (accepted p.before plane
 
 pub find-window-spec : {M : Type 1} → Rattle.blocks.proofs.window.find_window.Statement.statement M
 find-window-spec = tie.close (tie.spec
-    (λ c κs. search needs) (λ c κs. search needs) returns area-of-requires locate-requires returns-2)  -- check-window, no_part
+    (λ c κs. search rules) (λ c κs. search rules) returns area-of-requires locate-requires returns-2)  -- check-window, no_part

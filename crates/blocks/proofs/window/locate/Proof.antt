@@ -1,4 +1,4 @@
-use Rattle.blocks.proofs.Usual.{◌≡◌, ◌∙◌, refl, sym, ap, ◌≤◌, ◌*◌, ◌+◌, ◌^◌, mul-le-mul_right, arith, needs, up, window_at}
+use Rattle.blocks.proofs.Usual.{◌≡◌, ◌∙◌, refl, sym, ap, ◌≤◌, ◌*◌, ◌+◌, ◌^◌, mul-le-mul_right, arith, rules, up, window_at}
 use Rattle.rows.proofs.Laws.Numbers.Signed.{abs_parts}
 use Rattle.blocks.proofs.Laws.Calls.Told.{left_passed, top_passed}
 use Rattle.blocks.proofs.Laws.Window.Ready.{own_at}
@@ -35,9 +35,9 @@ returns-2 c = rw (sym c.before.before.is-planes.ensures ∙ c.before.if1.false, 
 
 pub locate-spec : {M : Type 1} → Rattle.blocks.proofs.window.locate.Statement.statement M
 locate-spec = tie.close (tie.spec (λ c κs. c.requires.0)  -- is-planes-requires
-    (λ c κs. search needs)  -- up64-requires
+    (λ c κs. search rules)  -- up64-requires
     (λ c. omega (arith, small c, (entry c).requires.1))  -- mul-place
-    (λ c κs. search needs) add-place  -- up64
+    (λ c κs. search rules) add-place  -- up64
     (λ c κs. let p = (entry c.before.before).requires in (p.1, p.0.ww128, p.0.wh1, p.0.wh128))  -- part-len-requires
     returns
     (λ c κs. let p = c.before.before.requires.0 in (omega (arith, p), p.ww128, p.wh1, p.wh128))  -- part-len-requires-2

@@ -1,4 +1,4 @@
-use Rattle.blocks.proofs.Usual.{refl, needs}
+use Rattle.blocks.proofs.Usual.{refl, rules}
 use Rattle.blocks.proofs.window.window_held.Tie as tie
 
 returns : tie.Need-returns
@@ -8,5 +8,5 @@ returns c =
 
 pub window-held-spec : {M : Type 1} → Rattle.blocks.proofs.window.window_held.Statement.statement M
 window-held-spec = tie.close (tie.spec
-    (λ c κs. search needs) (λ c κs. search needs) (λ c κs. search needs) (λ c κs. search needs)  -- window-side, held, plane-w
-    (λ c κs. search needs) (λ c κs. search needs) returns)  -- plane-h, held
+    (λ c κs. search rules) (λ c κs. search rules) (λ c κs. search rules) (λ c κs. search rules)  -- window-side, held, plane-w
+    (λ c κs. search rules) (λ c κs. search rules) returns)  -- plane-h, held

@@ -1,4 +1,4 @@
-use Rattle.blocks.proofs.Usual.{refl, needs, back}
+use Rattle.blocks.proofs.Usual.{refl, rules, back}
 use Rattle.blocks.proofs.window.window_numbers.Tie as tie
 
 returns : tie.Need-returns
@@ -8,5 +8,5 @@ returns c =
 
 pub window-numbers-spec : {M : Type 1} → Rattle.blocks.proofs.window.window_numbers.Statement.statement M
 window-numbers-spec = tie.close (tie.spec
-    (λ c κs. search needs) (λ c κs. search needs) (λ c κs. search needs) (λ c κs. search needs)  -- frame-names-ok, needed, places
-    (λ c κs. search needs) returns)  -- needed
+    (λ c κs. search rules) (λ c κs. search rules) (λ c κs. search rules) (λ c κs. search rules)  -- frame-names-ok, needed, places
+    (λ c κs. search rules) returns)  -- needed

@@ -1,4 +1,4 @@
-use Rattle.blocks.proofs.Usual.{needs}
+use Rattle.blocks.proofs.Usual.{rules}
 use Rattle.blocks.proofs.window.window_sizes.Tie as tie
 
 returns : tie.Need-returns
@@ -8,5 +8,5 @@ returns c =
 
 pub window-sizes-spec : {M : Type 1} → Rattle.blocks.proofs.window.window_sizes.Statement.statement M
 window-sizes-spec = tie.close (tie.spec
-    (λ c κs. search needs) (λ c κs. search needs) (λ c κs. search needs) (λ c κs. search needs)  -- frame-sizes-ok, plane-w, stride, sizes
-    (λ c κs. search needs) returns)  -- needed
+    (λ c κs. search rules) (λ c κs. search rules) (λ c κs. search rules) (λ c κs. search rules)  -- frame-sizes-ok, plane-w, stride, sizes
+    (λ c κs. search rules) returns)  -- needed

@@ -1,4 +1,4 @@
-use Rattle.rows.proofs.Usual.{◌+◌, arith, needs, w16, SFits, at, back, fit}
+use Rattle.rows.proofs.Usual.{◌+◌, arith, rules, w16, SFits, at, back, fit}
 use Rattle.rows.proofs.Laws.Numbers.Signed.{wide16}
 use Rattle.rows.proofs.Laws.Filters.Bilinear.{mid_widened, between_is}
 use Rattle.rows.proofs.bilinear.between_i16.Tie as tie
@@ -15,12 +15,12 @@ returns c =
     between_is b.before.before.args.f (mid_widened _ (first b.before)) (mid_widened _ (second b)) (omega arith) c.bilin-weighed.ensures
 
 pub between-i16-spec : {M : Type 1} → Rattle.rows.proofs.bilinear.between_i16.Statement.statement M
-between-i16-spec = tie.close (tie.spec (λ c. search needs)  -- mid[p], two bytes
-    (λ c. search needs)  -- mid[p]
+between-i16-spec = tie.close (tie.spec (λ c. search rules)  -- mid[p], two bytes
+    (λ c. search rules)  -- mid[p]
     (λ c. rw (back (first c)) (wide16 (first c)))  -- as i32
-    (λ c. search needs)  -- p + step
-    (λ c. search needs)  -- mid[p + step], two bytes
-    (λ c. search needs)  -- mid[p + step]
+    (λ c. search rules)  -- p + step
+    (λ c. search rules)  -- mid[p + step], two bytes
+    (λ c. search rules)  -- mid[p + step]
     (λ c. rw (back (second c)) (wide16 (second c)))  -- as i32
     (λ c κs. omega (arith, mid_widened _ (first c.before), mid_widened _ (second c)))  -- bilin-weighed-requires
     returns)

@@ -1,4 +1,4 @@
-use Rattle.rows.proofs.Usual.{arith, needs, w16, SFits, back, rd}
+use Rattle.rows.proofs.Usual.{arith, rules, w16, SFits, back, rd}
 use Rattle.rows.specs.Bilinear.{R}
 use Rattle.rows.proofs.bilinear.bilin_kept.Tie as tie
 
@@ -10,6 +10,6 @@ returns c =
     rw (back fv, c.kept.ensures, back s.ranges.s, k.half-power.ensures.0, back s.ranges.bias)
 
 pub bilin-kept-spec : {M : Type 1} → Rattle.rows.proofs.bilinear.bilin_kept.Statement.statement M
-bilin-kept-spec = tie.close (tie.spec (λ c κs. search needs)  -- half-power-requires
+bilin-kept-spec = tie.close (tie.spec (λ c κs. search rules)  -- half-power-requires
     (λ c κs. omega (arith, rd c.before.ranges.s))  -- kept-requires
     returns)

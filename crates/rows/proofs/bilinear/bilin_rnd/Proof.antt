@@ -1,4 +1,4 @@
-use Rattle.rows.proofs.Usual.{refl, ◌^◌, arith, needs, pos, ℤ, ◌+ℤ◌, w32, SFits, back, mag-add, rd}
+use Rattle.rows.proofs.Usual.{refl, ◌^◌, arith, rules, pos, ℤ, ◌+ℤ◌, w32, SFits, back, mag-add, rd}
 use lib.Signed.{mag_shr}
 use Rattle.rows.specs.Numbers.{half}
 use Rattle.rows.specs.Bilinear.{R}
@@ -14,6 +14,6 @@ returns c =
     (refl, omega (arith, mag_shr v (2 ^ s.args.n), mag-add s.args.s (pos (half s.args.n))))
 
 pub bilin-rnd-spec : {M : Type 1} → Rattle.rows.proofs.bilinear.bilin_rnd.Statement.statement M
-bilin-rnd-spec = tie.close (tie.spec (λ c κs. search needs)  -- half-power-requires
+bilin-rnd-spec = tie.close (tie.spec (λ c κs. search rules)  -- half-power-requires
     (λ c κs. omega (arith, rd c.before.ranges.s))  -- rounded-requires
     returns)

@@ -1,4 +1,4 @@
-use Rattle.rows.proofs.Usual.{refl, ◌*◌, ◌≤◌, arith, needs, pos, ℤ, ◌+ℤ◌, ◌*ℤ◌, ◌-ℤ◌, nat_abs, mag, w32, SFits, back, backn, mag-add, mag-mul}
+use Rattle.rows.proofs.Usual.{refl, ◌*◌, ◌≤◌, arith, rules, pos, ℤ, ◌+ℤ◌, ◌*ℤ◌, ◌-ℤ◌, nat_abs, mag, w32, SFits, back, backn, mag-add, mag-mul}
 use Rattle.rows.specs.Bilinear.{bilin}
 use Rattle.rows.proofs.Laws.Numbers.Signed.{mag-abs, abs-sub}
 use Rattle.rows.proofs.bilinear.bilin_sum.Tie as tie
@@ -50,9 +50,9 @@ returns c =
     (refl, omega (arith, l_le c, r-le c, mag-add (l c) (r c)))
 
 pub bilin-sum-spec : {M : Type 1} → Rattle.rows.proofs.bilinear.bilin_sum.Statement.statement M
-bilin-sum-spec = tie.close (tie.spec (λ c. search needs)  -- f as u8
+bilin-sum-spec = tie.close (tie.spec (λ c. search rules)  -- f as u8
     (λ c. simp (back c.ranges.a) (l-fits c))  -- 16 * a
-    (λ c. search needs)  -- f as i32
+    (λ c. search rules)  -- f as i32
     (λ c. simp (back c.ranges.a, back c.ranges.b) (d-fits c))  -- b - a
     mul-result-2
     add-result

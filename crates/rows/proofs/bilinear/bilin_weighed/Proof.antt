@@ -1,4 +1,4 @@
-use Rattle.rows.proofs.Usual.{◌-◌, ◌*◌, ◌≤◌, arith, needs, pos, ℤ, ◌+ℤ◌, ◌*ℤ◌, mag, w32, SFits, back, backn, mag-add, mag-mul}
+use Rattle.rows.proofs.Usual.{◌-◌, ◌*◌, ◌≤◌, arith, rules, pos, ℤ, ◌+ℤ◌, ◌*ℤ◌, mag, w32, SFits, back, backn, mag-add, mag-mul}
 use Rattle.rows.proofs.Laws.Filters.Bilinear.{weighed}
 use Rattle.rows.proofs.bilinear.bilin_weighed.Tie as tie
 
@@ -42,11 +42,11 @@ returns c =
     (weighed c.args.f c.args.a c.args.b (omega arith), omega (arith, l_le c, r-le c, mag-add (l c) (r c)))
 
 pub bilin-weighed-spec : {M : Type 1} → Rattle.rows.proofs.bilinear.bilin_weighed.Statement.statement M
-bilin-weighed-spec = tie.close (tie.spec (λ c. search needs)  -- f as u8
-    (λ c. search needs)  -- 16 - f
-    (λ c. search needs)  -- as i32
+bilin-weighed-spec = tie.close (tie.spec (λ c. search rules)  -- f as u8
+    (λ c. search rules)  -- 16 - f
+    (λ c. search rules)  -- as i32
     mul-result
-    (λ c. search needs)  -- f as i32
+    (λ c. search rules)  -- f as i32
     mul-result-2
     add-result
     returns)

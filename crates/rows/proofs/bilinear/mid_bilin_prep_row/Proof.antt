@@ -1,4 +1,4 @@
-use Rattle.rows.proofs.Usual.{◌-◌, ◌+◌, arith, needs, pos, length, w32, w16, SFits, to_z, at, minus16, low16, Upto, upto_all, upto_none, back}
+use Rattle.rows.proofs.Usual.{◌-◌, ◌+◌, arith, rules, pos, length, w32, w16, SFits, to_z, at, minus16, low16, Upto, upto_all, upto_none, back}
 use Rattle.rows.specs.Bilinear.{R}
 use Rattle.rows.specs.inner.Bilinear.{bilin_at}
 use Rattle.rows.proofs.Laws.Filters.Loop.{upto_kept}
@@ -20,7 +20,7 @@ loop-again c =
 pub mid-bilin-prep-row-spec : {M : Type 1} → Rattle.rows.proofs.bilinear.mid_bilin_prep_row.Statement.statement M
 mid-bilin-prep-row-spec = tie.close (tie.spec invariant-loop decreases-loop (λ c. upto_none _ _ _)  -- while i < w
     (λ c. omega arith) (λ c κs. omega arith)  -- between_i16(.., o + i, ..)
-    (λ c κs. search needs)  -- bilin-kept-requires
+    (λ c κs. search rules)  -- bilin-kept-requires
     (λ c. omega arith) (λ c. omega arith)  -- tmp[i] =
     (λ c. omega arith) (λ c. omega arith) loop-again  -- i += 1
     (λ c. omega arith) (λ c. rw (← back c.before.before.ranges.bias) (upto_all c.before.loop.invariant (omega arith))))  -- returns

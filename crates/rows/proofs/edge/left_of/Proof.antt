@@ -1,4 +1,4 @@
-use Rattle.rows.proofs.Usual.{◌≡◌, min, arith, needs, ℤ, ◌-ℤ◌, w64, SFits, to_z, of_z, clip, up, back, fit_abs, one-part}
+use Rattle.rows.proofs.Usual.{◌≡◌, min, arith, rules, ℤ, ◌-ℤ◌, w64, SFits, to_z, of_z, clip, up, back, fit_abs, one-part}
 use Rattle.rows.proofs.Laws.Numbers.Signed.{signed, abs-sub, rdn, clip-up, abs_parts}
 use Rattle.rows.proofs.edge.left_of.Tie as tie
 
@@ -21,7 +21,7 @@ module _ (s : tie.Start) where
 
 pub left-of-spec : {M : Type 1} → Rattle.rows.proofs.edge.left_of.Statement.statement M
 left-of-spec = tie.close (tie.spec (λ c. rw (back c.ranges.m, back c.ranges.x) (fits c))  -- m - x
-    (λ c. search needs)  -- n as i64
+    (λ c. search rules)  -- n as i64
     (λ c. let s = c.before.before in omega (signed, rdn w64 s.args.n (omega arith), one-part (e s), abs_parts (e s)))  -- e as usize
     (λ c. let s = c.before in omega (signed, one-part (e s), at_most s))  -- returns
     (λ c. let s = c.before.before in omega (signed, rdn w64 s.args.n (omega arith), one-part (e s), abs_parts (e s), at_most s))  -- returns-2

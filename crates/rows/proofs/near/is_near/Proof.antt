@@ -1,4 +1,4 @@
-use Rattle.rows.proofs.Usual.{◌-◌, arith, needs, nat_abs, w8, at, back, fit}
+use Rattle.rows.proofs.Usual.{◌-◌, arith, rules, nat_abs, w8, at, back, fit}
 use Rattle.rows.proofs.Laws.Numbers.Added.{Added, added_none, added_more, added_all}
 use Rattle.rows.proofs.near.is_near.Tie as tie
 
@@ -17,7 +17,7 @@ loop-again c =
 pub is-near-spec : {M : Type 1} → Rattle.rows.proofs.near.is_near.Statement.statement M
 is-near-spec = tie.close (tie.spec invariant-loop decreases-loop (λ c. added_none _ _ _)  -- while j < 8
     (λ c. omega arith)  -- f[j]
-    (λ c κs. search needs)  -- tap-size-requires
+    (λ c κs. search rules)  -- tap-size-requires
     (λ c. omega arith)  -- s +=
     (λ c. omega arith) (λ c. omega arith) loop-again  -- j += 1
     (λ c. rw (added_all c.before.loop.invariant (omega arith)).0))  -- returns

@@ -1,4 +1,4 @@
-use Rattle.rows.proofs.Usual.{◌*◌, ◌≤◌, ◌^◌, ◌/◌, arith, needs, pos, ◌+ℤ◌, ◌*ℤ◌, nat_abs, w32, SFits, back, backn, reading, fit_abs, back16, abs_mag}
+use Rattle.rows.proofs.Usual.{◌*◌, ◌≤◌, ◌^◌, ◌/◌, arith, rules, pos, ◌+ℤ◌, ◌*ℤ◌, nat_abs, w32, SFits, back, backn, reading, fit_abs, back16, abs_mag}
 use Rattle.rows.proofs.Usual.{abs-add}
 use native.Mathlib.Nat.{div-le_self}
 use Rattle.rows.proofs.Laws.Numbers.Signed.{abs-mul-le}
@@ -19,7 +19,7 @@ sum s =
     (omega (arith, small s, s.ranges.part, abs_mag s.args.part, abs-add (s.args.high *ℤ pos (256 / 2 ^ s.args.n)) s.args.part))
 
 pub near-join-spec : {M : Type 1} → Rattle.rows.proofs.near.near_join.Statement.statement M
-near-join-spec = tie.close (tie.spec (λ c. search needs)  -- 256 >> n
+near-join-spec = tie.close (tie.spec (λ c. search rules)  -- 256 >> n
     (λ c. search reading)  -- high as i32
     (λ c. omega (arith, less c))  -- up as i32
     (λ c. rw (back16 c.ranges.high, backn w32 (256 / 2 ^ c.args.n) (omega (arith, less c))) (product c))  -- mul

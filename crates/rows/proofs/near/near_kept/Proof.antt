@@ -1,4 +1,4 @@
-use Rattle.rows.proofs.Usual.{arith, needs, w32, w16, SFits, back}
+use Rattle.rows.proofs.Usual.{arith, rules, w32, w16, SFits, back}
 use Rattle.rows.proofs.Laws.Filters.Near.{joined_shr}
 use Rattle.rows.proofs.near.near_kept.Tie as tie
 
@@ -27,6 +27,6 @@ returns c =
 pub near-kept-spec : {M : Type 1} → Rattle.rows.proofs.near.near_kept.Statement.statement M
 near-kept-spec = tie.close (tie.spec (λ c κs. rw (back c.ranges.low) (c.requires.1, c.requires.2, omega arith))  -- near-rounded-requires
     (λ c κs. rw (back c.before.ranges.high) (c.before.requires.0, c.before.requires.3))  -- near-join-requires
-    (λ c κs. search needs)  -- keep16-requires
-    (λ c κs. search needs)  -- wrapping-sub16-requires
+    (λ c κs. search rules)  -- keep16-requires
+    (λ c κs. search rules)  -- wrapping-sub16-requires
     returns)

@@ -1,4 +1,4 @@
-use Rattle.rows.proofs.Usual.{arith, needs, w32, w16, SFits, back}
+use Rattle.rows.proofs.Usual.{arith, rules, w32, w16, SFits, back}
 use Rattle.rows.proofs.subpel.kept.Tie as tie
 
 returns : tie.Need-returns
@@ -10,7 +10,7 @@ returns c =
     rw (back fv, c.wrapping-sub16.ensures, back fk, k.keep16.ensures, back fr, r.rounded.ensures, back s.ranges.s, back s.ranges.bias)
 
 pub kept-spec : {M : Type 1} → Rattle.rows.proofs.subpel.kept.Statement.statement M
-kept-spec = tie.close (tie.spec (λ c κs. search needs)  -- rounded-requires
-    (λ c κs. search needs)  -- keep16-requires
-    (λ c κs. search needs)  -- wrapping-sub16-requires
+kept-spec = tie.close (tie.spec (λ c κs. search rules)  -- rounded-requires
+    (λ c κs. search rules)  -- keep16-requires
+    (λ c κs. search rules)  -- wrapping-sub16-requires
     returns)

@@ -1,4 +1,4 @@
-use Rattle.rows.proofs.Usual.{◌-◌, ◌+◌, ◌*◌, arith, needs, length, get_or, Upto, upto_all, upto_none, upto_more}
+use Rattle.rows.proofs.Usual.{◌-◌, ◌+◌, ◌*◌, arith, rules, length, get_or, Upto, upto_all, upto_none, upto_more}
 use Rattle.rows.specs.WMask.{four_of}
 use Rattle.rows.proofs.w_mask.four_row.Tie as tie
 
@@ -17,7 +17,7 @@ four-row-spec = tie.close (tie.spec invariant-loop
     (λ c. omega arith) (λ c. omega arith) (λ c. omega arith)  -- m[2 * i + 1]
     (λ c. omega arith) (λ c. omega arith)  -- n[2 * i]
     (λ c. omega arith) (λ c. omega arith) (λ c. omega arith)  -- n[2 * i + 1]
-    (λ c κs. search needs)  -- four-px-requires
+    (λ c κs. search rules)  -- four-px-requires
     (λ c. omega arith)  -- mask[i] =
     (λ c. omega arith) (λ c. omega arith)  -- i += 1
     (λ c. upto_more c.before.before.before.before.before.before.loop.invariant (omega arith) c.four-px.ensures)  -- loop-again

@@ -1,4 +1,4 @@
-use Rattle.rows.proofs.Usual.{◌-◌, ◌+◌, ◌*◌, arith, needs, length, get_or, Upto, upto_all, upto_none, upto_more}
+use Rattle.rows.proofs.Usual.{◌-◌, ◌+◌, ◌*◌, arith, rules, length, get_or, Upto, upto_all, upto_none, upto_more}
 use Rattle.rows.specs.WMask.{pair_of}
 use Rattle.rows.proofs.w_mask.pair_row.Tie as tie
 
@@ -14,7 +14,7 @@ pair-row-spec = tie.close (tie.spec invariant-loop
     (λ c. upto_none _ _ _)  -- loop-holds
     (λ c. omega arith) (λ c. omega arith)  -- m[2 * i]
     (λ c. omega arith) (λ c. omega arith) (λ c. omega arith)  -- m[2 * i + 1]
-    (λ c κs. search needs)  -- pair-px-requires
+    (λ c κs. search rules)  -- pair-px-requires
     (λ c. omega arith)  -- mask[i] =
     (λ c. omega arith) (λ c. omega arith) (λ c. upto_more c.before.before.before.before.loop.invariant (omega arith) c.pair-px.ensures)  -- i += 1
     (λ c. omega arith) (λ c. upto_all c.before.loop.invariant (omega arith)))  -- returns

@@ -1,4 +1,4 @@
-use Rattle.rows.proofs.Usual.{◌≡◌, ◌∙◌, ap, sym, ◌-◌, ◌+◌, ◌*◌, ◌≤◌, ◌<◌, ◌^◌, ℕ, ◌/◌, min, arith, needs, back}
+use Rattle.rows.proofs.Usual.{◌≡◌, ◌∙◌, ap, sym, ◌-◌, ◌+◌, ◌*◌, ◌≤◌, ◌<◌, ◌^◌, ℕ, ◌/◌, min, arith, rules, back}
 use native.Mathlib.Nat.{add-mul-div_right}
 use lib.Pow.{pow_mono, pow_pos, shr-shr, shr_lt}
 use Rattle.rows.specs.WMask.{weight_of}
@@ -32,15 +32,15 @@ below c =
     shr_lt 15 k (omega (arith, m))
 
 pub weight-px-spec : {M : Type 1} → Rattle.rows.proofs.w_mask.weight_px.Statement.statement M
-weight-px-spec = tie.close (tie.spec (λ c. search needs)  -- add-t
-    (λ c. search needs)  -- sub-t
-    (λ c κs. search needs)  -- abs-diff16-requires
-    (λ c. search needs)  -- cast-d
-    (λ c. search needs)  -- sub-m
-    (λ c. search needs)  -- cast-m
+weight-px-spec = tie.close (tie.spec (λ c. search rules)  -- add-t
+    (λ c. search rules)  -- sub-t
+    (λ c κs. search rules)  -- abs-diff16-requires
+    (λ c. search rules)  -- cast-d
+    (λ c. search rules)  -- sub-m
+    (λ c. search rules)  -- cast-m
     (λ c. omega arith)  -- shr-m
     (λ c. omega (arith, below c))  -- add-m
     (λ c. omega (arith, below c))  -- add-m-2
-    (λ c. search needs)  -- cast-result
+    (λ c. search rules)  -- cast-result
     (λ c. omega (arith, weight c.before))  -- returns
     (λ c. omega (arith, weight c.before)))  -- returns-2

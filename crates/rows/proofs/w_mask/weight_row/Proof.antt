@@ -1,4 +1,4 @@
-use Rattle.rows.proofs.Usual.{◌∙◌, ◌-◌, arith, needs, length, Upto, upto_all, upto_none, upto_more}
+use Rattle.rows.proofs.Usual.{◌∙◌, ◌-◌, arith, rules, length, Upto, upto_all, upto_none, upto_more}
 use Rattle.rows.specs.Combine.{both}
 use Rattle.rows.specs.WMask.{weight_of}
 use Rattle.rows.proofs.Laws.Pixels.Pixel.{read-both}
@@ -21,7 +21,7 @@ weight-row-spec = tie.close (tie.spec invariant-loop
     (λ c. upto_none _ _ _)  -- loop-holds
     (λ c. omega arith) (λ c. omega arith) (λ c. omega arith)  -- tmp1[q + i]
     (λ c. omega arith) (λ c. omega arith) (λ c. omega arith)  -- tmp2[q + i]
-    (λ c κs. search needs)  -- weight-px-requires
+    (λ c κs. search rules)  -- weight-px-requires
     (λ c. omega arith)  -- m[i] =
     (λ c. omega arith) (λ c. omega arith) loop-again  -- i += 1
     (λ c. omega arith) (λ c. upto_all c.before.loop.invariant (omega arith)))  -- returns

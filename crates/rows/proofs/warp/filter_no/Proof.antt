@@ -1,5 +1,5 @@
 -- Every step is below 2^22.
-use Rattle.rows.proofs.Usual.{◌≡◌, ◌*◌, ◌≤◌, ◌^◌, arith, needs, pos, ℤ, ◌+ℤ◌, ◌*ℤ◌, nat_abs, shr_z, w32, SFits, to_z, of_z, back, backn, reading, fit_abs}
+use Rattle.rows.proofs.Usual.{◌≡◌, ◌*◌, ◌≤◌, ◌^◌, arith, rules, pos, ℤ, ◌+ℤ◌, ◌*ℤ◌, nat_abs, shr_z, w32, SFits, to_z, of_z, back, backn, reading, fit_abs}
 use Rattle.rows.proofs.Usual.{mag-add, back16, abs_mag, abs-add}
 use Rattle.rows.specs.Warp.{filter_no}
 use Rattle.rows.proofs.Laws.Numbers.Signed.{abs-mul-le, mag-abs, mag_shr}
@@ -77,11 +77,11 @@ returns c =
     (rc c, rr c, back16 c.ranges.a, back16 c.ranges.b, fm c, back (a c), back (b c), back (f1 c), back (f2 c), back (f3 c), back (f4 c), back (f5 c))
 
 pub filter-no-spec : {M : Type 1} → Rattle.rows.proofs.warp.filter_no.Statement.statement M
-filter-no-spec = tie.close (tie.spec (λ c. search needs)  -- c as i32
+filter-no-spec = tie.close (tie.spec (λ c. search rules)  -- c as i32
     (λ c. search reading)  -- a as i32
     (λ c. simp (rc c, back16 c.ranges.a) (a c))  -- c a
     (λ c. simp (rc c, back16 c.ranges.a, fm c, back (a c)) (f1 c))  -- m +
-    (λ c. search needs)  -- r as i32
+    (λ c. search rules)  -- r as i32
     (λ c. search reading)  -- b as i32
     (λ c. simp (rr c, back16 c.ranges.b) (b c))  -- r b
     (λ c. simp (rc c, rr c, back16 c.ranges.a, back16 c.ranges.b, fm c, back (a c), back (b c), back (f1 c)) (f2 c))  -- + r b

@@ -1,4 +1,4 @@
-use Rattle.rows.proofs.Usual.{◌-◌, ◌+◌, ◌*◌, arith, needs, pos, w32, w16, SFits, to_z, at, minus16, low16, Upto, upto_all, back}
+use Rattle.rows.proofs.Usual.{◌-◌, ◌+◌, ◌*◌, arith, rules, pos, w32, w16, SFits, to_z, at, minus16, low16, Upto, upto_all, back}
 use Rattle.rows.specs.Warp.{warped}
 use Rattle.rows.proofs.Laws.Filters.Loop.{upto_kept}
 use Rattle.rows.proofs.Laws.Filters.Warp.{upto_start, length-filter, warp_kept_is}
@@ -39,7 +39,7 @@ warp-prep-row-spec = tie.close (tie.spec invariant-loop decreases-loop (λ c. up
     (λ c. omega arith) filter-for-requires  -- filter_for(.., c as u32)
     (λ c. omega arith) (λ c. omega arith)  -- o + c * 15
     (λ c κs. omega (arith, length-filter _ _ _ c.filter-for.ensures))  -- taps_i16(..)
-    (λ c κs. search needs) (λ c κs. omega arith)  -- wrapping_sub16(warp_kept(..), bias)
+    (λ c κs. search rules) (λ c κs. omega arith)  -- wrapping_sub16(warp_kept(..), bias)
     (λ c. omega arith) (λ c. omega arith)  -- tmp[c] =
     (λ c. omega arith) (λ c. omega arith) loop-again  -- c += 1
     (λ c. omega arith) returns)

@@ -1,5 +1,5 @@
 -- Made from crates/blocks/proofs/words/bilinear/mid_bilin_rows/Proof.antt by tools/sets: change that.
-use Rattle.blocks.proofs.Usual.{◌*◌, ◌+◌, ◌-◌, arith, needs, length, at, clip, Filled, filled_none, block-loop}
+use Rattle.blocks.proofs.Usual.{◌*◌, ◌+◌, ◌-◌, arith, rules, length, at, clip, Filled, filled_none, block-loop}
 use Rattle.rows.specs.Bilinear.{R}
 use Rattle.rows.specs.inner.Bilinear.{bilin_at}
 use Rattle.blocks.proofs.Laws.Bilinear.Ready.{Turn, turn}
@@ -26,4 +26,4 @@ mid-bilin-rows-spec = tie.close (tie.spec invariant-loop decreases-loop
     (λ c. omega (arith, row c)) (λ c. omega (arith, row c))  -- y * ds, d + w
     (λ c. omega (arith, row c)) (λ c. omega (arith, row c)) (λ c. omega (arith, row c))  -- dst[d..d + w]
     (λ c. omega (arith, row c.before)) (λ c κs. omega (arith, row c.before, (entry c.before).pre))  -- mid-bilin-row
-    (λ c. search needs) (λ c. search needs) (λ c. search block-loop) (λ c. search block-loop) (λ c. search block-loop))  -- y += 1, and the loop
+    (λ c. search rules) (λ c. search rules) (λ c. search block-loop) (λ c. search block-loop) (λ c. search block-loop))  -- y += 1, and the loop

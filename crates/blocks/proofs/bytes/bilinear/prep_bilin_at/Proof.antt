@@ -1,5 +1,5 @@
 -- Made from crates/blocks/proofs/words/bilinear/hv_prep_bilin_16bpc/Proof.antt by tools/sets: change that.
-use Rattle.blocks.proofs.Usual.{◌≡◌, ◌∙◌, sym, needs, length, lowest, back, done, refused}
+use Rattle.blocks.proofs.Usual.{◌≡◌, ◌∙◌, sym, rules, length, lowest, back, done, refused}
 use Rattle.blocks.specs.bytes.Depth.{depth_ok}
 use Rattle.blocks.specs.Bilinear.{bilin_tests}
 use Rattle.blocks.proofs.Laws.bytes.Depth.{depth_bits, depth_bias}
@@ -30,7 +30,7 @@ rows-requires c κs =
     rw (s.top-down.ensures, a.before.up32.ensures, a.up322.ensures, n.depth-numbers.ensures) (q.1, depth_bits _ p, depth_bias _ p)
 
 pub prep-bilin-at-spec : {M : Type 1} → Rattle.blocks.proofs.bytes.bilinear.prep_bilin_at.Statement.statement M
-prep-bilin-at-spec = tie.close (tie.spec (λ c κs. search needs) (λ c κs. search needs)  -- depth-ok, check-bilin
+prep-bilin-at-spec = tie.close (tie.spec (λ c κs. search rules) (λ c κs. search rules)  -- depth-ok, check-bilin
     (λ c κs. let k = c.before in sym k.before.depth-ok.ensures ∙ (bilin_ready _ _ (sym k.check-bilin.ensures ∙ c.if1.true)).0)
-    (λ c κs. search needs) (λ c κs. search needs) (λ c κs. search needs) rows-requires (λ c. search needs) returns  -- above, top-down, same-length
+    (λ c κs. search rules) (λ c κs. search rules) (λ c κs. search rules) rows-requires (λ c. search rules) returns  -- above, top-down, same-length
     (λ c. (number c.before, sym (refused _ _ _ c.if1.false))))

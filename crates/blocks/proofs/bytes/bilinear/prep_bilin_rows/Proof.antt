@@ -1,5 +1,5 @@
 -- Made from crates/blocks/proofs/words/bilinear/prep_bilin_rows/Proof.antt by tools/sets: change that.
-use Rattle.blocks.proofs.Usual.{◌≡◌, ◌∙◌, ap, arith, needs, pos, w16, to_z, backn}
+use Rattle.blocks.proofs.Usual.{◌≡◌, ◌∙◌, ap, arith, rules, pos, w16, to_z, backn}
 use Rattle.blocks.proofs.Laws.Bilinear.Ready.{copied, across, downward, lower}
 use Rattle.blocks.proofs.Laws.Bilinear.Rule.{prep_copied, prep-across, prep_downward}
 use Rattle.blocks.proofs.bytes.bilinear.prep_bilin_rows.Tie as tie
@@ -65,9 +65,9 @@ returns-4 c =
     ∙ prep_copied a.d.bits a.d.bias a.src.now a.tmp.now s.pre.0 t.before.if1.false t.if3.false
 
 pub prep-bilin-rows-spec : {M : Type 1} → Rattle.blocks.proofs.bytes.bilinear.prep_bilin_rows.Statement.statement M
-prep-bilin-rows-spec = tie.close (tie.spec (λ c κs. search needs) (λ c κs. search needs) both-requires (λ c. search needs)  -- bits_of, bias-of, 4 - b
-    (λ c. search needs) across-requires (λ c. search needs) pairs-requires lower-requires  -- cast-prep-bilin-axis, 4 - b
-    (λ c. search needs) downward-requires  -- cast-prep-bilin-axis
-    copied-requires (λ c. search needs)  -- same-length
+prep-bilin-rows-spec = tie.close (tie.spec (λ c κs. search rules) (λ c κs. search rules) both-requires (λ c. search rules)  -- bits_of, bias-of, 4 - b
+    (λ c. search rules) across-requires (λ c. search rules) pairs-requires lower-requires  -- cast-prep-bilin-axis, 4 - b
+    (λ c. search rules) downward-requires  -- cast-prep-bilin-axis
+    copied-requires (λ c. search rules)  -- same-length
     (λ c. c.before.prep-bilin-both.ensures)  -- returns
-    (λ c. search needs) returns-2 (λ c. search needs) returns-3 (λ c. search needs) returns-4)  -- same-length
+    (λ c. search rules) returns-2 (λ c. search rules) returns-3 (λ c. search rules) returns-4)  -- same-length

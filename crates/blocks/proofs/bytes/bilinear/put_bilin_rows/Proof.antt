@@ -1,5 +1,5 @@
 -- Made from crates/blocks/proofs/words/bilinear/put_bilin_rows/Proof.antt by tools/sets: change that.
-use Rattle.blocks.proofs.Usual.{◌∙◌, arith, needs}
+use Rattle.blocks.proofs.Usual.{◌∙◌, arith, rules}
 use Rattle.rows.proofs.Laws.Filters.Warp.{half_of}
 use Rattle.blocks.proofs.Laws.Bilinear.Ready.{copied, across, downward, lower, halves_small}
 use Rattle.blocks.proofs.Laws.Bilinear.Rule.{put_copied, put-across, put_downward}
@@ -68,7 +68,7 @@ returns-4 c =
 
 pub put-bilin-rows-spec : {M : Type 1} → Rattle.blocks.proofs.bytes.bilinear.put_bilin_rows.Statement.statement M
 put-bilin-rows-spec = tie.close (tie.spec
-    (λ c κs. search needs) both-requires (λ c. search needs) (λ c κs. search needs) across-requires  -- bits_of, 4 - b, half-power
-    pairs-requires lower-requires downward-requires copied-requires (λ c. search needs)  -- same-length
+    (λ c κs. search rules) both-requires (λ c. search rules) (λ c κs. search rules) across-requires  -- bits_of, 4 - b, half-power
+    pairs-requires lower-requires downward-requires copied-requires (λ c. search rules)  -- same-length
     (λ c. c.before.before.put-bilin-both.ensures)  -- returns
-    (λ c. search needs) returns-2 (λ c. search needs) returns-3 (λ c. search needs) returns-4)  -- same-length
+    (λ c. search rules) returns-2 (λ c. search rules) returns-3 (λ c. search rules) returns-4)  -- same-length

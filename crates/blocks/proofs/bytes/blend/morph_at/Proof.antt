@@ -1,5 +1,5 @@
 -- Made from crates/blocks/proofs/words/blend/hv_morph_16bpc/Proof.antt by tools/sets: change that.
-use Rattle.blocks.proofs.Usual.{◌≡◌, ◌∙◌, sym, needs, length, lowest, back, done, refused}
+use Rattle.blocks.proofs.Usual.{◌≡◌, ◌∙◌, sym, rules, length, lowest, back, done, refused}
 use Rattle.blocks.specs.bytes.Depth.{depth_ok}
 use Rattle.blocks.specs.Blend.{morph_tests}
 use Rattle.blocks.proofs.Laws.bytes.Depth.{depth-max}
@@ -36,6 +36,6 @@ returns c =
     )
 
 pub morph-at-spec : {M : Type 1} → Rattle.blocks.proofs.bytes.blend.morph_at.Statement.statement M
-morph-at-spec = tie.close (tie.spec (λ c κs. search needs) (λ c κs. search needs) depth-numbers-requires morph-rows-requires  -- depth-ok, check-morph
-    (λ c. search needs) returns  -- same-length
+morph-at-spec = tie.close (tie.spec (λ c κs. search rules) (λ c κs. search rules) depth-numbers-requires morph-rows-requires  -- depth-ok, check-morph
+    (λ c. search rules) returns  -- same-length
     (λ c. (number c.before, sym (refused _ _ _ c.if1.false))))  -- returns-2

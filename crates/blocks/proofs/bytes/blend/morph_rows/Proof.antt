@@ -1,5 +1,5 @@
 -- Made from crates/blocks/proofs/words/blend/morph_rows/Proof.antt by tools/sets: change that.
-use Rattle.blocks.proofs.Usual.{◌≤◌, ◌*◌, ◌+◌, ◌-◌, arith, needs, length, w32, to_z, of_z, pixel, back, Filled, filled_none, row_in, filled_all}
+use Rattle.blocks.proofs.Usual.{◌≤◌, ◌*◌, ◌+◌, ◌-◌, arith, rules, length, w32, to_z, of_z, pixel, back, Filled, filled_none, row_in, filled_all}
 use Rattle.rows.specs.Combine.{morph}
 use Rattle.blocks.proofs.Laws.Loops.InPlace.{filled_over}
 use Rattle.blocks.proofs.bytes.blend.morph_rows.Tie as tie
@@ -32,7 +32,7 @@ morph-rows-spec = tie.close (tie.spec invariant-loop decreases-loop
     (λ c. omega (arith, row c)) (λ c. omega (arith, row c))  -- y * dst_stride, d + w
     (λ c. omega (arith, row c)) (λ c. omega (arith, row c)) (λ c. omega (arith, row c))  -- dst[d..d + w]
     (λ c κs. let t = entry c.before in rw (back t.fits.alpha, back t.fits.beta) (t.pre.2, t.pre.3, omega arith))  -- morph-row
-    (λ c. search needs) (λ c. search needs) loop-again  -- y += 1, and the loop
+    (λ c. search rules) (λ c. search rules) loop-again  -- y += 1, and the loop
     (λ c. c.before.loop.invariant.len)  -- same-length
     (λ c. let t = c.before.before.before in
     simp (back t.ranges.alpha, back t.ranges.beta) at (filled_all c.before.loop.invariant c.loop-test.false)))  -- returns

@@ -1,4 +1,4 @@
-use Rattle.blocks.proofs.Usual.{needs, back}
+use Rattle.blocks.proofs.Usual.{rules, back}
 use Rattle.blocks.specs.bytes.Depth.{depth_ok}
 use Rattle.blocks.proofs.bytes.calls.hv_morph_8bpc.Tie as tie
 
@@ -7,4 +7,4 @@ unfolding depth_ok
 returns c = let a = c.before.before in let f = a.before.before.before.ranges in rw (back f.alpha, back f.beta) at a.morph-at.ensures
 
 pub hv-morph-8bpc-spec : {M : Type 1} → Rattle.blocks.proofs.bytes.calls.hv_morph_8bpc.Statement.statement M
-hv-morph-8bpc-spec = tie.close (tie.spec (λ c κs. search needs) (λ c. search needs) returns)
+hv-morph-8bpc-spec = tie.close (tie.spec (λ c κs. search rules) (λ c. search rules) returns)

@@ -1,4 +1,4 @@
-use Rattle.blocks.proofs.Usual.{refl, needs, back}
+use Rattle.blocks.proofs.Usual.{refl, rules, back}
 use Rattle.blocks.specs.bytes.Depth.{depth_ok}
 use Rattle.blocks.proofs.Laws.Order.Run.{kind_passed, order_passed, put_passed}
 use Rattle.blocks.proofs.bytes.calls.hv_order_put_8bpc.Tie as tie
@@ -11,4 +11,4 @@ returns c =
     put_passed _ _ _ _ _ refl (order_passed _ _ (back f.x) (back f.y) k) _ _ a.order-put-at.ensures
 
 pub hv-order-put-8bpc-spec : {M : Type 1} → Rattle.blocks.proofs.bytes.calls.hv_order_put_8bpc.Statement.statement M
-hv-order-put-8bpc-spec = tie.close (tie.spec (λ c κs. search needs) (λ c. search needs) (λ c. search needs) returns)
+hv-order-put-8bpc-spec = tie.close (tie.spec (λ c κs. search rules) (λ c. search rules) (λ c. search rules) returns)

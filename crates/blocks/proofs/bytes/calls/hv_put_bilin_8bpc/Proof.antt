@@ -1,4 +1,4 @@
-use Rattle.blocks.proofs.Usual.{needs, back}
+use Rattle.blocks.proofs.Usual.{rules, back}
 use Rattle.blocks.specs.bytes.Depth.{depth_ok}
 use Rattle.blocks.proofs.bytes.calls.hv_put_bilin_8bpc.Tie as tie
 
@@ -9,4 +9,4 @@ returns c =
     rw (back s.ranges.mx, back s.ranges.my) at a.put-bilin-at.ensures
 
 pub hv-put-bilin-8bpc-spec : {M : Type 1} → Rattle.blocks.proofs.bytes.calls.hv_put_bilin_8bpc.Statement.statement M
-hv-put-bilin-8bpc-spec = tie.close (tie.spec (λ c κs. search needs) (λ c. search needs) returns)
+hv-put-bilin-8bpc-spec = tie.close (tie.spec (λ c κs. search rules) (λ c. search rules) returns)

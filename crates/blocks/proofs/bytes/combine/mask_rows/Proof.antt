@@ -1,5 +1,5 @@
 -- Made from crates/blocks/proofs/words/combine/mask_rows/Proof.antt by tools/sets: change that.
-use Rattle.blocks.proofs.Usual.{◌≤◌, ◌*◌, ◌+◌, ◌-◌, arith, needs, length, pixel, row_fits, Filled, filled_none, row_in, block-loop, Turn, turn}
+use Rattle.blocks.proofs.Usual.{◌≤◌, ◌*◌, ◌+◌, ◌-◌, arith, rules, length, pixel, row_fits, Filled, filled_none, row_in, block-loop, Turn, turn}
 use Rattle.rows.specs.Combine.{masked, both}
 use Rattle.blocks.proofs.bytes.combine.mask_rows.Tie as tie
 
@@ -27,4 +27,4 @@ mask-rows-spec = tie.close (tie.spec invariant-loop decreases-loop
     (λ c. omega (arith, row c)) (λ c. omega (arith, row c))  -- y * dst_stride, p + w
     (λ c. omega (arith, row c)) (λ c. omega (arith, row c)) (λ c. omega (arith, row c))  -- dst[p..p + w]
     (λ c. omega (arith, row c.before)) (λ c. omega (arith, row c.before)) (λ c κs. omega (arith, row c.before))  -- mask-row
-    (λ c. search needs) (λ c. search needs) (λ c. search block-loop) (λ c. search block-loop) (λ c. search block-loop))  -- y += 1, and the loop
+    (λ c. search rules) (λ c. search rules) (λ c. search block-loop) (λ c. search block-loop) (λ c. search block-loop))  -- y += 1, and the loop

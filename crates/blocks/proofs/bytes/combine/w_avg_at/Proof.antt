@@ -1,5 +1,5 @@
 -- Made from crates/blocks/proofs/words/combine/hv_w_avg_16bpc/Proof.antt by tools/sets: change that.
-use Rattle.blocks.proofs.Usual.{◌≡◌, ◌∙◌, sym, ap, needs, ℤ, length, up, lowest, numbers_of, back, done, refused}
+use Rattle.blocks.proofs.Usual.{◌≡◌, ◌∙◌, sym, ap, rules, ℤ, length, up, lowest, numbers_of, back, done, refused}
 use Rattle.blocks.specs.bytes.Depth.{depth_ok}
 use Rattle.blocks.specs.Combine.{w_avg_tests}
 use Rattle.blocks.proofs.Laws.bytes.Depth.{depth_bits, depth_bias, depth-max}
@@ -36,6 +36,6 @@ returns c =
 
 pub w-avg-at-spec : {M : Type 1} → Rattle.blocks.proofs.bytes.combine.w_avg_at.Statement.statement M
 w-avg-at-spec = tie.close (tie.spec
-    (λ c κs. search needs) (λ c κs. search needs) (λ c κs. search needs) depth-numbers-requires  -- depth-ok, weight_ok_lem, check-combine
-    w-avg-rows-requires (λ c. search needs) returns  -- same-length
+    (λ c κs. search rules) (λ c κs. search rules) (λ c κs. search rules) depth-numbers-requires  -- depth-ok, weight_ok_lem, check-combine
+    w-avg-rows-requires (λ c. search rules) returns  -- same-length
     (λ c. (number c.before, sym (refused _ _ _ c.if1.false))))  -- returns-2

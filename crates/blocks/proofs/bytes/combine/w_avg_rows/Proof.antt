@@ -1,5 +1,5 @@
 -- Made from crates/blocks/proofs/words/combine/w_avg_rows/Proof.antt by tools/sets: change that.
-use Rattle.blocks.proofs.Usual.{◌≡◌, ◌∙◌, ◌<◌, arith, needs, pos, ℤ, ◌-ℤ◌, w32, SFits, up, dn, back}
+use Rattle.blocks.proofs.Usual.{◌≡◌, ◌∙◌, ◌<◌, arith, rules, pos, ℤ, ◌-ℤ◌, w32, SFits, up, dn, back}
 use Rattle.rows.proofs.Laws.Numbers.Signed.{mag-sub}
 use Rattle.blocks.proofs.Laws.Combine.Calls.{weight_above, weight_below, above_fill, below_fill}
 use Rattle.blocks.proofs.bytes.combine.w_avg_rows.Tie as tie
@@ -35,7 +35,7 @@ returns-2 c =
 pub w-avg-rows-spec : {M : Type 1} → Rattle.blocks.proofs.bytes.combine.w_avg_rows.Statement.statement M
 w-avg-rows-spec = tie.close (tie.spec (λ c. let s = c.before.before in simp (back s.ranges.weight) (fits s))  -- sub-mask-of
     (λ c κs. let s = c.before.before in simp (back s.ranges.weight, back (fits s)) (below c))  -- mask-of-requires
-    (λ c. search needs) (λ c κs. search needs)  -- slice-aggregate-mask-rows, mask-rows
+    (λ c. search rules) (λ c κs. search rules)  -- slice-aggregate-mask-rows, mask-rows
     (λ c κs. let s = c.before.before in simp (back s.ranges.weight) (above c))  -- mask-of-requires-2
-    (λ c. search needs) (λ c κs. search needs) (λ c. search needs) returns (λ c. search needs)  -- slice-aggregate-mask-rows, mask-rows, same-length
+    (λ c. search rules) (λ c κs. search rules) (λ c. search rules) returns (λ c. search rules)  -- slice-aggregate-mask-rows, mask-rows, same-length
     returns-2)

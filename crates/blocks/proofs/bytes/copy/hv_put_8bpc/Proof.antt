@@ -1,5 +1,5 @@
 -- Made from crates/blocks/proofs/words/copy/hv_put_16bpc/Proof.antt by tools/sets: change that.
-use Rattle.blocks.proofs.Usual.{◌∙◌, sym, needs, done, refused}
+use Rattle.blocks.proofs.Usual.{◌∙◌, sym, rules, done, refused}
 use Rattle.rows.specs.Copy.{put}
 use Rattle.blocks.proofs.Laws.Loops.Stands.{filled_down}
 use Rattle.blocks.proofs.Laws.Copy.Ready.{put_ready}
@@ -12,8 +12,8 @@ returns c =
     (t.before.check-put.ensures, filled_down put a.dst.now a.dst-stride a.w a.h a.src.now a.src-stride new ∙ sym (done _ _ _ t.if1.true))
 
 pub hv-put-8bpc-spec : {M : Type 1} → Rattle.blocks.proofs.bytes.copy.hv_put_8bpc.Statement.statement M
-hv-put-8bpc-spec = tie.close (tie.spec (λ c κs. search needs)  -- check-put-requires
-    (λ c κs. search needs)  -- top-down-requires
+hv-put-8bpc-spec = tie.close (tie.spec (λ c κs. search rules)  -- check-put-requires
+    (λ c κs. search rules)  -- top-down-requires
     (λ c κs. let s = c.before in let t = s.before in rw s.top-down.ensures (put_ready (sym t.before.check-put.ensures ∙ t.if1.true)))  -- put-rows
-    (λ c. search needs) returns  -- same-length
+    (λ c. search rules) returns  -- same-length
     (λ c. (c.before.check-put.ensures, sym (refused _ _ _ c.if1.false))))  -- returns-2

@@ -1,5 +1,5 @@
 -- Made from crates/blocks/proofs/words/copy/hv_prep_16bpc/Proof.antt by tools/sets: change that.
-use Rattle.blocks.proofs.Usual.{◌≡◌, ◌∙◌, sym, ap, needs, ℤ, length, up, lowest, numbers_of, back, done, refused}
+use Rattle.blocks.proofs.Usual.{◌≡◌, ◌∙◌, sym, ap, rules, ℤ, length, up, lowest, numbers_of, back, done, refused}
 use Rattle.blocks.specs.bytes.Depth.{depth_ok}
 use Rattle.rows.specs.Copy.{prep}
 use Rattle.blocks.specs.Copy.{prep_tests}
@@ -35,7 +35,7 @@ returns c =
 
 pub prep-at-spec : {M : Type 1} → Rattle.blocks.proofs.bytes.copy.prep_at.Statement.statement M
 prep-at-spec = tie.close (tie.spec
-    (λ c κs. search needs) (λ c κs. search needs) depth-numbers-requires (λ c κs. search needs) prep-rows-requires  -- depth-ok, check-prep, top-down
-    (λ c. search needs)  -- same-length
+    (λ c κs. search rules) (λ c κs. search rules) depth-numbers-requires (λ c κs. search rules) prep-rows-requires  -- depth-ok, check-prep, top-down
+    (λ c. search rules)  -- same-length
     returns
     (λ c. (number c.before, sym (refused _ _ _ c.if1.false))))  -- returns-2

@@ -1,5 +1,5 @@
 -- Made from crates/blocks/proofs/words/copy/prep_rows/Proof.antt by tools/sets: change that.
-use Rattle.blocks.proofs.Usual.{◌-◌, arith, needs, pos, length, Filled, filled_none, block-loop, filled_more, Turn, turn}
+use Rattle.blocks.proofs.Usual.{◌-◌, arith, rules, pos, length, Filled, filled_none, block-loop, filled_more, Turn, turn}
 use Rattle.rows.specs.Copy.{prep}
 use Rattle.blocks.specs.inner.Source.{pixel_in}
 use Rattle.blocks.proofs.Laws.Loops.Stands.{StoodRow, stood_row}
@@ -34,4 +34,4 @@ prep-rows-spec = tie.close (tie.spec invariant-loop decreases-loop
     (λ c. omega (arith, row c.before)) (λ c. omega (arith, row c.before))  -- tmp[p..p + w]
     (λ c. omega (arith, row c.before)) (λ c. omega (arith, row c.before))
     (λ c κs. let o = c.before in omega (arith, row o.before, o.row_first.ensures))  -- prep-row
-    (λ c. search needs) (λ c. search needs) loop-again (λ c. search block-loop) (λ c. search block-loop))  -- y += 1, and the loop
+    (λ c. search rules) (λ c. search rules) loop-again (λ c. search block-loop) (λ c. search block-loop))  -- y += 1, and the loop

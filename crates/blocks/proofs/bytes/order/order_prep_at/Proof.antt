@@ -1,5 +1,5 @@
 -- Made from crates/blocks/proofs/words/order/hv_order_prep_16bpc/Proof.antt by tools/sets: change that.
-use Rattle.blocks.proofs.Usual.{true, ◌≡◌, ◌∙◌, refl, sym, ap, ℕ, needs, w32, up, Tables, kind_of, back}
+use Rattle.blocks.proofs.Usual.{true, ◌≡◌, ◌∙◌, refl, sym, ap, ℕ, rules, w32, up, Tables, kind_of, back}
 use Rattle.blocks.specs.bytes.Depth.{depth_ok}
 use Rattle.blocks.proofs.Laws.bytes.Depth.{depth_bits, depth_bias}
 use Rattle.blocks.proofs.Laws.Calls.Told.{passed}
@@ -62,6 +62,6 @@ returns-2 c =
     (prep-refused _ _ _ _ _ _ (ordered_number (depth w) (tables w) refl w.order_window.ensures) w.order_window.ensures.full c.if1.false)
 
 pub order-prep-at-spec : {M : Type 1} → Rattle.blocks.proofs.bytes.order.order_prep_at.Statement.statement M
-order-prep-at-spec = tie.close (tie.spec (λ c κs. search needs) (λ c κs. search needs) (λ c κs. search needs)  -- kind-of, depth-ok, order_window
+order-prep-at-spec = tie.close (tie.spec (λ c κs. search rules) (λ c κs. search rules) (λ c κs. search rules)  -- kind-of, depth-ok, order_window
     (λ c κs. deep c) pick-requires prep-kind-requires  -- depth-numbers-requires
-    (λ c. search needs) (λ c. search needs) returns (λ c. search needs) returns-2)  -- same-length
+    (λ c. search rules) (λ c. search rules) returns (λ c. search rules) returns-2)  -- same-length

@@ -1,5 +1,5 @@
 -- Made from crates/blocks/proofs/words/plane_row/row_part/Proof.antt by tools/sets: change that.
-use Rattle.blocks.proofs.Usual.{[], ◌≡◌, ◌∙◌, refl, ap, needs, part_of, row_at, lent_of, back}
+use Rattle.blocks.proofs.Usual.{[], ◌≡◌, ◌∙◌, refl, ap, rules, part_of, row_at, lent_of, back}
 use Rattle.blocks.proofs.Laws.Window.Rows.{row_in_plane}
 use Rattle.blocks.specs.declared.window.Part.{Part}
 use Rattle.blocks.proofs.bytes.plane_row.row_part.Tie as tie
@@ -15,6 +15,6 @@ returns c =
 
 pub row-part-spec : {M : Type 1} → Rattle.blocks.proofs.bytes.plane_row.row_part.Statement.statement M
 row-part-spec = tie.close (tie.spec
-    (λ c κs. search needs) (λ c. search needs) (λ c. search needs) (λ c. search needs)  -- row-at, sub-pick, part-pick-start, part-pick-end
+    (λ c κs. search rules) (λ c. search rules) (λ c. search rules) (λ c. search rules)  -- row-at, sub-pick, part-pick-start, part-pick-end
     (λ c κs. rw (answer c.before) (row_in_plane _ _ _))  -- pick-requires
     returns)

@@ -1,5 +1,5 @@
 -- Made from crates/blocks/proofs/words/scaled/next_pairs/Proof.antt by tools/sets: change that.
-use Rattle.blocks.proofs.Usual.{◌≡◌, ◌∙◌, ◌≤◌, ◌*◌, ◌+◌, ◌-◌, ◌%◌, arith, needs, pos, length, span}
+use Rattle.blocks.proofs.Usual.{◌≡◌, ◌∙◌, ◌≤◌, ◌*◌, ◌+◌, ◌-◌, ◌%◌, arith, rules, pos, length, span}
 use Rattle.rows.proofs.Laws.Blocks.Places.{span-length}
 use Rattle.blocks.specs.inner.Scaled.{LastTwo, pair_line_of}
 use Rattle.blocks.proofs.Laws.Loops.Stands.{StoodRow, stood_row}
@@ -51,7 +51,7 @@ returns c =
 
 pub next-pairs-spec : {M : Type 1} → Rattle.blocks.proofs.bytes.scaled.next_pairs.Statement.statement M
 next-pairs-spec = tie.close (tie.spec invariant-loop decreases-loop
-    (λ c. search needs) (λ c. search needs)  -- loop-holds, k % 2 * 64
+    (λ c. search rules) (λ c. search rules)  -- loop-holds, k % 2 * 64
     (λ c κs. let r = row c in (r.before, omega (arith, r)))  -- row_first
-    (λ c. omega (arith, (entry c.before).pre.3)) (λ c. search needs) (λ c. search needs) (λ c. search needs) (λ c. search needs)  -- rows[q..q + w]
-    scaled-bilin-row-requires (λ c. search needs) (λ c. search needs) loop-again (λ c. search needs) returns)  -- k += 1, and the loop
+    (λ c. omega (arith, (entry c.before).pre.3)) (λ c. search rules) (λ c. search rules) (λ c. search rules) (λ c. search rules)  -- rows[q..q + w]
+    scaled-bilin-row-requires (λ c. search rules) (λ c. search rules) loop-again (λ c. search rules) returns)  -- k += 1, and the loop

@@ -1,5 +1,5 @@
 -- Made from crates/blocks/proofs/words/scaled/next_rows/Proof.antt by tools/sets: change that.
-use Rattle.blocks.proofs.Usual.{◌≡◌, subst, ℕ, ◌≤◌, ◌*◌, ◌+◌, ◌-◌, ◌<◌, ◌%◌, arith, needs, length, get_or}
+use Rattle.blocks.proofs.Usual.{◌≡◌, subst, ℕ, ◌≤◌, ◌*◌, ◌+◌, ◌-◌, ◌<◌, ◌%◌, arith, rules, length, get_or}
 use Rattle.rows.specs.Scaled.{position}
 use Rattle.rows.specs.inner.Scaled.{Fetched}
 use Rattle.blocks.specs.inner.Scaled.{line_of, LastEight}
@@ -51,8 +51,8 @@ returns c =
 
 pub next-rows-spec : {M : Type 1} → Rattle.blocks.proofs.bytes.scaled.next_rows.Statement.statement M
 next-rows-spec = tie.close (tie.spec invariant-loop decreases-loop (λ c. (c.before.requires.1, c.before.requires.0))
-    (λ c κs. search needs)  -- turned
-    (λ c. search needs)  -- order[7]
+    (λ c κs. search rules)  -- turned
+    (λ c. search rules)  -- order[7]
     (λ c. omega (arith, newest c))  -- * 64
     (λ c κs. let r = row c.before in (r.before, omega (arith, r)))  -- row_first
     scaled-row-requires

@@ -1,5 +1,5 @@
 -- Made from crates/blocks/proofs/words/scaled/prep_bilin_scaled_rows/Proof.antt by tools/sets: change that.
-use Rattle.blocks.proofs.Usual.{◌≡◌, ◌∙◌, refl, ap, ◌-◌, arith, needs, pos, length, w16, to_z, minus16, low16, backn, filled_all}
+use Rattle.blocks.proofs.Usual.{◌≡◌, ◌∙◌, refl, ap, ◌-◌, arith, rules, pos, length, w16, to_z, minus16, low16, backn, filled_all}
 use Rattle.rows.specs.Bilinear.{R}
 use Rattle.blocks.proofs.Laws.Scaled.Pairs.{PairLoop, pair_none, PairTurn, pair_turn, pair_more, parity_small}
 use Rattle.blocks.proofs.bytes.scaled.prep_bilin_scaled_rows.Tie as tie
@@ -55,13 +55,13 @@ loop-again c =
 
 pub prep-bilin-scaled-rows-spec : {M : Type 1} → Rattle.blocks.proofs.bytes.scaled.prep_bilin_scaled_rows.Statement.statement M
 prep-bilin-scaled-rows-spec = tie.close (tie.spec invariant-loop decreases-loop
-    (λ c κs. search needs) (λ c. search needs)  -- bias-of, as i16
+    (λ c κs. search rules) (λ c. search rules)  -- bias-of, as i16
     tabulate-columns-requires
     (λ c. let p = (begin c.before).pre in pair_none (pos 0) p.0 p.1 refl)  -- loop-holds
     (λ c. omega (arith, row c.before)) (λ c. omega (arith, row c.before.before)) (λ c. omega (arith, row c.before.before))  -- v and m
-    (λ c. search needs) next-pairs-requires  -- &mut rows
+    (λ c. search rules) next-pairs-requires  -- &mut rows
     (λ c. omega (arith, row (in-turn c))) (λ c. omega (arith, row (in-turn c))) (λ c. omega (arith, row (in-turn c)))  -- y * tmp_stride, d + w, 2 * d
     (λ c. omega (arith, row (in-turn c))) (λ c. omega (arith, row (in-turn c))) (λ c. omega (arith, row (in-turn c)))  -- tmp[d..d + w]
-    (λ c. search needs) (λ c κs. search needs) mid-bilin-prep-row-requires  -- &rows, by-parity
-    add-y (λ c. search needs) loop-again  -- y += 1, and the loop
-    (λ c. search needs) (λ c. filled_all c.before.loop.invariant.filled c.loop-test.false))
+    (λ c. search rules) (λ c κs. search rules) mid-bilin-prep-row-requires  -- &rows, by-parity
+    add-y (λ c. search rules) loop-again  -- y += 1, and the loop
+    (λ c. search rules) (λ c. filled_all c.before.loop.invariant.filled c.loop-test.false))

@@ -1,5 +1,5 @@
 -- Made from crates/blocks/proofs/words/scaled/put_8tap_scaled_rows/Proof.antt by tools/sets: change that.
-use Rattle.blocks.proofs.Usual.{◌∙◌, refl, ◌≤◌, ◌+◌, ◌-◌, ◌<◌, ◌^◌, arith, needs, row_same, Filled, filled_none, filled_more, Turn}
+use Rattle.blocks.proofs.Usual.{◌∙◌, refl, ◌≤◌, ◌+◌, ◌-◌, ◌<◌, ◌^◌, arith, rules, row_same, Filled, filled_none, filled_more, Turn}
 use Rattle.blocks.proofs.Usual.{turn, filled_all}
 use Rattle.rows.specs.Scaled.{position, pixel_of, sixteenth, in_family, put_down}
 use Rattle.rows.proofs.Laws.Filters.Scaled.{position-lt}
@@ -62,7 +62,7 @@ loop-again c =
 
 pub put-8tap-scaled-rows-spec : {M : Type 1} → Rattle.blocks.proofs.bytes.scaled.put_8tap_scaled_rows.Statement.statement M
 put-8tap-scaled-rows-spec = tie.close (tie.spec invariant-loop decreases-loop
-    (λ c κs. search needs)  -- no_rows
+    (λ c κs. search rules)  -- no_rows
     (λ c. let s = c.before.before.before in
     (filled_none 0 _ _ _ _ _ (omega (arith, s.requires.1)), eight_none _ _ _ _ c.no_rows.ensures.0 c.no_rows.ensures.1, omega arith))  -- loop-holds
     (λ c. omega (arith, bounded c.before))  -- y * p.dy

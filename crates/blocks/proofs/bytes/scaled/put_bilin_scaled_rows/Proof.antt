@@ -1,5 +1,5 @@
 -- Made from crates/blocks/proofs/words/scaled/put_bilin_scaled_rows/Proof.antt by tools/sets: change that.
-use Rattle.blocks.proofs.Usual.{◌≡◌, refl, ◌+◌, ◌-◌, arith, needs, length, clip, filled_all}
+use Rattle.blocks.proofs.Usual.{◌≡◌, refl, ◌+◌, ◌-◌, arith, rules, length, clip, filled_all}
 use Rattle.rows.specs.Bilinear.{R}
 use Rattle.blocks.proofs.Laws.Scaled.Pairs.{PairLoop, pair_none, PairTurn, pair_turn, pair_more, parity_small}
 use Rattle.blocks.proofs.bytes.scaled.put_bilin_scaled_rows.Tie as tie
@@ -54,13 +54,13 @@ loop-again c =
 
 pub put-bilin-scaled-rows-spec : {M : Type 1} → Rattle.blocks.proofs.bytes.scaled.put_bilin_scaled_rows.Statement.statement M
 put-bilin-scaled-rows-spec = tie.close (tie.spec invariant-loop decreases-loop
-    (λ c κs. search needs) (λ c. search needs)  -- bits_of, 4 + B
+    (λ c κs. search rules) (λ c. search rules)  -- bits_of, 4 + B
     tabulate-columns-requires
     (λ c. let p = (begin c.before).pre in pair_none 0 p.0 p.1 refl)  -- loop-holds
     (λ c. omega (arith, row c.before)) (λ c. omega (arith, row c.before.before)) (λ c. omega (arith, row c.before.before))  -- v and m
-    (λ c. search needs) next-pairs-requires
+    (λ c. search rules) next-pairs-requires
     (λ c. omega (arith, row (in-turn c))) (λ c. omega (arith, row (in-turn c)))  -- y * dst_stride, d + w
     (λ c. omega (arith, row (in-turn c))) (λ c. omega (arith, row (in-turn c))) (λ c. omega (arith, row (in-turn c)))  -- dst[d..d + w]
-    (λ c. search needs) (λ c κs. search needs) mid-bilin-row-requires  -- &rows, by-parity
-    add-y (λ c. search needs) loop-again  -- y += 1, and the loop
-    (λ c. search needs) (λ c. filled_all c.before.loop.invariant.filled c.loop-test.false))
+    (λ c. search rules) (λ c κs. search rules) mid-bilin-row-requires  -- &rows, by-parity
+    add-y (λ c. search rules) loop-again  -- y += 1, and the loop
+    (λ c. search rules) (λ c. filled_all c.before.loop.invariant.filled c.loop-test.false))

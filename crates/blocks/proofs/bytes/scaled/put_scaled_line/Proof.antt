@@ -1,5 +1,5 @@
 -- Made from crates/blocks/proofs/words/scaled/put_scaled_line/Proof.antt by tools/sets: change that.
-use Rattle.blocks.proofs.Usual.{◌∙◌, sym, subst, ◌≤◌, ◌<◌, arith, needs, get_or}
+use Rattle.blocks.proofs.Usual.{◌∙◌, sym, subst, ◌≤◌, ◌<◌, arith, rules, get_or}
 use lib.Dec.{T}
 use Rattle.blocks.proofs.Laws.Scaled.Lines.{turned_lt, put_line_whole, put_line_by}
 use Rattle.blocks.proofs.bytes.scaled.put_scaled_line.Tie as tie
@@ -44,16 +44,16 @@ mid-by-requires c κs =
     (omega (arith, (begin b).requires), omega (arith, few b, h.half-power.ensures), λ e. absurd (subst T (sym e) tt), (begin b).requires.6)
 
 pub put-scaled-line-spec : {M : Type 1} → Rattle.blocks.proofs.bytes.scaled.put_scaled_line.Statement.statement M
-put-scaled-line-spec = tie.close (tie.spec (λ c κs. search needs)  -- bits_of
-    (λ c. search needs)  -- order[3]
+put-scaled-line-spec = tie.close (tie.spec (λ c κs. search rules)  -- bits_of
+    (λ c. search rules)  -- order[3]
     (λ c. omega (arith, third c))  -- order[3] * 64
     (λ c. omega (arith, few c.before.before))  -- 4 + b
     (λ c κs. omega (arith, third c, few c.before.before, (begin c.before.before).requires))  -- mid-bilin-row
     (λ c. omega arith) (λ c. omega arith) (λ c. omega arith)  -- 15 * family + (f - 1)
     (λ c κs. omega arith)  -- eight
-    (λ c. search needs)  -- order[0]
+    (λ c. search rules)  -- order[0]
     (λ c κs. (begin c.before.before).requires.2.0)  -- by_rows
     (λ c. omega (arith, few c.before.before.before)) (λ c κs. omega (arith, few c.before.before.before))  -- half-power
     (λ c. omega (arith, few c.before.before.before.before))  -- 6 + b
     mid-by-requires
-    (λ c. search needs) returns (λ c. search needs) returns-2)
+    (λ c. search rules) returns (λ c. search rules) returns-2)

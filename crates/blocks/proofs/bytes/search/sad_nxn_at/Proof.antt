@@ -1,5 +1,5 @@
 -- Made from crates/blocks/proofs/words/search/hv_sad_nxn_16bpc/Proof.antt by tools/sets: change that.
-use Rattle.blocks.proofs.Usual.{◌∙◌, sym, needs, back, refused}
+use Rattle.blocks.proofs.Usual.{◌∙◌, sym, rules, back, refused}
 use Rattle.blocks.proofs.Laws.bytes.Depth.{depth_range}
 use Rattle.blocks.proofs.Laws.Search.Ready.{sads_ready, sad_blocks, sad-done}
 use Rattle.blocks.proofs.bytes.search.sad_nxn_at.Tie as tie
@@ -30,6 +30,6 @@ returns-2 c =
 
 pub sad-nxn-at-spec : {M : Type 1} → Rattle.blocks.proofs.bytes.search.sad_nxn_at.Statement.statement M
 sad-nxn-at-spec = tie.close (tie.spec
-    (λ c κs. search needs) (λ c κs. search needs) (λ c κs. search needs) (λ c κs. search needs) (λ c κs. search needs)  -- depth-ok, check-sads, top-down, above
+    (λ c κs. search rules) (λ c κs. search rules) (λ c κs. search rules) (λ c κs. search rules) (λ c κs. search rules)  -- depth-ok, check-sads, top-down, above
     sad-sum-requires
-    (λ c. search needs) returns returns-2)  -- cast-sum
+    (λ c. search rules) returns returns-2)  -- cast-sum

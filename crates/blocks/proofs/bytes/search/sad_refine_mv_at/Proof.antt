@@ -1,5 +1,5 @@
 -- Made from crates/blocks/proofs/words/search/hv_sad_refine_mv_16bpc/Proof.antt by tools/sets: change that.
-use Rattle.blocks.proofs.Usual.{◌∙◌, sym, needs, w32, back, fit, refused}
+use Rattle.blocks.proofs.Usual.{◌∙◌, sym, rules, w32, back, fit, refused}
 use Rattle.blocks.proofs.Laws.bytes.Depth.{depth_range}
 use Rattle.blocks.proofs.Laws.Search.Ready.{sads_ready, refine_ready, refine-down, refine-done}
 use Rattle.blocks.proofs.bytes.search.sad_refine_mv_at.Tie as tie
@@ -32,5 +32,5 @@ returns-2 c =
 
 pub sad-refine-mv-at-spec : {M : Type 1} → Rattle.blocks.proofs.bytes.search.sad_refine_mv_at.Statement.statement M
 sad-refine-mv-at-spec = tie.close (tie.spec
-    (λ c κs. search needs) (λ c κs. search needs) (λ c κs. search needs) (λ c κs. search needs) (λ c κs. search needs)  -- depth-ok, check-sads, top-down, above
+    (λ c κs. search rules) (λ c κs. search rules) (λ c κs. search rules) (λ c κs. search rules) (λ c κs. search rules)  -- depth-ok, check-sads, top-down, above
     refine-requires returns returns-2)

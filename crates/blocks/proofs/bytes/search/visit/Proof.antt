@@ -1,5 +1,5 @@
 -- Made from crates/blocks/proofs/words/search/visit/Proof.antt by tools/sets: change that.
-use Rattle.blocks.proofs.Usual.{◌≡◌, ◌∙◌, sym, ℕ, ◌+◌, needs, eqb, nat_abs, back}
+use Rattle.blocks.proofs.Usual.{◌≡◌, ◌∙◌, sym, ℕ, ◌+◌, rules, eqb, nat_abs, back}
 use Rattle.rows.specs.Search.{Offset, sad_at}
 use Rattle.blocks.specs.inner.Source.{pixel_in}
 use Rattle.blocks.proofs.Laws.Search.Ready.{visit-centre, visit_other}
@@ -21,4 +21,4 @@ returns-2 c =
     (rw (x, y) at c.take-better.ensures)
 
 pub visit-spec : {M : Type 1} → Rattle.blocks.proofs.bytes.search.visit.Statement.statement M
-visit-spec = tie.close (tie.spec (λ c κs. search needs) returns (λ c κs. search needs) (λ c κs. search needs) returns-2)  -- is-centre, sad-at, take-better
+visit-spec = tie.close (tie.spec (λ c κs. search rules) returns (λ c κs. search rules) (λ c κs. search rules) returns-2)  -- is-centre, sad-at, take-better

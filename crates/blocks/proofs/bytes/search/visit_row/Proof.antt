@@ -1,5 +1,5 @@
 -- Made from crates/blocks/proofs/words/search/visit_row/Proof.antt by tools/sets: change that.
-use Rattle.blocks.proofs.Usual.{ℕ, needs, w32, to_z, of_z, back}
+use Rattle.blocks.proofs.Usual.{ℕ, rules, w32, to_z, of_z, back}
 use Rattle.rows.specs.Search.{Offset, sad_at, visit}
 use Rattle.blocks.specs.inner.Source.{pixel_in}
 use Rattle.blocks.proofs.Laws.Search.Ready.{five}
@@ -16,4 +16,4 @@ returns c =
 
 pub visit-row-spec : {M : Type 1} → Rattle.blocks.proofs.bytes.search.visit_row.Statement.statement M
 visit-row-spec = tie.close (tie.spec
-    (λ c κs. search needs) (λ c κs. search needs) (λ c κs. search needs) (λ c κs. search needs) (λ c κs. search needs) returns)  -- visit
+    (λ c κs. search rules) (λ c κs. search rules) (λ c κs. search rules) (λ c κs. search rules) (λ c κs. search rules) returns)  -- visit

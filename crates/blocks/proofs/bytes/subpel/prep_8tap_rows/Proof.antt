@@ -1,5 +1,5 @@
 -- Made from crates/blocks/proofs/words/subpel/prep_8tap_rows/Proof.antt by tools/sets: change that.
-use Rattle.blocks.proofs.Usual.{◌∙◌, arith, needs}
+use Rattle.blocks.proofs.Usual.{◌∙◌, arith, rules}
 use Rattle.blocks.proofs.Laws.Subpel.Cases.{taps_before, Planned, bits_in, one_ready, both_reach, prep-block, prep_two}
 use Rattle.blocks.proofs.bytes.subpel.prep_8tap_rows.Tie as tie
 
@@ -39,4 +39,4 @@ returns-2 c =
 
 pub prep-8tap-rows-spec : {M : Type 1} → Rattle.blocks.proofs.bytes.subpel.prep_8tap_rows.Statement.statement M
 prep-8tap-rows-spec = tie.close (tie.spec
-    plan-8tap-requires prep-8tap-both-requires (λ c. search needs) returns prep-lines-requires-last (λ c. search needs) returns-2)  -- same-length
+    plan-8tap-requires prep-8tap-both-requires (λ c. search rules) returns prep-lines-requires-last (λ c. search rules) returns-2)  -- same-length

@@ -1,5 +1,5 @@
 -- Made from crates/blocks/proofs/words/subpel/hv_put_8tap_16bpc/Proof.antt by tools/sets: change that.
-use Rattle.blocks.proofs.Usual.{◌≡◌, ◌∙◌, sym, needs, length, lowest, back, done, refused}
+use Rattle.blocks.proofs.Usual.{◌≡◌, ◌∙◌, sym, rules, length, lowest, back, done, refused}
 use Rattle.blocks.specs.bytes.Depth.{depth_ok}
 use Rattle.blocks.specs.Subpel.{subpel_tests}
 use Rattle.blocks.proofs.Laws.bytes.Depth.{depth_bits, depth_bias, depth-max}
@@ -30,6 +30,6 @@ put-8tap-rows-requires c κs =
     rw (d.depth-numbers.ensures, s.top-down.ensures) (r.1, r.2, r.3, depth_bits _ p, depth_bias _ p, depth-max _ p)
 
 pub put-8tap-at-spec : {M : Type 1} → Rattle.blocks.proofs.bytes.subpel.put_8tap_at.Statement.statement M
-put-8tap-at-spec = tie.close (tie.spec (λ c κs. search needs) (λ c κs. search needs)  -- depth-ok, check-8tap
+put-8tap-at-spec = tie.close (tie.spec (λ c κs. search rules) (λ c κs. search rules)  -- depth-ok, check-8tap
     (λ c κs. let k = c.before in sym k.before.depth-ok.ensures ∙ (subpel_ready _ _ _ _ _ _ _ _ _ _ _ _ _ (sym k.check-8tap.ensures ∙ c.if1.true)).0)
-    (λ c κs. search needs) put-8tap-rows-requires (λ c. search needs) returns (λ c. (number c.before, sym (refused _ _ _ c.if1.false))))  -- top-down, same-length, refused
+    (λ c κs. search rules) put-8tap-rows-requires (λ c. search rules) returns (λ c. (number c.before, sym (refused _ _ _ c.if1.false))))  -- top-down, same-length, refused

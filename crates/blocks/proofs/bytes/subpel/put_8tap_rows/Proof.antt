@@ -1,5 +1,5 @@
 -- Made from crates/blocks/proofs/words/subpel/put_8tap_rows/Proof.antt by tools/sets: change that.
-use Rattle.blocks.proofs.Usual.{◌∙◌, arith, needs}
+use Rattle.blocks.proofs.Usual.{◌∙◌, arith, rules}
 use Rattle.blocks.proofs.Laws.Subpel.Cases.{taps_before, Planned, bits_in, round_in, one_ready, both_reach, put-block, put_two}
 use Rattle.blocks.proofs.bytes.subpel.put_8tap_rows.Tie as tie
 
@@ -39,4 +39,4 @@ returns-2 c =
 
 pub put-8tap-rows-spec : {M : Type 1} → Rattle.blocks.proofs.bytes.subpel.put_8tap_rows.Statement.statement M
 put-8tap-rows-spec = tie.close (tie.spec
-    plan-8tap-requires put-8tap-both-requires (λ c. search needs) returns put-lines-requires-last (λ c. search needs) returns-2)  -- same-length
+    plan-8tap-requires put-8tap-both-requires (λ c. search rules) returns put-lines-requires-last (λ c. search rules) returns-2)  -- same-length

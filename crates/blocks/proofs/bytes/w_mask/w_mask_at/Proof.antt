@@ -1,5 +1,5 @@
 -- Made from crates/blocks/proofs/words/w_mask/hv_w_mask_16bpc/Proof.antt by tools/sets: change that.
-use Rattle.blocks.proofs.Usual.{◌≡◌, ◌∙◌, sym, ap, needs, ℤ, length, up, lowest, numbers_of, back, done, refused}
+use Rattle.blocks.proofs.Usual.{◌≡◌, ◌∙◌, sym, ap, rules, ℤ, length, up, lowest, numbers_of, back, done, refused}
 use Rattle.blocks.specs.bytes.Depth.{depth_ok}
 use Rattle.blocks.specs.WMask.{w_mask_tests}
 use Rattle.blocks.proofs.Laws.bytes.Depth.{depth_bits, depth_bias, depth-max, depth_range}
@@ -55,6 +55,6 @@ returns c =
 
 pub w-mask-at-spec : {M : Type 1} → Rattle.blocks.proofs.bytes.w_mask.w_mask_at.Statement.statement M
 w-mask-at-spec = tie.close (tie.spec
-    (λ c κs. search needs) (λ c κs. search needs) depth-numbers-requires (λ c κs. search needs)  -- depth-ok, check-w-mask, above
-    (λ c κs. search needs) w-mask-rows-requires (λ c. search needs) (λ c. search needs) returns  -- above, same-length
+    (λ c κs. search rules) (λ c κs. search rules) depth-numbers-requires (λ c κs. search rules)  -- depth-ok, check-w-mask, above
+    (λ c κs. search rules) w-mask-rows-requires (λ c. search rules) (λ c. search rules) returns  -- above, same-length
     (λ c. (number c.before, sym (refused _ _ _ c.if1.false), sym (refused _ _ _ c.if1.false))))  -- returns-2

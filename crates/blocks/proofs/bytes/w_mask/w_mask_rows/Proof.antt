@@ -1,5 +1,5 @@
 -- Made from crates/blocks/proofs/words/w_mask/w_mask_rows/Proof.antt by tools/sets: change that.
-use Rattle.blocks.proofs.Usual.{◌∙◌, arith, needs}
+use Rattle.blocks.proofs.Usual.{◌∙◌, arith, rules}
 use Rattle.blocks.proofs.Laws.WMask.Ready.{each_met}
 use Rattle.blocks.proofs.Laws.WMask.Weighed.{weigh, mixed_by, Kept, kept, kept_room}
 use Rattle.blocks.proofs.bytes.w_mask.w_mask_rows.Tie as tie
@@ -42,7 +42,7 @@ returns-2 c =
 
 pub w-mask-rows-spec : {M : Type 1} → Rattle.blocks.proofs.bytes.w_mask.w_mask_rows.Statement.statement M
 w-mask-rows-spec = tie.close (tie.spec keep-mask-requires weighed-rows-requires mask-rows-requires
-    (λ c. search needs) (λ c. search needs)  -- same-length
+    (λ c. search rules) (λ c. search rules)  -- same-length
     returns
-    (λ c. search needs) (λ c. search needs)  -- same-length
+    (λ c. search rules) (λ c. search rules)  -- same-length
     returns-2)

@@ -1,5 +1,5 @@
 -- Made from crates/blocks/proofs/words/w_mask/weighed_rows/Proof.antt by tools/sets: change that.
-use Rattle.blocks.proofs.Usual.{◌++◌, ◌≡◌, refl, sym, ◌≤◌, ◌*◌, ◌+◌, ◌-◌, arith, needs, length, drop, Filled, filled_none, row_in, filled_more, Turn}
+use Rattle.blocks.proofs.Usual.{◌++◌, ◌≡◌, refl, sym, ◌≤◌, ◌*◌, ◌+◌, ◌-◌, arith, rules, length, drop, Filled, filled_none, row_in, filled_more, Turn}
 use Rattle.blocks.proofs.Usual.{turn, filled_all}
 use Rattle.blocks.proofs.Laws.WMask.Weighed.{weigh, mixed_by, mixed, Front, front, front_span, weighed}
 use Rattle.blocks.proofs.bytes.w_mask.weighed_rows.Tie as tie
@@ -57,6 +57,6 @@ weighed-rows-spec = tie.close (tie.spec invariant-loop decreases-loop
     (λ c. omega (arith, row c.before.before.before))
     (λ c. sym (line c.before.before.before).len)  -- &m
     mask-row-requires
-    (λ c. search needs) (λ c. search needs) loop-again  -- y += 1, and the loop
+    (λ c. search rules) (λ c. search rules) loop-again  -- y += 1, and the loop
     (λ c. c.before.loop.invariant.0.len)  -- same-length
     (λ c. filled_all c.before.loop.invariant.0 c.loop-test.false))  -- returns

@@ -1,5 +1,5 @@
 -- Made from crates/blocks/proofs/words/warp/hv_warp_affine_8x8t_16bpc/Proof.antt by tools/sets: change that.
-use Rattle.blocks.proofs.Usual.{◌≡◌, ◌∙◌, sym, needs, length, lowest, back, done, refused}
+use Rattle.blocks.proofs.Usual.{◌≡◌, ◌∙◌, sym, rules, length, lowest, back, done, refused}
 use Rattle.blocks.specs.bytes.Depth.{depth_ok}
 use Rattle.blocks.specs.Warp.{warp_tests}
 use Rattle.blocks.proofs.Laws.bytes.Depth.{depth_bits, depth_bias}
@@ -31,8 +31,8 @@ warp-prep-requires c κs =
     let p = sym k.before.depth-ok.ensures ∙ r.0 in rw (s.top-down.ensures, c.before.depth-numbers.ensures) (r.1, depth_bits _ p, depth_bias _ p)
 
 pub warp-affine-8x8t-at-spec : {M : Type 1} → Rattle.blocks.proofs.bytes.warp.warp_affine_8x8t_at.Statement.statement M
-warp-affine-8x8t-at-spec = tie.close (tie.spec (λ c κs. search needs) (λ c κs. search needs)  -- depth-ok, check-warp
-    (λ c κs. search needs)  -- top-down, depth-numbers
+warp-affine-8x8t-at-spec = tie.close (tie.spec (λ c κs. search rules) (λ c κs. search rules)  -- depth-ok, check-warp
+    (λ c κs. search rules)  -- top-down, depth-numbers
     (λ c κs. let t = c.before in let k = t.before in
     sym k.before.depth-ok.ensures ∙ (warp_ready _ _ _ _ _ _ _ _ _ _ _ _ _ (sym k.check-warp.ensures ∙ t.if1.true)).0)
-    warp-prep-requires (λ c. search needs) returns (λ c. (number c.before, sym (refused _ _ _ c.if1.false))))  -- same-length, refused
+    warp-prep-requires (λ c. search rules) returns (λ c. (number c.before, sym (refused _ _ _ c.if1.false))))  -- same-length, refused

@@ -1,5 +1,5 @@
 -- Made from crates/blocks/proofs/words/warp/warp_first/Proof.antt by tools/sets: change that.
-use Rattle.blocks.proofs.Usual.{◌∙◌, refl, arith, needs}
+use Rattle.blocks.proofs.Usual.{◌∙◌, refl, arith, rules}
 use Rattle.blocks.proofs.Laws.Warp.Passes.{taps_in, corner_stood, first_straight, first_turned}
 use Rattle.blocks.proofs.bytes.warp.warp_first.Tie as tie
 
@@ -37,5 +37,5 @@ returns-2 c =
     m.warp-mid2.ensures ∙ first_turned _ _ _ _ _ a.src.now a.s (entry o).requires.1 _ _ _ refl (rw o.corner.ensures at r.put-rows.ensures)
 
 pub warp-first-spec : {M : Type 1} → Rattle.blocks.proofs.bytes.warp.warp_first.Statement.statement M
-warp-first-spec = tie.close (tie.spec (λ c κs. search needs) straight-requires (λ c. search needs) copied-requires (λ c. search needs)  -- corner, rows' length
-    turned-requires (λ c. search needs) returns (λ c. search needs) returns-2)  -- same-length
+warp-first-spec = tie.close (tie.spec (λ c κs. search rules) straight-requires (λ c. search rules) copied-requires (λ c. search rules)  -- corner, rows' length
+    turned-requires (λ c. search rules) returns (λ c. search rules) returns-2)  -- same-length

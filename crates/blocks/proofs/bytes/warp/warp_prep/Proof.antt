@@ -1,5 +1,5 @@
 -- Made from crates/blocks/proofs/words/warp/warp_prep/Proof.antt by tools/sets: change that.
-use Rattle.blocks.proofs.Usual.{◌∙◌, refl, arith, needs, w32, w16, told_back}
+use Rattle.blocks.proofs.Usual.{◌∙◌, refl, arith, rules, w32, w16, told_back}
 use Rattle.blocks.proofs.Laws.Warp.Passes.{prep-second}
 use Rattle.blocks.proofs.bytes.warp.warp_prep.Tie as tie
 
@@ -25,5 +25,5 @@ returns c =
 
 pub warp-prep-spec : {M : Type 1} → Rattle.blocks.proofs.bytes.warp.warp_prep.Statement.statement M
 warp-prep-spec = tie.close (tie.spec
-    (λ c. search needs)  -- mid's length
-    warp-first-requires (λ c. search needs) warp-prep-rows-requires (λ c. search needs) returns)  -- mid's length again, same-length
+    (λ c. search rules)  -- mid's length
+    warp-first-requires (λ c. search rules) warp-prep-rows-requires (λ c. search rules) returns)  -- mid's length again, same-length

@@ -1,5 +1,5 @@
 -- Made from crates/blocks/proofs/words/window/hv_window_16bpc/Proof.antt by tools/sets: change that.
-use Rattle.blocks.proofs.Usual.{needs, back}
+use Rattle.blocks.proofs.Usual.{rules, back}
 use Rattle.blocks.proofs.Laws.Window.Ready.{part-answer}
 use Rattle.blocks.proofs.bytes.window.hv_window_8bpc.Tie as tie
 
@@ -9,4 +9,4 @@ returns c =
     let e = rw (back f.x, back f.y) at g.window.ensures in (part-answer e.0, e.1)
 
 pub hv-window-8bpc-spec : {M : Type 1} → Rattle.blocks.proofs.bytes.window.hv_window_8bpc.Statement.statement M
-hv-window-8bpc-spec = tie.close (tie.spec (λ c κs. search needs) (λ c. search needs) returns)  -- window, same-length
+hv-window-8bpc-spec = tie.close (tie.spec (λ c κs. search rules) (λ c. search rules) returns)  -- window, same-length

@@ -1,5 +1,5 @@
 -- Made from crates/blocks/proofs/words/window/window/Proof.antt by tools/sets: change that.
-use Rattle.blocks.proofs.Usual.{◌≡◌, ◌∙◌, refl, sym, needs, length, lowest, window_tests, area_of, Asked, window_of, lent_of, back}
+use Rattle.blocks.proofs.Usual.{◌≡◌, ◌∙◌, refl, sym, rules, length, lowest, window_tests, area_of, Asked, window_of, lent_of, back}
 use Rattle.blocks.specs.inner.Window.{asked}
 use Rattle.blocks.proofs.Laws.Window.Ready.{no_part_of, scratch_kept, Accepted, accepted_small, accepted_ready, accepted_part, accepted_scratch}
 use Rattle.blocks.proofs.bytes.window.window.Tie as tie
@@ -42,6 +42,6 @@ returns-2 c =
     (accepted_part (accepted r.before) (area-is r) e.0, accepted_scratch (accepted r.before) (area-is r) _ e.0 e.1)
 
 pub window-spec : {M : Type 1} → Rattle.blocks.proofs.bytes.window.window.Statement.statement M
-window-spec = tie.close (tie.spec (λ c κs. search needs) (λ c κs. search needs) returns area-of-requires  -- check-window, no_part
+window-spec = tie.close (tie.spec (λ c κs. search rules) (λ c κs. search rules) returns area-of-requires  -- check-window, no_part
     (λ c κs. let r = c.before in accepted_ready (accepted r.before) (area-is r))  -- fetch-requires
-    (λ c. search needs) returns-2)  -- same-length
+    (λ c. search rules) returns-2)  -- same-length

@@ -1,4 +1,4 @@
-use Rattle.blocks.proofs.Usual.{◌*◌, ◌+◌, ◌-◌, arith, needs, pos, length, w16, at, minus16, half, low16, backn, Filled}
+use Rattle.blocks.proofs.Usual.{◌*◌, ◌+◌, ◌-◌, arith, rules, pos, length, w16, at, minus16, half, low16, backn, Filled}
 use Rattle.blocks.proofs.Usual.{filled_none, block-loop, filled_more}
 use Rattle.rows.specs.Subpel.{tapped}
 use Rattle.blocks.specs.inner.Source.{top_down}
@@ -34,9 +34,9 @@ mid-prep-row-requires c κs =
 
 pub mid-prep-lines-spec : {M : Type 1} → Rattle.blocks.proofs.subpel.lines.mid_prep_lines.Statement.statement M
 mid-prep-lines-spec = tie.close (tie.spec invariant-loop decreases-loop
-    (λ c κs. search needs) (λ c. search needs)  -- half-power, bias as i16
+    (λ c κs. search rules) (λ c. search rules)  -- half-power, bias as i16
     (λ c. filled_none (pos 0) _ _ _ _ _ (omega (arith, c.before.requires.0.dst)))  -- loop-holds
     (λ c. omega (arith, row c)) (λ c. omega (arith, row c))  -- y * tmp_stride, d + w
     (λ c. omega (arith, row c)) (λ c. omega (arith, row c)) (λ c. omega (arith, row c)) (λ c. omega (arith, row c))  -- tmp[d..d + w]
     (λ c. omega (arith, row c.before)) mid-prep-row-requires  -- y * 64
-    (λ c. search needs) (λ c. search needs) loop-again (λ c. search block-loop) (λ c. search block-loop))  -- y += 1, and the loop
+    (λ c. search rules) (λ c. search rules) loop-again (λ c. search block-loop) (λ c. search block-loop))  -- y += 1, and the loop

@@ -1,4 +1,4 @@
-use Rattle.blocks.proofs.Usual.{◌≡◌, ◌∙◌, sym, arith, needs, w32, lowest, later, sooner, told_back}
+use Rattle.blocks.proofs.Usual.{◌≡◌, ◌∙◌, sym, arith, rules, w32, lowest, later, sooner, told_back}
 use Rattle.blocks.proofs.Laws.Subpel.Ready.{shape_tests, shape_met}
 use Rattle.blocks.proofs.subpel.plan.check_8tap.Tie as tie
 
@@ -35,7 +35,7 @@ returns-2 c =
     (later (shape_tests _ _ _ _) _ (none t.before.before.before))
 
 pub check-8tap-spec : {M : Type 1} → Rattle.blocks.proofs.subpel.plan.check_8tap.Statement.statement M
-check-8tap-spec = tie.close (tie.spec (λ c κs. search needs) (λ c κs. search needs) (λ c κs. search needs)  -- stride, sizes
+check-8tap-spec = tie.close (tie.spec (λ c κs. search rules) (λ c κs. search rules) (λ c κs. search rules)  -- stride, sizes
     (λ c. shape c.before ∙ sooner (shape_tests _ _ _ _) _ (λ q. c.if1.true (shape c.before ∙ q)))  -- returns
-    (λ c κs. search needs) (λ c κs. search needs) reads-taps-requires (λ c κs. search needs) (λ c κs. search needs)  -- on-axis, held, needed
-    (λ c κs. search needs) (λ c κs. search needs) (λ c κs. search needs) returns-2)  -- tables, motion, needed
+    (λ c κs. search rules) (λ c κs. search rules) reads-taps-requires (λ c κs. search rules) (λ c κs. search rules)  -- on-axis, held, needed
+    (λ c κs. search rules) (λ c κs. search rules) (λ c κs. search rules) returns-2)  -- tables, motion, needed

@@ -1,4 +1,4 @@
-use Rattle.blocks.proofs.Usual.{◌≡◌, ◌∙◌, ap, ℕ, ◌*◌, ◌+◌, ◌-◌, ◌<◌, ◌%◌, arith, needs, up, dn, rd, signed}
+use Rattle.blocks.proofs.Usual.{◌≡◌, ◌∙◌, ap, ℕ, ◌*◌, ◌+◌, ◌-◌, ◌<◌, ◌%◌, arith, rules, up, dn, rd, signed}
 use Rattle.rows.specs.Subpel.{family}
 use Rattle.blocks.specs.inner.Subpel.{filter_of}
 use Rattle.blocks.specs.declared.subpel.plan.Filter.TheVariants.{Subpel}
@@ -37,11 +37,11 @@ returns-4 : tie.Need-returns-4
 returns-4 c = let b = c.before in number b _ ((t-is b).0 ∙ family-high _ _ c.if3.false)
 
 pub get-filter-spec : {M : Type 1} → Rattle.blocks.proofs.subpel.plan.get_filter.Statement.statement M
-get-filter-spec = tie.close (tie.spec (λ c κs. search needs) (λ c. search needs)  -- above, cast-n
+get-filter-spec = tie.close (tie.spec (λ c κs. search rules) (λ c. search rules)  -- above, cast-n
     (λ c. filter_off _ _ _ (omega (arith, n-is c.before)))  -- returns
-    (λ c. search needs) returns-2 (λ c κs. search needs) (λ c. search needs) (λ c. search needs)  -- sub-t8, above, cast-t, add-t10
-    (λ c. search needs) (λ c. search needs) (λ c. search needs) returns-3  -- mul-t11, sub-t12, add-t13
+    (λ c. search rules) returns-2 (λ c κs. search rules) (λ c. search rules) (λ c. search rules)  -- sub-t8, above, cast-t, add-t10
+    (λ c. search rules) (λ c. search rules) (λ c. search rules) returns-3  -- mul-t11, sub-t12, add-t13
     (λ c. omega (arith, t-is c.before))  -- mul-t14
-    (λ c. search needs)  -- sub-t15
+    (λ c. search rules)  -- sub-t15
     (λ c. omega (arith, t-is c.before, n-is c.before.before.before.before))  -- add-t16
     returns-4)

@@ -1,4 +1,4 @@
-use Rattle.blocks.proofs.Usual.{needs, w32, told_back}
+use Rattle.blocks.proofs.Usual.{rules, w32, told_back}
 use Rattle.blocks.proofs.subpel.plan.motion.Tie as tie
 
 returns : tie.Need-returns
@@ -9,4 +9,4 @@ returns c =
 
 pub motion-spec : {M : Type 1} → Rattle.blocks.proofs.subpel.plan.motion.Statement.statement M
 motion-spec = tie.close (tie.spec
-    (λ c κs. search needs) (λ c κs. search needs) (λ c κs. search needs) (λ c κs. search needs) (λ c κs. search needs) (λ c κs. search needs) returns)
+    (λ c κs. search rules) (λ c κs. search rules) (λ c κs. search rules) (λ c κs. search rules) (λ c κs. search rules) (λ c κs. search rules) returns)

@@ -1,4 +1,4 @@
-use Rattle.blocks.proofs.Usual.{List, ◌≡◌, ◌∙◌, ap, ℕ, ◌≤◌, ◌*◌, ◌+◌, ◌-◌, ◌<◌, ◌^◌, arith, needs, ℤ, w32, up, half, told_back}
+use Rattle.blocks.proofs.Usual.{List, ◌≡◌, ◌∙◌, ap, ℕ, ◌≤◌, ◌*◌, ◌+◌, ◌-◌, ◌<◌, ◌^◌, arith, rules, ℤ, w32, up, half, told_back}
 use Rattle.rows.specs.Subpel.{axis, filter_bits}
 use Rattle.blocks.specs.Subpel.{on}
 use Rattle.blocks.specs.inner.Subpel.{axis_of, filter_of, taps_of, in_memory}
@@ -101,25 +101,25 @@ returns-4 c =
     plan_both _ _ _ _ _ _ _ _ (up a.m.mx) (up a.m.my) k.n k.r q k.f c.stand-at3.ensures k.g (omega arith) (omega arith)
 
 pub plan-8tap-spec : {M : Type 1} → Rattle.blocks.proofs.subpel.plan.plan_8tap.Statement.statement M
-plan-8tap-spec = tie.close (tie.spec (λ c κs. search needs) (λ c κs. search needs)  -- filter-bits, get-filter
+plan-8tap-spec = tie.close (tie.spec (λ c κs. search rules) (λ c κs. search rules)  -- filter-bits, get-filter
     (λ c κs. rw (across c) c.before.before.before.before.requires.3)  -- taps-requires
-    (λ c κs. search needs)  -- get-filter-requires-2
+    (λ c κs. search rules)  -- get-filter-requires-2
     (λ c κs. rw (down c) c.before.before.before.before.before.before.before.requires.4)  -- taps-requires-2
-    (λ c κs. search needs) (λ c κs. search needs)  -- on-axis
+    (λ c κs. search rules) (λ c κs. search rules)  -- on-axis
     (λ c κs. let d = c.before.before.before.before in omega (arith, bits d.before.before.before.before.before.before, bits_fit (begin d).args.m.filter_type))  -- half-power-requires
-    (λ c κs. search needs) returns  -- by_one
+    (λ c κs. search rules) returns  -- by_one
     (λ c. omega (arith, only-down c.before)) (λ c. omega (arith, only-down c.before.before))  -- 3 * s.forth, 4 * s.back
     (λ c. omega (arith, only-down c.before.before)) (λ c. omega (arith, only-down c.before.before.before))  -- s.off - (.. + ..)
-    (λ c κs. search needs) (λ c κs. search needs)  -- stand-at, in_memory_lem
+    (λ c κs. search rules) (λ c κs. search rules)  -- stand-at, in_memory_lem
     (λ c. omega (arith, only-down c.before.before.before.before.before.before))  -- s.forth + s.back
-    (λ c κs. search needs) returns-2  -- by_one
+    (λ c κs. search rules) returns-2  -- by_one
     (λ c. omega (arith, known c.before))  -- n - b
     (λ c κs. omega (arith, known c.before))  -- half-power-requires-2
-    (λ c. search needs)  -- add-round
+    (λ c. search rules)  -- add-round
     (λ c. let t = c.before.before.before.before in omega (arith, known t, (begin (filters t)).requires.1))  -- s.off - 3
-    (λ c κs. search needs) (λ c κs. search needs) returns-3  -- stand-at, by_one
+    (λ c κs. search rules) (λ c κs. search rules) returns-3  -- stand-at, by_one
     (λ c. omega (arith, both c.before)) (λ c. omega (arith, both c.before.before))  -- s.off + 3 * s.back
     (λ c. omega (arith, both c.before.before.before)) (λ c. omega (arith, both c.before.before.before))  -- 3 * s.forth + 3
     (λ c. omega (arith, both c.before.before.before))  -- .. - ..
-    (λ c κs. search needs)  -- stand-at
+    (λ c κs. search rules)  -- stand-at
     returns-4)

@@ -1,4 +1,4 @@
-use Rattle.blocks.proofs.Usual.{needs, w32, whole_filters, told_back}
+use Rattle.blocks.proofs.Usual.{rules, w32, whole_filters, told_back}
 use Rattle.blocks.specs.Subpel.{subpel_ok}
 use Rattle.blocks.proofs.subpel.plan.tables.Tie as tie
 
@@ -11,4 +11,4 @@ returns c =
 
 pub tables-spec : {M : Type 1} → Rattle.blocks.proofs.subpel.plan.tables.Statement.statement M
 tables-spec = tie.close (tie.spec
-    (λ c κs. search needs) (λ c κs. search needs) (λ c κs. search needs) (λ c κs. search needs) (λ c κs. search needs) (λ c κs. search needs) returns)
+    (λ c κs. search rules) (λ c κs. search rules) (λ c κs. search rules) (λ c κs. search rules) (λ c κs. search rules) (λ c κs. search rules) returns)

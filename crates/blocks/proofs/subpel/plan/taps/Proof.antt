@@ -1,4 +1,4 @@
-use Rattle.blocks.proofs.Usual.{refl, needs, row_of, row_from}
+use Rattle.blocks.proofs.Usual.{refl, rules, row_of, row_from}
 use Rattle.blocks.specs.inner.Subpel.{axis_of, taps_of}
 use Rattle.blocks.proofs.subpel.plan.taps.Tie as tie
 
@@ -15,8 +15,8 @@ unfolding taps_of axis_of
 returns-3 c = rw c.before.before.k2.given.1 c.eight2.ensures
 
 pub taps-spec : {M : Type 1} → Rattle.blocks.proofs.subpel.plan.taps.Statement.statement M
-taps-spec = tie.close (tie.spec (λ c. search needs) (λ c. search needs)  -- enum_told, enum-known-k
+taps-spec = tie.close (tie.spec (λ c. search rules) (λ c. search rules)  -- enum_told, enum-known-k
     (λ c κs. rw c.before.k.given.1 at c.before.before.before.requires)  -- eight-requires
-    (λ c. search needs)  -- enum-known-k-2
+    (λ c. search rules)  -- enum-known-k-2
     (λ c κs. rw c.before.k2.given.1 at c.before.before.before.requires)  -- eight-requires-2
     returns returns-2 returns-3)

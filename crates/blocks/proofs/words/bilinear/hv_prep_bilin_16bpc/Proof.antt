@@ -1,4 +1,4 @@
-use Rattle.blocks.proofs.Usual.{◌≡◌, ◌∙◌, sym, needs, length, lowest, back, done, refused}
+use Rattle.blocks.proofs.Usual.{◌≡◌, ◌∙◌, sym, rules, length, lowest, back, done, refused}
 use Rattle.blocks.specs.words.Depth.{depth_ok}
 use Rattle.blocks.specs.Bilinear.{bilin_tests}
 use Rattle.blocks.proofs.Laws.words.Depth.{depth_bits, depth_bias}
@@ -29,7 +29,7 @@ rows-requires c κs =
     rw (s.top-down.ensures, a.before.up32.ensures, a.up322.ensures, n.depth-numbers.ensures) (q.1, depth_bits _ p, depth_bias _ p)
 
 pub hv-prep-bilin-16bpc-spec : {M : Type 1} → Rattle.blocks.proofs.words.bilinear.hv_prep_bilin_16bpc.Statement.statement M
-hv-prep-bilin-16bpc-spec = tie.close (tie.spec (λ c κs. search needs) (λ c κs. search needs)  -- depth-ok, check-bilin
+hv-prep-bilin-16bpc-spec = tie.close (tie.spec (λ c κs. search rules) (λ c κs. search rules)  -- depth-ok, check-bilin
     (λ c κs. let k = c.before in sym k.before.depth-ok.ensures ∙ (bilin_ready _ _ (sym k.check-bilin.ensures ∙ c.if1.true)).0)
-    (λ c κs. search needs) (λ c κs. search needs) (λ c κs. search needs) rows-requires (λ c. search needs) returns  -- above, top-down, same-length
+    (λ c κs. search rules) (λ c κs. search rules) (λ c κs. search rules) rows-requires (λ c. search rules) returns  -- above, top-down, same-length
     (λ c. (number c.before, sym (refused _ _ _ c.if1.false))))

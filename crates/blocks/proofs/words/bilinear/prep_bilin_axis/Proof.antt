@@ -1,4 +1,4 @@
-use Rattle.blocks.proofs.Usual.{◌*◌, ◌+◌, ◌-◌, arith, needs, pos, length, w16, to_z, minus16, px, low16, back, Filled, filled_none, block-loop}
+use Rattle.blocks.proofs.Usual.{◌*◌, ◌+◌, ◌-◌, arith, rules, pos, length, w16, to_z, minus16, px, low16, back, Filled, filled_none, block-loop}
 use Rattle.blocks.proofs.Usual.{filled_more, filled_all}
 use Rattle.rows.specs.Bilinear.{R}
 use Rattle.rows.specs.inner.Bilinear.{bilin_at}
@@ -34,5 +34,5 @@ prep-bilin-axis-spec = tie.close (tie.spec invariant-loop decreases-loop
     (λ c. omega (arith, row c.before)) (λ c. omega (arith, row c.before))  -- tmp[d..d + w]
     (λ c. omega (arith, row c.before)) (λ c. omega (arith, row c.before))
     (λ c κs. let o = c.before in omega (arith, row o.before, o.row_first.ensures, (entry o.before).pre))  -- prep-bilin-row
-    (λ c. search needs) (λ c. search needs) loop-again (λ c. search block-loop)  -- y += 1, and the loop
+    (λ c. search rules) (λ c. search rules) loop-again (λ c. search block-loop)  -- y += 1, and the loop
     (λ c. rw (← back c.before.before.before.ranges.bias) (filled_all c.before.loop.invariant c.loop-test.false)))  -- returns

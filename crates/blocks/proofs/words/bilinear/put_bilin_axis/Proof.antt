@@ -1,4 +1,4 @@
-use Rattle.blocks.proofs.Usual.{◌*◌, ◌+◌, ◌-◌, ◌^◌, arith, needs, pos, ◌+ℤ◌, length, shr_z, clip, px, Filled, filled_none, filled_more, block-loop}
+use Rattle.blocks.proofs.Usual.{◌*◌, ◌+◌, ◌-◌, ◌^◌, arith, rules, pos, ◌+ℤ◌, length, shr_z, clip, px, Filled, filled_none, filled_more, block-loop}
 use Rattle.rows.specs.Bilinear.{R}
 use Rattle.rows.specs.inner.Bilinear.{bilin_at}
 use Rattle.blocks.specs.inner.Source.{row_first}
@@ -33,4 +33,4 @@ put-bilin-axis-spec = tie.close (tie.spec invariant-loop decreases-loop
     (λ c. omega (arith, row c.before))  -- words: 2 * d
     (λ c. omega (arith, row c.before)) (λ c. omega (arith, row c.before)) (λ c. omega (arith, row c.before))  -- dst[d..d + w]
     (λ c κs. let o = c.before in omega (arith, row o.before, o.row_first.ensures, (entry o.before).pre))  -- put-bilin-row
-    (λ c. search needs) (λ c. search needs) loop-again (λ c. search block-loop) (λ c. search block-loop))  -- y += 1, and the loop
+    (λ c. search rules) (λ c. search rules) loop-again (λ c. search block-loop) (λ c. search block-loop))  -- y += 1, and the loop

@@ -1,4 +1,4 @@
-use Rattle.blocks.proofs.Usual.{◌≡◌, refl, sym, ℕ, ◌≤◌, ◌*◌, ◌+◌, ◌-◌, ◌<◌, arith, needs, length, splice, Filled, filled_none, filled_all}
+use Rattle.blocks.proofs.Usual.{◌≡◌, refl, sym, ℕ, ◌≤◌, ◌*◌, ◌+◌, ◌-◌, ◌<◌, arith, rules, length, splice, Filled, filled_none, filled_all}
 use Rattle.rows.specs.Bilinear.{put_bilin}
 use Rattle.blocks.specs.inner.Source.{around_in}
 use Rattle.blocks.proofs.Laws.Loops.Stands.{StoodRow}
@@ -98,9 +98,9 @@ abbrev counted : tie.After-mid4 invariant-loop decreases-loop → tie.After-eigh
 counted c = c.before.before.before.before
 
 pub put-bilin-both-spec : {M : Type 1} → Rattle.blocks.proofs.words.bilinear.put_bilin_both.Statement.statement M
-put-bilin-both-spec = tie.close (tie.spec invariant-loop decreases-loop (λ c κs. search needs) (λ c. search needs)  -- bits_of, 4 - b
+put-bilin-both-spec = tie.close (tie.spec invariant-loop decreases-loop (λ c κs. search rules) (λ c. search rules)  -- bits_of, 4 - b
     (λ c. refl) first-requires loop-holds  -- slice-aggregate-prep-bilin-axis
-    (λ c. omega (arith, c.before.loop.invariant.dst)) (λ c κs. search needs)  -- h - y, eight-at-most
+    (λ c. omega (arith, c.before.loop.invariant.dst)) (λ c κs. search rules)  -- h - y, eight-at-most
     (λ c. omega (arith, turn c, (entry c).requires.0.block)) (λ c κs. ((next c).before, omega (arith, next c, (entry c).well-formed)))  -- y + 1, rows-from
     (λ c. omega arith) (λ c. omega (arith, c.before.before.before.loop.invariant.long))  -- mid[64..576]
     (λ c. omega (arith, c.before.before.before.loop.invariant.long)) first-requires-2

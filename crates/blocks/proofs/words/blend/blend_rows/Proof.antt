@@ -1,4 +1,4 @@
-use Rattle.blocks.proofs.Usual.{◌≤◌, ◌*◌, ◌+◌, ◌-◌, arith, needs, length, pixel, Filled, filled_none, row_in, block-loop, filled_span}
+use Rattle.blocks.proofs.Usual.{◌≤◌, ◌*◌, ◌+◌, ◌-◌, arith, rules, length, pixel, Filled, filled_none, row_in, block-loop, filled_span}
 use Rattle.rows.specs.Combine.{blend}
 use Rattle.blocks.proofs.Laws.Loops.InPlace.{filled_over}
 use Rattle.blocks.proofs.Laws.Blend.Above.{at-most-row}
@@ -44,4 +44,4 @@ blend-rows-spec = tie.close (tie.spec invariant-loop decreases-loop
     (λ c. omega (arith, row c, (entry c).well-formed.0.1, c.before.loop.invariant.len))  -- words: 2 * d
     (λ c. omega (arith, row c)) (λ c. omega (arith, row c)) (λ c. omega (arith, row c))  -- dst[d..d + w]
     (λ c. omega (arith, row c.before)) blend-row-requires  -- blend-row
-    (λ c. search needs) (λ c. search needs) loop-again (λ c. search block-loop) (λ c. search block-loop))  -- y += 1, and the loop
+    (λ c. search rules) (λ c. search rules) loop-again (λ c. search block-loop) (λ c. search block-loop))  -- y += 1, and the loop

@@ -1,4 +1,4 @@
-use Rattle.blocks.proofs.Usual.{◌≡◌, ◌∙◌, sym, needs, length, lowest}
+use Rattle.blocks.proofs.Usual.{◌≡◌, ◌∙◌, sym, rules, length, lowest}
 use Rattle.blocks.specs.Blend.{blend_shape}
 use Rattle.blocks.proofs.Laws.Blend.Ready.{blend_ready, Searched, blend-refused, blend_above, blend-rows, blend-done}
 use Rattle.blocks.proofs.words.blend.hv_blend_16bpc.Tie as tie
@@ -22,9 +22,9 @@ returns-3 : tie.Need-returns-3
 returns-3 c = let r = c.before.before in let s = r.before.before in blend-done (searched s.before.before) s.if2.false _ r.blend-rows.ensures
 
 pub hv-blend-16bpc-spec : {M : Type 1} → Rattle.blocks.proofs.words.blend.hv_blend_16bpc.Statement.statement M
-hv-blend-16bpc-spec = tie.close (tie.spec (λ c κs. search needs)  -- check-blend-requires
+hv-blend-16bpc-spec = tie.close (tie.spec (λ c κs. search rules)  -- check-blend-requires
     (λ c. blend-refused _ _ (entry c.before).args.tmp.now _ _ _ _ c.before.check-blend.ensures c.if1.true)  -- returns
     first-above-requires
     (λ c. blend_above (searched c.before.before) c.if2.true)  -- returns-2
     (λ c κs. blend-rows (searched c.before.before.before) c.before.if2.false)  -- blend-rows-requires
-    (λ c. search needs) returns-3)  -- same-length
+    (λ c. search rules) returns-3)  -- same-length

@@ -1,4 +1,4 @@
-use Rattle.blocks.proofs.Usual.{◌≡◌, ◌∙◌, sym, needs, length, lowest, back, done, refused}
+use Rattle.blocks.proofs.Usual.{◌≡◌, ◌∙◌, sym, rules, length, lowest, back, done, refused}
 use Rattle.blocks.specs.words.Depth.{depth_ok}
 use Rattle.blocks.specs.Blend.{morph_tests}
 use Rattle.blocks.proofs.Laws.words.Depth.{depth-max}
@@ -35,6 +35,6 @@ returns c =
     )
 
 pub hv-morph-16bpc-spec : {M : Type 1} → Rattle.blocks.proofs.words.blend.hv_morph_16bpc.Statement.statement M
-hv-morph-16bpc-spec = tie.close (tie.spec (λ c κs. search needs) (λ c κs. search needs) depth-numbers-requires morph-rows-requires  -- depth-ok, check-morph
-    (λ c. search needs) returns  -- same-length
+hv-morph-16bpc-spec = tie.close (tie.spec (λ c κs. search rules) (λ c κs. search rules) depth-numbers-requires morph-rows-requires  -- depth-ok, check-morph
+    (λ c. search rules) returns  -- same-length
     (λ c. (number c.before, sym (refused _ _ _ c.if1.false))))  -- returns-2

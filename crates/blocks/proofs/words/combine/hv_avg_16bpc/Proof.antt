@@ -1,4 +1,4 @@
-use Rattle.blocks.proofs.Usual.{◌≡◌, ◌∙◌, sym, ap, needs, ℤ, length, up, lowest, numbers_of, back, done, refused}
+use Rattle.blocks.proofs.Usual.{◌≡◌, ◌∙◌, sym, ap, rules, ℤ, length, up, lowest, numbers_of, back, done, refused}
 use Rattle.blocks.specs.words.Depth.{depth_ok}
 use Rattle.blocks.specs.Combine.{avg_tests}
 use Rattle.blocks.proofs.Laws.words.Depth.{depth_bits, depth_bias, depth-max}
@@ -31,6 +31,6 @@ returns c =
     (number n.before.before, rw (depth n) at c.before.before.avg-rows.ensures ∙ sym (done _ _ _ n.before.if1.true))
 
 pub hv-avg-16bpc-spec : {M : Type 1} → Rattle.blocks.proofs.words.combine.hv_avg_16bpc.Statement.statement M
-hv-avg-16bpc-spec = tie.close (tie.spec (λ c κs. search needs) (λ c κs. search needs) depth-numbers-requires avg-rows-requires  -- depth-ok, check-combine
-    (λ c. search needs) returns  -- same-length
+hv-avg-16bpc-spec = tie.close (tie.spec (λ c κs. search rules) (λ c κs. search rules) depth-numbers-requires avg-rows-requires  -- depth-ok, check-combine
+    (λ c. search rules) returns  -- same-length
     (λ c. (number c.before, sym (refused _ _ _ c.if1.false))))  -- returns-2

@@ -1,4 +1,4 @@
-use Rattle.blocks.proofs.Usual.{◌-◌, arith, needs, length, Filled, filled_none, filled_more, block-loop, Turn, turn}
+use Rattle.blocks.proofs.Usual.{◌-◌, arith, rules, length, Filled, filled_none, filled_more, block-loop, Turn, turn}
 use Rattle.rows.specs.Copy.{put}
 use Rattle.blocks.specs.inner.Source.{pixel_in}
 use Rattle.blocks.proofs.Laws.Loops.Stands.{StoodRow, stood_row}
@@ -33,4 +33,4 @@ put-rows-spec = tie.close (tie.spec invariant-loop decreases-loop
     (λ c. omega (arith, row c.before))  -- words: 2 * d
     (λ c. omega (arith, row c.before)) (λ c. omega (arith, row c.before)) (λ c. omega (arith, row c.before))  -- dst[d..d + w]
     (λ c κs. let o = c.before in omega (arith, row o.before, o.row_first.ensures))  -- copy-row
-    (λ c. search needs) (λ c. search needs) loop-again (λ c. search block-loop) (λ c. search block-loop))  -- y += 1, and the loop
+    (λ c. search rules) (λ c. search rules) loop-again (λ c. search block-loop) (λ c. search block-loop))  -- y += 1, and the loop

@@ -1,4 +1,4 @@
-use Rattle.blocks.proofs.Usual.{needs, back}
+use Rattle.blocks.proofs.Usual.{rules, back}
 use Rattle.blocks.specs.words.Depth.{depth_ok}
 use Rattle.blocks.proofs.words.depth.depth_ok.Tie as tie
 
@@ -7,4 +7,4 @@ unfolding depth_ok
 returns c = rw (c.up32.ensures, back c.before.ranges.depth)
 
 pub depth-ok-spec : {M : Type 1} → Rattle.blocks.proofs.words.depth.depth_ok.Statement.statement M
-depth-ok-spec = tie.close (tie.spec (λ c κs. search needs) returns)  -- above
+depth-ok-spec = tie.close (tie.spec (λ c κs. search rules) returns)  -- above

@@ -1,4 +1,4 @@
-use Rattle.blocks.proofs.Usual.{◌≤◌, ◌*◌, ◌+◌, ◌-◌, arith, needs, length, Filled, filled_none, row_in, filled_more, filled_all, filled_span}
+use Rattle.blocks.proofs.Usual.{◌≤◌, ◌*◌, ◌+◌, ◌-◌, arith, rules, length, Filled, filled_none, row_in, filled_more, filled_all, filled_span}
 use Rattle.blocks.specs.inner.Source.{edge_in}
 use Rattle.blocks.proofs.Laws.Loops.Stands.{StoodRow}
 use Rattle.blocks.proofs.Laws.Edge.Ready.{turn, row_is}
@@ -61,4 +61,4 @@ edge-rows-spec = tie.close (tie.spec invariant-loop decreases-loop
     (λ c. omega (arith, row c.before.before, (turning c).loop.invariant.len)) (λ c. omega (arith, row c.before.before, (turning c).loop.invariant.len))  -- dst[d..d + ww]
     (λ c. omega (arith, row c.before.before, (turning c).loop.invariant.len))
     edge-row-requires
-    (λ c. search needs) (λ c. search needs) loop-again (λ c. c.before.before.loop.invariant.len) returns)  -- j += 1, and the loop
+    (λ c. search rules) (λ c. search rules) loop-again (λ c. c.before.before.loop.invariant.len) returns)  -- j += 1, and the loop

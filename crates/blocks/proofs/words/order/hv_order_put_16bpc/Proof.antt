@@ -1,4 +1,4 @@
-use Rattle.blocks.proofs.Usual.{true, ◌≡◌, ◌∙◌, refl, sym, ap, ℕ, needs, w32, up, Tables, kind_of, back}
+use Rattle.blocks.proofs.Usual.{true, ◌≡◌, ◌∙◌, refl, sym, ap, ℕ, rules, w32, up, Tables, kind_of, back}
 use Rattle.blocks.specs.words.Depth.{depth_ok}
 use Rattle.blocks.proofs.Laws.words.Depth.{depth_bits, depth_bias, depth-max}
 use Rattle.blocks.proofs.Laws.Calls.Told.{passed}
@@ -61,6 +61,6 @@ returns-2 c =
     (put_refused _ _ _ _ _ _ (ordered_number (depth w) (tables w) refl w.order_window.ensures) w.order_window.ensures.full c.if1.false)
 
 pub hv-order-put-16bpc-spec : {M : Type 1} → Rattle.blocks.proofs.words.order.hv_order_put_16bpc.Statement.statement M
-hv-order-put-16bpc-spec = tie.close (tie.spec (λ c κs. search needs) (λ c κs. search needs) (λ c κs. search needs)  -- kind-of, depth-ok, order_window
+hv-order-put-16bpc-spec = tie.close (tie.spec (λ c κs. search rules) (λ c κs. search rules) (λ c κs. search rules)  -- kind-of, depth-ok, order_window
     (λ c κs. deep c) pick-requires put-kind-requires  -- depth-numbers-requires
-    (λ c. search needs) (λ c. search needs) returns (λ c. search needs) returns-2)  -- same-length
+    (λ c. search rules) (λ c. search rules) returns (λ c. search rules) returns-2)  -- same-length

@@ -1,4 +1,4 @@
-use Rattle.blocks.proofs.Usual.{true, ◌≡◌, ◌∙◌, sym, arith, needs, length, lowest, back, done, refused}
+use Rattle.blocks.proofs.Usual.{true, ◌≡◌, ◌∙◌, sym, arith, rules, length, lowest, back, done, refused}
 use Rattle.blocks.specs.words.Depth.{depth_ok}
 use Rattle.blocks.specs.Subpel.{subpel_ok}
 use Rattle.blocks.specs.Scaled.{scaled_type_ok, scaled_tests}
@@ -72,8 +72,8 @@ prep-8tap-scaled-rows-requires c κs =
 
 pub hv-prep-8tap-scaled-16bpc-spec : {M : Type 1} → Rattle.blocks.proofs.words.scaled.hv_prep_8tap_scaled_16bpc.Statement.statement M
 hv-prep-8tap-scaled-16bpc-spec = tie.close (tie.spec
-    (λ c κs. search needs) (λ c κs. search needs) (λ c κs. search needs)  -- depth-ok, scaled-type-ok, check-scaled
+    (λ c κs. search rules) (λ c κs. search rules) (λ c κs. search rules)  -- depth-ok, scaled-type-ok, check-scaled
     (λ c κs. rw (back (begin c.before).ranges.depth) (met c).deep)  -- depth-numbers
     (λ c. omega (arith, (met c.before).most)) (λ c. (taps_met _ _ (met c.before) 0).0)  -- src_off - 3 * src_stride
-    (λ c κs. search needs) (λ c κs. search needs)  -- top-down, scaled-plan
-    prep-8tap-scaled-rows-requires (λ c. search needs) returns (λ c. (number c.before, sym (refused _ _ _ c.if1.false))))
+    (λ c κs. search rules) (λ c κs. search rules)  -- top-down, scaled-plan
+    prep-8tap-scaled-rows-requires (λ c. search rules) returns (λ c. (number c.before, sym (refused _ _ _ c.if1.false))))

@@ -1,4 +1,4 @@
-use Rattle.blocks.proofs.Usual.{true, false, ◌≡◌, ◌∙◌, sym, arith, needs, pos, length, up, lowest, back, done, refused}
+use Rattle.blocks.proofs.Usual.{true, false, ◌≡◌, ◌∙◌, sym, arith, rules, pos, length, up, lowest, back, done, refused}
 use Rattle.blocks.specs.words.Depth.{depth_ok}
 use Rattle.blocks.specs.Scaled.{scaled_tests}
 use Rattle.blocks.specs.inner.Scaled.{scaled_plan}
@@ -39,7 +39,7 @@ put-bilin-scaled-rows-requires c κs =
     (m.block, m.rows, pairs_met m (pos 0) _ (even_bits (up (begin t.before).args.depth)), depth_bits _ m.deep, depth-max _ m.deep)
 
 pub hv-put-bilin-scaled-16bpc-spec : {M : Type 1} → Rattle.blocks.proofs.words.scaled.hv_put_bilin_scaled_16bpc.Statement.statement M
-hv-put-bilin-scaled-16bpc-spec = tie.close (tie.spec (λ c κs. search needs) (λ c κs. search needs)  -- depth-ok, check-scaled
+hv-put-bilin-scaled-16bpc-spec = tie.close (tie.spec (λ c κs. search rules) (λ c κs. search rules)  -- depth-ok, check-scaled
     (λ c κs. rw (back (begin c.before).ranges.depth) (met c).deep)  -- depth-numbers
-    (λ c κs. search needs) (λ c κs. search needs)  -- top-down, scaled-plan
-    put-bilin-scaled-rows-requires (λ c. search needs) returns (λ c. (number c.before, sym (refused _ _ _ c.if1.false))))
+    (λ c κs. search rules) (λ c κs. search rules)  -- top-down, scaled-plan
+    put-bilin-scaled-rows-requires (λ c. search rules) returns (λ c. (number c.before, sym (refused _ _ _ c.if1.false))))

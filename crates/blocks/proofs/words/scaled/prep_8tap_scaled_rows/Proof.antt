@@ -1,4 +1,4 @@
-use Rattle.blocks.proofs.Usual.{◌∙◌, refl, ◌≤◌, ◌+◌, ◌-◌, ◌<◌, ◌^◌, arith, needs, pos, row_same, Filled, filled_none, filled_more}
+use Rattle.blocks.proofs.Usual.{◌∙◌, refl, ◌≤◌, ◌+◌, ◌-◌, ◌<◌, ◌^◌, arith, rules, pos, row_same, Filled, filled_none, filled_more}
 use Rattle.blocks.proofs.Usual.{Turn, turn, filled_all}
 use Rattle.rows.specs.Scaled.{position, pixel_of, sixteenth, in_family, prep_down}
 use Rattle.rows.proofs.Laws.Filters.Scaled.{position-lt}
@@ -62,7 +62,7 @@ loop-again c =
 
 pub prep-8tap-scaled-rows-spec : {M : Type 1} → Rattle.blocks.proofs.words.scaled.prep_8tap_scaled_rows.Statement.statement M
 prep-8tap-scaled-rows-spec = tie.close (tie.spec invariant-loop decreases-loop
-    (λ c κs. search needs) (λ c κs. search needs)  -- bias-of, no_rows
+    (λ c κs. search rules) (λ c κs. search rules)  -- bias-of, no_rows
     (λ c. let s = c.before.before.before in
     (filled_none (pos 0) _ _ _ _ _ (omega (arith, s.requires.1)), eight_none _ _ _ _ c.no_rows.ensures.0 c.no_rows.ensures.1, omega arith))  -- loop-holds
     (λ c. omega (arith, bounded c.before))  -- y * p.dy

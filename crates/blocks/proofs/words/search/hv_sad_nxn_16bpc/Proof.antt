@@ -1,4 +1,4 @@
-use Rattle.blocks.proofs.Usual.{◌∙◌, sym, needs, back, refused}
+use Rattle.blocks.proofs.Usual.{◌∙◌, sym, rules, back, refused}
 use Rattle.blocks.proofs.Laws.words.Depth.{depth_range}
 use Rattle.blocks.proofs.Laws.Search.Ready.{sads_ready, sad_blocks, sad-done}
 use Rattle.blocks.proofs.words.search.hv_sad_nxn_16bpc.Tie as tie
@@ -29,6 +29,6 @@ returns-2 c =
 
 pub hv-sad-nxn-16bpc-spec : {M : Type 1} → Rattle.blocks.proofs.words.search.hv_sad_nxn_16bpc.Statement.statement M
 hv-sad-nxn-16bpc-spec = tie.close (tie.spec
-    (λ c κs. search needs) (λ c κs. search needs) (λ c κs. search needs) (λ c κs. search needs) (λ c κs. search needs)  -- depth-ok, check-sads, top-down, above
+    (λ c κs. search rules) (λ c κs. search rules) (λ c κs. search rules) (λ c κs. search rules) (λ c κs. search rules)  -- depth-ok, check-sads, top-down, above
     sad-sum-requires
-    (λ c. search needs) returns returns-2)  -- cast-sum
+    (λ c. search rules) returns returns-2)  -- cast-sum

@@ -1,4 +1,4 @@
-use Rattle.blocks.proofs.Usual.{◌∙◌, sym, needs, w32, back, fit, refused}
+use Rattle.blocks.proofs.Usual.{◌∙◌, sym, rules, w32, back, fit, refused}
 use Rattle.blocks.proofs.Laws.words.Depth.{depth_range}
 use Rattle.blocks.proofs.Laws.Search.Ready.{sads_ready, refine_ready, refine-down, refine-done}
 use Rattle.blocks.proofs.words.search.hv_sad_refine_mv_16bpc.Tie as tie
@@ -31,5 +31,5 @@ returns-2 c =
 
 pub hv-sad-refine-mv-16bpc-spec : {M : Type 1} → Rattle.blocks.proofs.words.search.hv_sad_refine_mv_16bpc.Statement.statement M
 hv-sad-refine-mv-16bpc-spec = tie.close (tie.spec
-    (λ c κs. search needs) (λ c κs. search needs) (λ c κs. search needs) (λ c κs. search needs) (λ c κs. search needs)  -- depth-ok, check-sads, top-down, above
+    (λ c κs. search rules) (λ c κs. search rules) (λ c κs. search rules) (λ c κs. search rules) (λ c κs. search rules)  -- depth-ok, check-sads, top-down, above
     refine-requires returns returns-2)

@@ -1,4 +1,4 @@
-use Rattle.blocks.proofs.Usual.{◌∙◌, sym, needs}
+use Rattle.blocks.proofs.Usual.{◌∙◌, sym, rules}
 use Rattle.rows.specs.Search.{answer}
 use Rattle.blocks.specs.inner.Search.{best_of}
 use Rattle.blocks.specs.inner.Source.{pixel_in}
@@ -21,5 +21,5 @@ returns-2 c =
 
 pub implicit-spec : {M : Type 1} → Rattle.blocks.proofs.words.search.implicit.Statement.statement M
 implicit-spec = tie.close (tie.spec
-    (λ c κs. search needs) (λ c κs. search needs) (λ c κs. search needs) returns (λ c κs. search needs)  -- sad-at, kept_of, is-enough, search
+    (λ c κs. search rules) (λ c κs. search rules) (λ c κs. search rules) returns (λ c κs. search rules)  -- sad-at, kept_of, is-enough, search
     returns-2)

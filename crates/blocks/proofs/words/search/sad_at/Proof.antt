@@ -1,4 +1,4 @@
-use Rattle.blocks.proofs.Usual.{arith, needs, back}
+use Rattle.blocks.proofs.Usual.{arith, rules, back}
 use Rattle.blocks.proofs.Laws.Search.Ready.{starts_in, offset_blocks, offset_sad}
 use Rattle.blocks.proofs.words.search.sad_at.Tie as tie
 
@@ -34,5 +34,5 @@ returns c =
 
 pub sad-at-spec : {M : Type 1} → Rattle.blocks.proofs.words.search.sad_at.Statement.statement M
 sad-at-spec = tie.close (tie.spec
-    first-place-requires second-place-requires (λ c. search needs) (λ c. search needs) sad-sum-requires  -- add-sad-sum
+    first-place-requires second-place-requires (λ c. search rules) (λ c. search rules) sad-sum-requires  -- add-sad-sum
     returns)

@@ -1,4 +1,4 @@
-use Rattle.blocks.proofs.Usual.{ℕ, needs}
+use Rattle.blocks.proofs.Usual.{ℕ, rules}
 use Rattle.rows.specs.Search as spec
 use Rattle.blocks.specs.inner.Source.{pixel_in}
 use Rattle.blocks.proofs.Laws.Search.Ready.{five}
@@ -16,4 +16,4 @@ returns c =
 
 pub search-spec : {M : Type 1} → Rattle.blocks.proofs.words.search.search.Statement.statement M
 search-spec = tie.close (tie.spec
-    (λ c κs. search needs) (λ c κs. search needs) (λ c κs. search needs) (λ c κs. search needs) (λ c κs. search needs) returns)  -- visit-row
+    (λ c κs. search rules) (λ c κs. search rules) (λ c κs. search rules) (λ c κs. search rules) (λ c κs. search rules) returns)  -- visit-row

@@ -1,4 +1,4 @@
-use Rattle.blocks.proofs.Usual.{ℕ, needs, w32, to_z, of_z, back}
+use Rattle.blocks.proofs.Usual.{ℕ, rules, w32, to_z, of_z, back}
 use Rattle.rows.specs.Search.{Offset, sad_at, visit}
 use Rattle.blocks.specs.inner.Source.{pixel_in}
 use Rattle.blocks.proofs.Laws.Search.Ready.{five}
@@ -15,4 +15,4 @@ returns c =
 
 pub visit-row-spec : {M : Type 1} → Rattle.blocks.proofs.words.search.visit_row.Statement.statement M
 visit-row-spec = tie.close (tie.spec
-    (λ c κs. search needs) (λ c κs. search needs) (λ c κs. search needs) (λ c κs. search needs) (λ c κs. search needs) returns)  -- visit
+    (λ c κs. search rules) (λ c κs. search rules) (λ c κs. search rules) (λ c κs. search rules) (λ c κs. search rules) returns)  -- visit

@@ -1,4 +1,4 @@
-use Rattle.blocks.proofs.Usual.{◌-◌, arith, needs, pos, Filled, filled_none, block-loop, Turn}
+use Rattle.blocks.proofs.Usual.{◌-◌, arith, rules, pos, Filled, filled_none, block-loop, Turn}
 use Rattle.blocks.proofs.Laws.Warp.Passes.{first, column-part, column_more}
 use Rattle.blocks.proofs.words.warp.warp_mid.Tie as tie
 
@@ -34,4 +34,4 @@ warp-mid-spec = tie.close (tie.spec invariant-loop decreases-loop
     (λ c. omega (arith, part c)) (λ c. omega (arith, part c)) (λ c. omega (arith, part c)) (λ c. omega (arith, part c))  -- mid[d..d + 15]
     (λ c. omega (arith, c.before.loop-test.true)) (λ c. omega (arith, c.before.loop-test.true)) (λ c. omega arith)  -- o + x, x as u32, 7 - bits
     warp-column-requires
-    (λ c. search needs) (λ c. search needs) loop-again (λ c. search block-loop) (λ c. search block-loop))  -- x += 1, and the loop
+    (λ c. search rules) (λ c. search rules) loop-again (λ c. search block-loop) (λ c. search block-loop))  -- x += 1, and the loop

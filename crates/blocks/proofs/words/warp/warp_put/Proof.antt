@@ -1,4 +1,4 @@
-use Rattle.blocks.proofs.Usual.{◌∙◌, refl, arith, needs, w32, w16, told_back}
+use Rattle.blocks.proofs.Usual.{◌∙◌, refl, arith, rules, w32, w16, told_back}
 use Rattle.blocks.proofs.Laws.Warp.Passes.{put_second}
 use Rattle.blocks.proofs.words.warp.warp_put.Tie as tie
 
@@ -24,5 +24,5 @@ returns c =
 
 pub warp-put-spec : {M : Type 1} → Rattle.blocks.proofs.words.warp.warp_put.Statement.statement M
 warp-put-spec = tie.close (tie.spec
-    (λ c. search needs)  -- mid's length
-    warp-first-requires (λ c. search needs) warp-put-rows-requires (λ c. search needs) returns)  -- mid's length again, same-length
+    (λ c. search rules)  -- mid's length
+    warp-first-requires (λ c. search rules) warp-put-rows-requires (λ c. search rules) returns)  -- mid's length again, same-length

@@ -1,4 +1,4 @@
-use Rattle.blocks.proofs.Usual.{◌≤◌, ◌*◌, ◌+◌, ◌-◌, arith, needs, length, at, clip, low16, Filled, filled_none, row_in, block-loop, filled_span}
+use Rattle.blocks.proofs.Usual.{◌≤◌, ◌*◌, ◌+◌, ◌-◌, arith, rules, length, at, clip, low16, Filled, filled_none, row_in, block-loop, filled_span}
 use Rattle.rows.specs.Warp.{warped}
 use Rattle.blocks.proofs.Laws.Warp.Passes.{filled_row}
 use Rattle.blocks.proofs.words.warp.warp_put_rows.Tie as tie
@@ -37,4 +37,4 @@ warp-put-rows-spec = tie.close (tie.spec invariant-loop decreases-loop
     (λ c. omega (arith, row c)) (λ c. omega (arith, row c)) (λ c. omega (arith, row c))  -- dst[d..d + 8]
     (λ c. omega (arith, c.before.loop-test.true)) (λ c. omega arith)  -- y as u32, 7 + bits
     warp-put-row-requires
-    (λ c. search needs) (λ c. search needs) loop-again (λ c. search block-loop) (λ c. search block-loop))  -- y += 1, and the loop
+    (λ c. search rules) (λ c. search rules) loop-again (λ c. search block-loop) (λ c. search block-loop))  -- y += 1, and the loop

@@ -1,4 +1,4 @@
-use Rattle.blocks.proofs.Usual.{needs}
+use Rattle.blocks.proofs.Usual.{rules}
 use Rattle.blocks.proofs.Laws.Window.Ready.{area_filled, area_kept}
 use Rattle.blocks.proofs.words.window.fetch.Tie as tie
 
@@ -12,6 +12,6 @@ returns-2 c = let l = c.before.before in (l.locate.ensures, area_kept _ _ _ l.lo
 
 pub fetch_spec : {M : Type 1} → Rattle.blocks.proofs.words.window.fetch.Statement.statement M
 fetch_spec = tie.close (tie.spec (λ c κs. let p = c.before.before.requires in (p.area, p.plane.forth))  -- locate-requires
-    (λ c κs. search needs)  -- top-down-requires
+    (λ c κs. search rules)  -- top-down-requires
     (λ c κs. let d = c.before in rw d.top-down.ensures d.before.before.before.before.before.before.requires)  -- edge-rows-requires
-    (λ c. search needs) returns returns-2)  -- same-length
+    (λ c. search rules) returns returns-2)  -- same-length

@@ -1,4 +1,4 @@
-use Rattle.blocks.proofs.Usual.{◌≡◌, ◌∙◌, refl, ap, needs, length, window_of, part_of, lent_of, back}
+use Rattle.blocks.proofs.Usual.{◌≡◌, ◌∙◌, refl, ap, rules, length, window_of, part_of, lent_of, back}
 use Rattle.blocks.specs.inner.Window.{asked}
 use Rattle.blocks.proofs.Laws.Window.Holds.{window_in}
 use Rattle.blocks.specs.declared.window.Part.{Part}
@@ -17,6 +17,6 @@ returns c =
     c.pick.ensures ∙ ap (λ (p : Part). part_of p a.plane.now a.scratch.now) (answer g)
 
 pub window-part-spec : {M : Type 1} → Rattle.blocks.proofs.words.window.window_part.Statement.statement M
-window-part-spec = tie.close (tie.spec (λ c κs. search needs)  -- find-window-requires
+window-part-spec = tie.close (tie.spec (λ c κs. search rules)  -- find-window-requires
     (λ c κs. rw (answer c) (window_in _ _ _))  -- pick-requires
     returns)

@@ -1,4 +1,4 @@
-use Rattle.rows.proofs.Usual.{◌+◌, ℕ, arith, needs, pos, get_or, w32, to_z}
+use Rattle.rows.proofs.Usual.{◌+◌, ℕ, arith, rules, pos, get_or, w32, to_z}
 use Rattle.rows.proofs.Laws.Filters.Bilinear.{Widened, pixel_widened, between_is}
 use Rattle.rows.proofs.bytes.between.between_u8.Tie as tie
 
@@ -16,10 +16,10 @@ returns c =
     between_is a.f (pixel s a.p) (pixel s (a.p + a.step)) (omega arith) c.bilin-sum.ensures
 
 pub between-u8-spec : {M : Type 1} → Rattle.rows.proofs.bytes.between.between_u8.Statement.statement M
-between-u8-spec = tie.close (tie.spec (λ c. search needs)  -- src[p]
+between-u8-spec = tie.close (tie.spec (λ c. search rules)  -- src[p]
     (λ c. omega (arith, c.shared-slice-known2.given c.before.before.args.p))  -- as i32
-    (λ c. search needs)  -- p + step
-    (λ c. search needs)  -- src[p + step]
+    (λ c. search rules)  -- p + step
+    (λ c. search rules)  -- src[p + step]
     (λ c. let a = c.before.before.before.args in omega (arith, c.shared-slice-known3.given (a.p + a.step)))  -- as i32
     bilin-sum-requires
     returns)

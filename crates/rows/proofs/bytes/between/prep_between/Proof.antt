@@ -1,4 +1,4 @@
-use Rattle.rows.proofs.Usual.{arith, needs, w32, w16, SFits, back, rd}
+use Rattle.rows.proofs.Usual.{arith, rules, w32, w16, SFits, back, rd}
 use Rattle.rows.specs.Bilinear.{R}
 use Rattle.rows.proofs.Laws.Filters.Bilinear.{half-small}
 use Rattle.rows.proofs.bytes.between.prep_between.Tie as tie
@@ -17,6 +17,6 @@ returns c =
     rw (back fv, c.kept.ensures, back fb, b.between-u8.ensures.0, s.requires.2, back s.ranges.bias)
 
 pub prep-between-spec : {M : Type 1} → Rattle.rows.proofs.bytes.between.prep_between.Statement.statement M
-prep-between-spec = tie.close (tie.spec (λ c κs. search needs)  -- between-u8-requires
+prep-between-spec = tie.close (tie.spec (λ c κs. search rules)  -- between-u8-requires
     kept-requires
     returns)

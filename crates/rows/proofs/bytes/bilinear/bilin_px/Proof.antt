@@ -1,5 +1,5 @@
 -- Made from crates/rows/proofs/words/bilinear/bilin_px/Proof.antt by tools/sets: change that.
-use Rattle.rows.proofs.Usual.{arith, needs, w32, SFits, back}
+use Rattle.rows.proofs.Usual.{arith, rules, w32, SFits, back}
 use Rattle.rows.proofs.bytes.bilinear.bilin_px.Tie as tie
 
 returns : tie.Need-returns
@@ -9,6 +9,6 @@ returns c =
     rw (c.clip.ensures, back fb, b.bilin-rnd.ensures.0, back b.before.ranges.s)
 
 pub bilin-px-spec : {M : Type 1} → Rattle.rows.proofs.bytes.bilinear.bilin_px.Statement.statement M
-bilin-px-spec = tie.close (tie.spec (λ c κs. search needs)  -- bilin-rnd-requires
-    (λ c κs. search needs)  -- clip-requires
+bilin-px-spec = tie.close (tie.spec (λ c κs. search rules)  -- bilin-rnd-requires
+    (λ c κs. search rules)  -- clip-requires
     returns)

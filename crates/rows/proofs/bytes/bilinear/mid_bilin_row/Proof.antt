@@ -1,5 +1,5 @@
 -- Made from crates/rows/proofs/words/bilinear/mid_bilin_row/Proof.antt by tools/sets: change that.
-use Rattle.rows.proofs.Usual.{◌-◌, ◌+◌, arith, needs, length, w32, SFits, at, clip, Upto, upto_all, upto_none, upto_more, back}
+use Rattle.rows.proofs.Usual.{◌-◌, ◌+◌, arith, rules, length, w32, SFits, at, clip, Upto, upto_all, upto_none, upto_more, back}
 use Rattle.rows.specs.Bilinear.{R}
 use Rattle.rows.specs.inner.Bilinear.{bilin_at}
 use Rattle.rows.proofs.bytes.bilinear.mid_bilin_row.Tie as tie
@@ -20,7 +20,7 @@ loop-again c =
 pub mid-bilin-row-spec : {M : Type 1} → Rattle.rows.proofs.bytes.bilinear.mid_bilin_row.Statement.statement M
 mid-bilin-row-spec = tie.close (tie.spec invariant-loop decreases-loop (λ c. upto_none _ _ _)  -- while i < w
     (λ c. omega arith) (λ c κs. omega arith)  -- between_i16(.., o + i, ..)
-    (λ c κs. search needs)  -- bilin-px-requires
+    (λ c κs. search rules)  -- bilin-px-requires
     (λ c. omega arith)  -- dst[i] =
     (λ c. omega arith) (λ c. omega arith) loop-again  -- i += 1
     (λ c. omega arith) (λ c. upto_all c.before.loop.invariant (omega arith)))  -- returns

@@ -1,5 +1,5 @@
 -- Made from crates/rows/proofs/words/blend/morph_px/Proof.antt by tools/sets: change that.
-use Rattle.rows.proofs.Usual.{arith, needs, w32, SFits, back, backn}
+use Rattle.rows.proofs.Usual.{arith, rules, w32, SFits, back, backn}
 use Rattle.rows.specs.Combine.{morph}
 use Rattle.rows.proofs.bytes.blend.morph_px.Tie as tie
 
@@ -14,7 +14,7 @@ returns c =
     rw (c.clip.ensures, back f, c.before.scaled.ensures, back s.ranges.alpha, back s.ranges.beta, backn w32 s.args.d (omega arith))
 
 pub morph-px-spec : {M : Type 1} → Rattle.rows.proofs.bytes.blend.morph_px.Statement.statement M
-morph-px-spec = tie.close (tie.spec (λ c. search needs)  -- cast-scaled
+morph-px-spec = tie.close (tie.spec (λ c. search rules)  -- cast-scaled
     scaled-requires
-    (λ c κs. search needs)  -- clip-requires
+    (λ c κs. search rules)  -- clip-requires
     returns)

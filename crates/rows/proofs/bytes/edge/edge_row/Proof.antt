@@ -1,5 +1,5 @@
 -- Made from crates/rows/proofs/words/edge/edge_row/Proof.antt by tools/sets: change that.
-use Rattle.rows.proofs.Usual.{sym, ℕ, arith, needs, length-take-le, w64, back, backn}
+use Rattle.rows.proofs.Usual.{sym, ℕ, arith, rules, length-take-le, w64, back, backn}
 use Rattle.rows.proofs.Laws.Pixels.Edge.{Parts, parts, middle_in, middle-held, last_in, edge_row}
 use Rattle.rows.proofs.bytes.edge.edge_row.Tie as tie
 
@@ -32,14 +32,14 @@ returns c =
     edge_row (know (at_fill f)) f.fill-row.ensures k.copy-row.ensures g.fill-row2.ensures
 
 pub edge-row-spec : {M : Type 1} → Rattle.rows.proofs.bytes.edge.edge_row.Statement.statement M
-edge-row-spec = tie.close (tie.spec (λ c κs. search needs)  -- left-of-requires
-    (λ c. search needs)  -- iw as i64
+edge-row-spec = tie.close (tie.spec (λ c κs. search rules)  -- left-of-requires
+    (λ c. search rules)  -- iw as i64
     (λ c κs. let s = c.before.before.before in rw (back s.ranges.x, backn w64 s.args.iw (omega arith)) (omega arith))  -- left-of-requires-2
-    (λ c κs. search needs)  -- left-of-requires-3
+    (λ c κs. search rules)  -- left-of-requires-3
     (λ c. omega (arith, know c))  -- dst[..a]
     (λ c. let p = c.before in sym (length-take-le (a p) (begin p).args.dst.now (omega (arith, know p))))  -- its length
-    (λ c. search needs)  -- src[o]
-    (λ c κs. search needs)  -- fill-row-requires
+    (λ c. search rules)  -- src[o]
+    (λ c κs. search rules)  -- fill-row-requires
     (λ c. (know (at_fill c.before.before)).ordered)  -- e - a
     (λ c. (know (at_fill c.before.before)).ordered)  -- dst[a..
     (λ c. let f = c.before.before in middle_in (know (at_fill f)) f.fill-row.ensures)  -- ..e]
@@ -47,9 +47,9 @@ edge-row-spec = tie.close (tie.spec (λ c κs. search needs)  -- left-of-require
     (λ c κs. let f = c.before.before.before in omega (arith, middle-held (know (at_fill f)) f.fill-row.ensures))  -- copy-row-requires
     (λ c. let k = c.before.before in let f = at_copy k in last_in (know (at_fill f)) f.fill-row.ensures k.copy-row.ensures)  -- n - e
     (λ c. let k = c.before.before in let f = at_copy k in last_in (know (at_fill f)) f.fill-row.ensures k.copy-row.ensures)  -- dst[e..
-    (λ c. search needs)  -- ..]
-    (λ c. search needs)  -- o + iw
-    (λ c. search needs)  -- - 1
-    (λ c. search needs)  -- src[o + iw - 1]
-    (λ c κs. search needs)  -- fill-row-requires-2
-    (λ c. search needs) returns)
+    (λ c. search rules)  -- ..]
+    (λ c. search rules)  -- o + iw
+    (λ c. search rules)  -- - 1
+    (λ c. search rules)  -- src[o + iw - 1]
+    (λ c κs. search rules)  -- fill-row-requires-2
+    (λ c. search rules) returns)

@@ -1,4 +1,4 @@
-use Rattle.rows.proofs.Usual.{◌∙◌, refl, ap, sym, ◌+◌, ◌≤◌, ◌<◌, ℕ, add-zero, arith, needs, pos, length, get_or, back}
+use Rattle.rows.proofs.Usual.{◌∙◌, refl, ap, sym, ◌+◌, ◌≤◌, ◌<◌, ℕ, add-zero, arith, rules, pos, length, get_or, back}
 use lib.ListN.{length-set}
 use Rattle.rows.specs.inner.Scaled.{pair_mid}
 use Rattle.rows.proofs.Laws.Blocks.Part.{eight_stored}
@@ -26,20 +26,20 @@ returns c =
 
 pub scaled-bilin-eight-spec : {M : Type 1} → Rattle.rows.proofs.bytes.pairs.scaled_bilin_eight.Statement.statement M
 scaled-bilin-eight-spec = tie.close (tie.spec (λ c κs. fetched c.before _ (omega arith))  -- column i
-    (λ c. search needs) (λ c κs. fetched c.before.before _ (omega arith))  -- column i + 1
-    (λ c. search needs) (λ c κs. fetched c.before.before.before _ (omega arith))  -- column i + 2
-    (λ c. search needs) (λ c κs. fetched c.before.before.before.before _ (omega arith))  -- column i + 3
-    (λ c. search needs) (λ c κs. fetched c.before.before.before.before.before _ (omega arith))  -- column i + 4
-    (λ c. search needs) (λ c κs. fetched c.before.before.before.before.before.before _ (omega arith))  -- column i + 5
-    (λ c. search needs) (λ c κs. fetched c.before.before.before.before.before.before.before _ (omega arith))  -- column i + 6
-    (λ c. search needs) (λ c κs. fetched c.before.before.before.before.before.before.before.before _ (omega arith))  -- column i + 7
-    (λ c. search needs) (λ c. search needs)  -- mid[i] =
-    (λ c. search needs) (λ c. search needs) (λ c. simp length-set (omega arith))  -- mid[i + 1] =
-    (λ c. search needs) (λ c. search needs) (λ c. simp length-set (omega arith))  -- mid[i + 2] =
-    (λ c. search needs) (λ c. search needs) (λ c. simp length-set (omega arith))  -- mid[i + 3] =
-    (λ c. search needs) (λ c. search needs) (λ c. simp length-set (omega arith))  -- mid[i + 4] =
-    (λ c. search needs) (λ c. search needs) (λ c. simp length-set (omega arith))  -- mid[i + 5] =
-    (λ c. search needs) (λ c. search needs) (λ c. simp length-set (omega arith))  -- mid[i + 6] =
-    (λ c. search needs) (λ c. search needs) (λ c. simp length-set (omega arith))  -- mid[i + 7] =
+    (λ c. search rules) (λ c κs. fetched c.before.before _ (omega arith))  -- column i + 1
+    (λ c. search rules) (λ c κs. fetched c.before.before.before _ (omega arith))  -- column i + 2
+    (λ c. search rules) (λ c κs. fetched c.before.before.before.before _ (omega arith))  -- column i + 3
+    (λ c. search rules) (λ c κs. fetched c.before.before.before.before.before _ (omega arith))  -- column i + 4
+    (λ c. search rules) (λ c κs. fetched c.before.before.before.before.before.before _ (omega arith))  -- column i + 5
+    (λ c. search rules) (λ c κs. fetched c.before.before.before.before.before.before.before _ (omega arith))  -- column i + 6
+    (λ c. search rules) (λ c κs. fetched c.before.before.before.before.before.before.before.before _ (omega arith))  -- column i + 7
+    (λ c. search rules) (λ c. search rules)  -- mid[i] =
+    (λ c. search rules) (λ c. search rules) (λ c. simp length-set (omega arith))  -- mid[i + 1] =
+    (λ c. search rules) (λ c. search rules) (λ c. simp length-set (omega arith))  -- mid[i + 2] =
+    (λ c. search rules) (λ c. search rules) (λ c. simp length-set (omega arith))  -- mid[i + 3] =
+    (λ c. search rules) (λ c. search rules) (λ c. simp length-set (omega arith))  -- mid[i + 4] =
+    (λ c. search rules) (λ c. search rules) (λ c. simp length-set (omega arith))  -- mid[i + 5] =
+    (λ c. search rules) (λ c. search rules) (λ c. simp length-set (omega arith))  -- mid[i + 6] =
+    (λ c. search rules) (λ c. search rules) (λ c. simp length-set (omega arith))  -- mid[i + 7] =
     (λ c. simp length-set refl)  -- same-length
     returns)

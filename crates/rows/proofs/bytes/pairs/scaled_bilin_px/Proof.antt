@@ -1,4 +1,4 @@
-use Rattle.rows.proofs.Usual.{◌∙◌, ap₂, ℕ, arith, needs, pos, get_or, w16, SFits, back}
+use Rattle.rows.proofs.Usual.{◌∙◌, ap₂, ℕ, arith, rules, pos, get_or, w16, SFits, back}
 use Rattle.rows.specs.Bilinear.{bilin}
 use Rattle.rows.proofs.Laws.Filters.Scaled.{byte_mid}
 use Rattle.rows.proofs.bytes.pairs.scaled_bilin_px.Tie as tie
@@ -11,7 +11,7 @@ returns c =
     back f ∙ byte_mid (e.0 ∙ ap₂ (λ (x y : ℕ). bilin (pos x) (pos y) n) p.pair-at.ensures.0 p.pair-at.ensures.1) e.1
 
 pub scaled-bilin-px-spec : {M : Type 1} → Rattle.rows.proofs.bytes.pairs.scaled_bilin_px.Statement.statement M
-scaled-bilin-px-spec = tie.close (tie.spec (λ c. search needs) (λ c. omega arith)  -- pixels[i] as usize
+scaled-bilin-px-spec = tie.close (tie.spec (λ c. search rules) (λ c. omega arith)  -- pixels[i] as usize
     (λ c κs. omega arith)  -- pair-at
     (λ c. omega arith) (λ c. omega arith)  -- fractions[i] as u32
     (λ c κs. omega arith)  -- bilin-bytes

@@ -1,4 +1,4 @@
-use Rattle.rows.proofs.Usual.{◌∙◌, arith, needs, length, span, span-length}
+use Rattle.rows.proofs.Usual.{◌∙◌, arith, rules, length, span, span-length}
 use Rattle.rows.specs.inner.Scaled.{PairsFetched}
 use Rattle.rows.proofs.Laws.Filters.Scaled.{part-row}
 use Rattle.rows.proofs.bytes.pairs.scaled_bilin_row.Tie as tie
@@ -25,5 +25,5 @@ pub scaled-bilin-row-spec : {M : Type 1} → Rattle.rows.proofs.bytes.pairs.scal
 scaled-bilin-row-spec = tie.close (tie.spec (λ c. omega arith) (λ c. omega arith) (λ c. omega arith)  -- &src[o..]
     (λ c κs. let s = c.before.before.before.before in (omega arith, held s))  -- fewer than eight
     (λ c κs. let s = c.before.before.before.before in (omega arith, omega arith, held s))  -- eight or more
-    (λ c. search needs) returns
-    (λ c. search needs) returns-2)
+    (λ c. search rules) returns
+    (λ c. search rules) returns-2)

@@ -1,5 +1,5 @@
 -- Made from crates/rows/proofs/words/search/abs_diff/Proof.antt by tools/sets: change that.
-use Rattle.rows.proofs.Usual.{◌≡◌, ◌<◌, arith, needs, pos, ℤ, ◌-ℤ◌, nat_abs, w32, SFits, to_z, back, backn, fit_abs, one-part, sub_parts}
+use Rattle.rows.proofs.Usual.{◌≡◌, ◌<◌, arith, rules, pos, ℤ, ◌-ℤ◌, nat_abs, w32, SFits, to_z, back, backn, fit_abs, one-part, sub_parts}
 use Rattle.rows.proofs.Laws.Numbers.Signed.{abs_parts, turned, above}
 use Rattle.rows.proofs.bytes.search.abs_diff.Tie as tie
 
@@ -33,8 +33,8 @@ returns : tie.Need-returns
 returns c = let s = c.before in simp (a-is s, b-is s, back (fits s), under c, back (size s)) (omega (arith, within s))
 
 pub abs-diff-spec : {M : Type 1} → Rattle.rows.proofs.bytes.search.abs_diff.Statement.statement M
-abs-diff-spec = tie.close (tie.spec (λ c. search needs)  -- cast-d
-    (λ c. search needs)  -- cast-d-2
+abs-diff-spec = tie.close (tie.spec (λ c. search rules)  -- cast-d
+    (λ c. search rules)  -- cast-d-2
     (λ c. simp (a-is c, b-is c) (fits c))  -- sub-d
     (λ c. let s = c.before in simp (a-is s, b-is s, back (fits s), under c) (size s))  -- sub-result
     (λ c. let s = c.before in simp (a-is s, b-is s, back (fits s), under c, back (size s)) (omega (arith, within s)))  -- cast-result

@@ -1,5 +1,5 @@
 -- Made from crates/rows/proofs/words/subpel/tap_row/Proof.antt by tools/sets: change that.
-use Rattle.rows.proofs.Usual.{sym, subst, arith, needs, T}
+use Rattle.rows.proofs.Usual.{sym, subst, arith, rules, T}
 use Rattle.rows.proofs.Laws.Filters.Near.{row_copied}
 use Rattle.rows.proofs.bytes.subpel.tap_row.Tie as tie
 
@@ -24,13 +24,13 @@ returns-2 c =
     row_copied 0 _ (t.before.by-eight.ensures t.if3.true) c.before.before.take-eight.ensures e.near-eight.ensures
 
 pub tap-row-spec : {M : Type 1} → Rattle.rows.proofs.bytes.subpel.tap_row.Statement.statement M
-tap-row-spec = tie.close (tie.spec (λ c κs. search needs)  -- few(..)
+tap-row-spec = tie.close (tie.spec (λ c κs. search rules)  -- few(..)
     (λ c κs. (omega arith, omega arith, λ e. absurd (subst T (sym e) tt), omega arith))  -- tap_by(..), of few
-    (λ c κs. search needs) near-eight-requires  -- by_eight(..)
+    (λ c κs. search rules) near-eight-requires  -- by_eight(..)
     (λ c κs. let t = c.before.before.before in t.before.by-eight.ensures t.if3.true)  -- take_eight(..)
     tap-by-requires
     (λ c κs. (omega arith, omega arith, λ e. absurd (subst T (sym e) tt), omega arith))  -- tap_by(..), far
-    (λ c. search needs) (λ c. search needs)  -- returns, of few
-    (λ c. search needs) returns-2  -- of eight
-    (λ c. search needs) (λ c. search needs)  -- near
-    (λ c. search needs) (λ c. search needs))  -- far
+    (λ c. search rules) (λ c. search rules)  -- returns, of few
+    (λ c. search rules) returns-2  -- of eight
+    (λ c. search rules) (λ c. search rules)  -- near
+    (λ c. search rules) (λ c. search rules))  -- far

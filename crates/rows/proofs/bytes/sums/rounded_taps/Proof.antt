@@ -1,4 +1,4 @@
-use Rattle.rows.proofs.Usual.{arith, needs, w16, SFits, back, reading, back16}
+use Rattle.rows.proofs.Usual.{arith, rules, w16, SFits, back, reading, back16}
 use Rattle.rows.specs.Subpel.{tapped}
 use Rattle.rows.proofs.Laws.Filters.Near.{rounded_is}
 use Rattle.rows.proofs.bytes.sums.rounded_taps.Tie as tie
@@ -20,7 +20,7 @@ pub rounded-taps-spec : {M : Type 1} → Rattle.rows.proofs.bytes.sums.rounded_t
 rounded-taps-spec = tie.close (tie.spec (λ c κs. (omega arith, (c.before.before.requires.2 c.if1.true).0))  -- near-sum-requires
     near-rounded-requires
     (λ c. search reading)  -- cast-result
-    (λ c κs. search needs)  -- taps-requires
-    (λ c κs. search needs)  -- rounded-requires
+    (λ c κs. search rules)  -- taps-requires
+    (λ c κs. search rules)  -- rounded-requires
     returns
     (λ c. rounded_is _ _ _ _ (omega arith) (omega arith) c.before.taps.ensures.0 c.rounded.ensures))  -- returns-2

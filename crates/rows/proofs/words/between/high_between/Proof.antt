@@ -1,4 +1,4 @@
-use Rattle.rows.proofs.Usual.{◌+◌, arith, needs}
+use Rattle.rows.proofs.Usual.{◌+◌, arith, rules}
 use Rattle.rows.proofs.words.between.high_between.Tie as tie
 
 requires : tie.Need-bilin-bytes-requires
@@ -7,8 +7,8 @@ requires c κs =
     omega (arith, x a.p, x (a.p + a.step))
 
 pub high-between-spec : {M : Type 1} → Rattle.rows.proofs.words.between.high_between.Statement.statement M
-high-between-spec = tie.close (tie.spec (λ c. search needs) (λ c. search needs)  -- src[p]
-    (λ c. search needs)  -- p + step
-    (λ c. search needs) (λ c. search needs)  -- src[p + step]
+high-between-spec = tie.close (tie.spec (λ c. search rules) (λ c. search rules)  -- src[p]
+    (λ c. search rules)  -- p + step
+    (λ c. search rules) (λ c. search rules)  -- src[p + step]
     requires
-    (λ c. search needs))  -- returns
+    (λ c. search rules))  -- returns

@@ -1,4 +1,4 @@
-use Rattle.rows.proofs.Usual.{arith, needs, w16, SFits, back, backn}
+use Rattle.rows.proofs.Usual.{arith, rules, w16, SFits, back, backn}
 use Rattle.rows.specs.Bilinear.{R}
 use Rattle.rows.proofs.Laws.Filters.Bilinear.{sum_joined, half-small}
 use Rattle.rows.proofs.words.between.prep_between.Tie as tie
@@ -20,8 +20,8 @@ returns c =
     rw (back fv, e) v
 
 pub prep-between-spec : {M : Type 1} → Rattle.rows.proofs.words.between.prep_between.Statement.statement M
-prep-between-spec = tie.close (tie.spec (λ c κs. search needs)  -- high-between-requires
-    (λ c κs. search needs)  -- low-between-requires
+prep-between-spec = tie.close (tie.spec (λ c κs. search rules)  -- high-between-requires
+    (λ c κs. search rules)  -- low-between-requires
     (λ c. omega arith)  -- high as i16
     (λ c. omega arith)  -- low as i16
     kept-requires

@@ -1,4 +1,4 @@
-use Rattle.rows.proofs.Usual.{arith, needs}
+use Rattle.rows.proofs.Usual.{arith, rules}
 use Rattle.rows.proofs.Laws.Filters.Bilinear.{sum_joined}
 use Rattle.rows.proofs.words.between.put_between.Tie as tie
 
@@ -8,7 +8,7 @@ returns c =
     rw (sum_joined a.src.now a.p a.step a.f (omega arith) h.high-between.ensures.0 l.low-between.ensures.0) c.bilin-joined.ensures
 
 pub put-between-spec : {M : Type 1} → Rattle.rows.proofs.words.between.put_between.Statement.statement M
-put-between-spec = tie.close (tie.spec (λ c κs. search needs)  -- high-between-requires
-    (λ c κs. search needs)  -- low-between-requires
-    (λ c κs. search needs)  -- bilin-joined-requires
+put-between-spec = tie.close (tie.spec (λ c κs. search rules)  -- high-between-requires
+    (λ c κs. search rules)  -- low-between-requires
+    (λ c κs. search rules)  -- bilin-joined-requires
     returns)

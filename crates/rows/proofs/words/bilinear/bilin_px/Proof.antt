@@ -1,4 +1,4 @@
-use Rattle.rows.proofs.Usual.{arith, needs, w32, SFits, back}
+use Rattle.rows.proofs.Usual.{arith, rules, w32, SFits, back}
 use Rattle.rows.proofs.words.bilinear.bilin_px.Tie as tie
 
 returns : tie.Need-returns
@@ -8,6 +8,6 @@ returns c =
     rw (c.clip.ensures, back fb, b.bilin-rnd.ensures.0, back b.before.ranges.s)
 
 pub bilin-px-spec : {M : Type 1} → Rattle.rows.proofs.words.bilinear.bilin_px.Statement.statement M
-bilin-px-spec = tie.close (tie.spec (λ c κs. search needs)  -- bilin-rnd-requires
-    (λ c κs. search needs)  -- clip-requires
+bilin-px-spec = tie.close (tie.spec (λ c κs. search rules)  -- bilin-rnd-requires
+    (λ c κs. search rules)  -- clip-requires
     returns)

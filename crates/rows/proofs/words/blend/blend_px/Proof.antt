@@ -1,4 +1,4 @@
-use Rattle.rows.proofs.Usual.{◌-◌, ◌*◌, ◌≤◌, ◌<◌, arith, needs}
+use Rattle.rows.proofs.Usual.{◌-◌, ◌*◌, ◌≤◌, ◌<◌, arith, rules}
 use Rattle.rows.specs.Combine.{blend}
 use Rattle.rows.specs.inner.words.Pixel.{pixels}
 use Rattle.rows.proofs.Laws.Pixels.Pixel.{part-le, blend-lt}
@@ -15,10 +15,10 @@ cast-result c =
 
 returns : tie.Need-returns
 unfolding blend
-returns c = search needs
+returns c = search rules
 
 pub blend-px-spec : {M : Type 1} → Rattle.rows.proofs.words.blend.blend_px.Statement.statement M
-blend-px-spec = tie.close (tie.spec (λ c. search needs)  -- sub-result
+blend-px-spec = tie.close (tie.spec (λ c. search rules)  -- sub-result
     (λ c. omega (arith, parts c))  -- mul-result
     (λ c. omega (arith, parts c))  -- mul-result-2
     (λ c. omega (arith, parts c))  -- add-result

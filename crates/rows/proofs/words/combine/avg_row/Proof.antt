@@ -1,4 +1,4 @@
-use Rattle.rows.proofs.Usual.{◌∙◌, ◌-◌, arith, needs, length, Upto, upto_more}
+use Rattle.rows.proofs.Usual.{◌∙◌, ◌-◌, arith, rules, length, Upto, upto_more}
 use Rattle.rows.specs.Combine.{avg, both}
 use Rattle.rows.proofs.Laws.Pixels.Pixel.{read-both}
 use Rattle.rows.proofs.Laws.Blocks.Row.{row-loop}
@@ -21,7 +21,7 @@ avg-row-spec = tie.close (tie.spec invariant-loop
     (λ c. search row-loop)  -- loop-holds
     (λ c. search row-loop) (λ c. search row-loop) (λ c. search row-loop)  -- tmp1[q + i]
     (λ c. search row-loop) (λ c. search row-loop) (λ c. search row-loop)  -- tmp2[q + i]
-    (λ c κs. search needs)  -- avg-px-requires
+    (λ c κs. search rules)  -- avg-px-requires
     (λ c. search row-loop)  -- words: 2 * i
     (λ c. search row-loop)  -- dst[i] =
     (λ c. search row-loop) (λ c. search row-loop) loop-again  -- i += 1

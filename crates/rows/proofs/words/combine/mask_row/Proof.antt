@@ -1,4 +1,4 @@
-use Rattle.rows.proofs.Usual.{◌∙◌, ◌-◌, ◌+◌, arith, needs, length, get_or, Upto, upto_all, upto_none, upto_more}
+use Rattle.rows.proofs.Usual.{◌∙◌, ◌-◌, ◌+◌, arith, rules, length, get_or, Upto, upto_all, upto_none, upto_more}
 use Rattle.rows.specs.Combine.{masked, both}
 use Rattle.rows.proofs.Laws.Pixels.Pixel.{read-both}
 use Rattle.rows.proofs.words.combine.mask_row.Tie as tie
@@ -21,7 +21,7 @@ mask-row-spec = tie.close (tie.spec invariant-loop
     (λ c. omega arith) (λ c. omega arith) (λ c. omega arith)  -- tmp1[q + i]
     (λ c. omega arith) (λ c. omega arith) (λ c. omega arith)  -- tmp2[q + i]
     (λ c. omega arith) (λ c. omega arith)  -- mask[o + i]
-    (λ c κs. search needs)  -- mask-px-requires
+    (λ c κs. search rules)  -- mask-px-requires
     (λ c. omega arith)  -- words: 2 * i
     (λ c. omega arith)  -- dst[i] =
     (λ c. omega arith) (λ c. omega arith) loop-again  -- i += 1

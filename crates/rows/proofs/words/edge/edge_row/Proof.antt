@@ -1,4 +1,4 @@
-use Rattle.rows.proofs.Usual.{sym, ℕ, arith, needs, length-take-le, w64, back, backn}
+use Rattle.rows.proofs.Usual.{sym, ℕ, arith, rules, length-take-le, w64, back, backn}
 use Rattle.rows.proofs.Laws.Pixels.Edge.{Parts, parts, middle_in, middle-held, last_in, edge_row}
 use Rattle.rows.proofs.words.edge.edge_row.Tie as tie
 
@@ -31,15 +31,15 @@ returns c =
     edge_row (know (at_fill f)) f.fill-row.ensures k.copy-row.ensures g.fill-row2.ensures
 
 pub edge-row-spec : {M : Type 1} → Rattle.rows.proofs.words.edge.edge_row.Statement.statement M
-edge-row-spec = tie.close (tie.spec (λ c κs. search needs)  -- left-of-requires
-    (λ c. search needs)  -- iw as i64
+edge-row-spec = tie.close (tie.spec (λ c κs. search rules)  -- left-of-requires
+    (λ c. search rules)  -- iw as i64
     (λ c κs. let s = c.before.before.before in rw (back s.ranges.x, backn w64 s.args.iw (omega arith)) (omega arith))  -- left-of-requires-2
-    (λ c κs. search needs)  -- left-of-requires-3
+    (λ c κs. search rules)  -- left-of-requires-3
     (λ c. omega (arith, know c))  -- dst[..a]
     (λ c. let p = c.before in sym (length-take-le (a p) (begin p).args.dst.now (omega (arith, know p))))  -- its length
-    (λ c. search needs)  -- words: 2 * o
-    (λ c. search needs)  -- src[o]
-    (λ c κs. search needs)  -- fill-row-requires
+    (λ c. search rules)  -- words: 2 * o
+    (λ c. search rules)  -- src[o]
+    (λ c κs. search rules)  -- fill-row-requires
     (λ c. omega (arith, know (at_fill c.before.before)))  -- words: 2 * a
     (λ c. (know (at_fill c.before.before)).ordered)  -- e - a
     (λ c. (know (at_fill c.before.before)).ordered)  -- dst[a..
@@ -49,10 +49,10 @@ edge-row-spec = tie.close (tie.spec (λ c κs. search needs)  -- left-of-require
     (λ c. omega (arith, know (at_fill (at_copy c.before.before))))  -- words: 2 * e
     (λ c. let k = c.before.before in let f = at_copy k in last_in (know (at_fill f)) f.fill-row.ensures k.copy-row.ensures)  -- n - e
     (λ c. let k = c.before.before in let f = at_copy k in last_in (know (at_fill f)) f.fill-row.ensures k.copy-row.ensures)  -- dst[e..
-    (λ c. search needs)  -- ..]
-    (λ c. search needs)  -- o + iw
-    (λ c. search needs)  -- - 1
-    (λ c. search needs)  -- words: 2 * (o + iw - 1)
-    (λ c. search needs)  -- src[o + iw - 1]
-    (λ c κs. search needs)  -- fill-row-requires-2
-    (λ c. search needs) returns)
+    (λ c. search rules)  -- ..]
+    (λ c. search rules)  -- o + iw
+    (λ c. search rules)  -- - 1
+    (λ c. search rules)  -- words: 2 * (o + iw - 1)
+    (λ c. search rules)  -- src[o + iw - 1]
+    (λ c κs. search rules)  -- fill-row-requires-2
+    (λ c. search rules) returns)

@@ -1,4 +1,4 @@
-use Rattle.rows.proofs.Usual.{◌+◌, ℕ, arith, needs, pos, get_or, w32, w16, SFits, to_z, back, rd}
+use Rattle.rows.proofs.Usual.{◌+◌, ℕ, arith, rules, pos, get_or, w32, w16, SFits, to_z, back, rd}
 use Rattle.rows.specs.Bilinear.{R}
 use Rattle.rows.proofs.Laws.Numbers.Low.{low16_again}
 use Rattle.rows.proofs.Laws.Filters.Bilinear.{Widened, pixel_widened, between_is, half-small}
@@ -27,12 +27,12 @@ returns c =
 
 pub scaled-bilin-px-spec : {M : Type 1} → Rattle.rows.proofs.words.pairs.scaled_bilin_px.Statement.statement M
 scaled-bilin-px-spec = tie.close (tie.spec
-    (λ c. search needs)  -- words: 2 * c
-    (λ c. search needs)  -- src[c]
+    (λ c. search rules)  -- words: 2 * c
+    (λ c. search rules)  -- src[c]
     (λ c. omega (arith, c.shared-slice-known2.given c.before.before.args.c))  -- as i32
-    (λ c. search needs)  -- c + 1
-    (λ c. search needs)  -- words: 2 * (c + 1)
-    (λ c. search needs)  -- src[c + 1]
+    (λ c. search rules)  -- c + 1
+    (λ c. search rules)  -- words: 2 * (c + 1)
+    (λ c. search rules)  -- src[c + 1]
     (λ c. omega (arith, c.shared-slice-known3.given (c.before.before.before.args.c + 1)))  -- as i32
     bilin-sum-requires
     kept-requires

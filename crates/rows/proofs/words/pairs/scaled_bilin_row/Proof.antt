@@ -1,4 +1,4 @@
-use Rattle.rows.proofs.Usual.{◌≡◌, ◌∙◌, arith, needs, length, span, span-length}
+use Rattle.rows.proofs.Usual.{◌≡◌, ◌∙◌, arith, rules, length, span, span-length}
 use Rattle.rows.specs.inner.Scaled.{PairsFetched}
 use Rattle.rows.proofs.Laws.Filters.Scaled.{part-row}
 use Rattle.rows.proofs.words.pairs.scaled_bilin_row.Tie as tie
@@ -28,5 +28,5 @@ scaled-bilin-row-spec = tie.close (tie.spec
     (λ c. omega arith) (λ c. omega arith) (λ c. omega arith)  -- &src[o..]
     (λ c κs. let s = c.before.before.before.before in (omega arith, held s, omega arith, omega arith))  -- scaled-bilin-by-requires
     (λ c κs. let s = c.before.before.before.before in (omega arith, held s, omega arith, omega arith))  -- scaled-bilin-by-requires-2
-    (λ c. search needs) returns  -- B is 4
-    (λ c. search needs) returns-2)  -- B is 2
+    (λ c. search rules) returns  -- B is 4
+    (λ c. search rules) returns-2)  -- B is 2

@@ -1,4 +1,4 @@
-use Rattle.rows.proofs.Usual.{◌∙◌, arith, needs, pos, w16, SFits, back, fit}
+use Rattle.rows.proofs.Usual.{◌∙◌, arith, rules, pos, w16, SFits, back, fit}
 use Rattle.rows.proofs.Laws.Filters.Near.{kept_is}
 use Rattle.rows.proofs.Laws.Filters.Scaled.{family-lent, mid_by, mid-whole}
 use Rattle.rows.proofs.words.scaled.scaled_px.Tie as tie
@@ -18,15 +18,15 @@ returns-2 c =
     ∙ mid_by _ _ _ a.src.now a.o a.p (omega arith) (omega arith)
 
 pub scaled-px-spec : {M : Type 1} → Rattle.rows.proofs.words.scaled.scaled_px.Statement.statement M
-scaled-px-spec = tie.close (tie.spec (λ c. search needs)  -- o + p / 1024
-    (λ c. search needs)  -- words: 2 * c
-    (λ c. search needs)  -- src[c]
-    (λ c κs. search needs)  -- prep-px-requires
+scaled-px-spec = tie.close (tie.spec (λ c. search rules)  -- o + p / 1024
+    (λ c. search rules)  -- words: 2 * c
+    (λ c. search rules)  -- src[c]
+    (λ c κs. search rules)  -- prep-px-requires
     returns
-    (λ c. search needs) (λ c. search needs) (λ c. search needs) (λ c. search needs)  -- 8 * (15 * family + (f - 1))
-    (λ c κs. search needs) (λ c. search needs)  -- 6 - bits_of(bits)
-    (λ c. search needs)  -- c - 3
-    (λ c. search needs) (λ c. search needs) (λ c. search needs) (λ c. search needs)  -- &table[q..q + 8]
-    (λ c κs. search needs)  -- taps-requires
-    (λ c κs. search needs) (λ c κs. search needs)  -- kept(.., half_power(n), ..)
+    (λ c. search rules) (λ c. search rules) (λ c. search rules) (λ c. search rules)  -- 8 * (15 * family + (f - 1))
+    (λ c κs. search rules) (λ c. search rules)  -- 6 - bits_of(bits)
+    (λ c. search rules)  -- c - 3
+    (λ c. search rules) (λ c. search rules) (λ c. search rules) (λ c. search rules)  -- &table[q..q + 8]
+    (λ c κs. search rules)  -- taps-requires
+    (λ c κs. search rules) (λ c κs. search rules)  -- kept(.., half_power(n), ..)
     returns-2)

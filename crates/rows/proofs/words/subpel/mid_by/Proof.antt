@@ -1,4 +1,4 @@
-use Rattle.rows.proofs.Usual.{◌-◌, ◌+◌, ◌*◌, arith, needs, length, w32, SFits, at, clip, Upto, upto_all, upto_none, upto_more, back}
+use Rattle.rows.proofs.Usual.{◌-◌, ◌+◌, ◌*◌, arith, rules, length, w32, SFits, at, clip, Upto, upto_all, upto_none, upto_more, back}
 use Rattle.rows.specs.Subpel.{tapped}
 use Rattle.rows.proofs.words.subpel.mid_by.Tie as tie
 
@@ -21,7 +21,7 @@ pub mid-by-spec : {M : Type 1} → Rattle.rows.proofs.words.subpel.mid_by.Statem
 mid-by-spec = tie.close (tie.spec invariant-loop decreases-loop (λ c. upto_none _ _ _)  -- while i < w
     (λ c. omega arith)  -- o + i
     (λ c κs. (omega arith, c.before.before.before.requires.2))  -- sum_i16(..)
-    (λ c κs. search needs)  -- rounded(..)
+    (λ c κs. search rules)  -- rounded(..)
     (λ c κs. omega arith)  -- clip(..)
     (λ c. omega arith)  -- words: 2 * i
     (λ c. omega arith)  -- dst[i] =

@@ -1,4 +1,4 @@
-use Rattle.rows.proofs.Usual.{arith, needs}
+use Rattle.rows.proofs.Usual.{arith, rules}
 use Rattle.rows.proofs.Laws.Filters.Near.{parts_fit, near_kept_is, kept_is}
 use Rattle.rows.proofs.words.sums.tap_mid_px.Tie as tie
 
@@ -22,6 +22,6 @@ pub tap-mid-px-spec : {M : Type 1} → Rattle.rows.proofs.words.sums.tap_mid_px.
 tap-mid-px-spec = tie.close (tie.spec (λ c κs. (omega arith, (c.before.before.requires.2 c.if1.true).0))  -- the sum of high bytes
     (λ c κs. (omega arith, (c.before.before.before.requires.2 c.before.if1.true).0))  -- the sum of low bytes
     near-kept-requires
-    (λ c κs. search needs) (λ c κs. search needs)  -- kept(far_taps(..), ..)
+    (λ c κs. search rules) (λ c κs. search rules)  -- kept(far_taps(..), ..)
     returns
     returns-2)

@@ -1,4 +1,4 @@
-use Rattle.rows.proofs.Usual.{arith, needs, pos, ◌-ℤ◌, w32, w16, SFits, back, backn, reading}
+use Rattle.rows.proofs.Usual.{arith, rules, pos, ◌-ℤ◌, w32, w16, SFits, back, backn, reading}
 use Rattle.rows.proofs.Laws.Numbers.Signed.{wide16}
 use Rattle.rows.proofs.Laws.Filters.Centred.{centred_fits}
 use Rattle.rows.proofs.words.taps.tap_centred.Tie as tie
@@ -14,7 +14,7 @@ returns c =
     (rw (back s.ranges.acc, back s.ranges.f, backn w32 s.args.x (omega arith), back (wide16 (short s)), back (short s)) at c.tap-i16.ensures)
 
 pub tap-centred-spec : {M : Type 1} → Rattle.rows.proofs.words.taps.tap_centred.Statement.statement M
-tap-centred-spec = tie.close (tie.spec (λ c. search needs)  -- x as i32
+tap-centred-spec = tie.close (tie.spec (λ c. search rules)  -- x as i32
     (λ c. rw (backn w32 c.args.x (omega arith)) (wide16 (short c)))  -- - 32768
     (λ c. rw (backn w32 c.args.x (omega arith), back (wide16 (short c))) (short c))  -- as i16
     (λ c κs. search reading)  -- tap_i16(..)

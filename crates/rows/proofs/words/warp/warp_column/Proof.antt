@@ -1,4 +1,4 @@
-use Rattle.rows.proofs.Usual.{◌-◌, ◌+◌, ◌*◌, ◌≤◌, arith, needs, pos, length, w32, w16, SFits, px, low16, Upto, upto_all, back}
+use Rattle.rows.proofs.Usual.{◌-◌, ◌+◌, ◌*◌, ◌≤◌, arith, rules, pos, length, w32, w16, SFits, px, low16, Upto, upto_all, back}
 use Rattle.rows.specs.Warp.{warped}
 use Rattle.rows.proofs.Laws.Filters.Loop.{upto_kept}
 use Rattle.rows.proofs.Laws.Filters.Warp.{tap_row, upto_start, length-filter, warp_kept_is}
@@ -39,7 +39,7 @@ warp-column-spec = tie.close (tie.spec invariant-loop decreases-loop (λ c. upto
     (λ c. omega arith) filter-for-requires  -- filter_for(.., r as u32, c)
     (λ c. omega (arith, place c.before)) (λ c. omega (arith, place c.before))  -- o + r * s
     (λ c κs. omega (arith, place c.before, length-filter _ _ _ c.filter-for.ensures))  -- taps(..)
-    (λ c κs. search needs)  -- warp_kept(..)
+    (λ c κs. search rules)  -- warp_kept(..)
     (λ c. omega arith) (λ c. omega arith)  -- mid[r] =
     (λ c. omega arith) (λ c. omega arith) loop-again  -- r += 1
     (λ c. omega arith) (λ c. upto_all c.before.loop.invariant (omega arith)))

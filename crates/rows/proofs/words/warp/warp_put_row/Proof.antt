@@ -1,4 +1,4 @@
-use Rattle.rows.proofs.Usual.{◌-◌, ◌+◌, ◌*◌, arith, needs, w32, w16, SFits, at, clip, low16, Upto, upto_all, upto_more, back, reading, back16}
+use Rattle.rows.proofs.Usual.{◌-◌, ◌+◌, ◌*◌, arith, rules, w32, w16, SFits, at, clip, low16, Upto, upto_all, upto_more, back, reading, back16}
 use Rattle.rows.specs.Warp.{warped}
 use Rattle.rows.proofs.Laws.Filters.Warp.{upto_start, length-filter, warp_kept_is}
 use Rattle.rows.proofs.words.warp.warp_put_row.Tie as tie
@@ -34,7 +34,7 @@ warp-put-row-spec = tie.close (tie.spec invariant-loop decreases-loop (λ c. upt
     (λ c. omega arith) filter-for-requires  -- filter_for(.., c as u32)
     (λ c. omega arith) (λ c. omega arith)  -- o + c * 15
     (λ c κs. omega (arith, length-filter _ _ _ c.filter-for.ensures))  -- taps_i16(..)
-    (λ c κs. search needs)  -- warp_kept(..)
+    (λ c κs. search rules)  -- warp_kept(..)
     (λ c. search reading) (λ c κs. omega arith)  -- clip(.. as i32, max)
     (λ c. omega arith)  -- words: 2 * c
     (λ c. omega arith)  -- dst[c] =

@@ -1,5 +1,5 @@
 -- Made from crates/blocks/proofs/words/order/kinds/prep_kind/Proof.antt by tools/sets: change that.
-use Rattle.blocks.proofs.Usual.{◌∙◌, ap, ◌*◌, ◌+◌, arith, needs, fill, before}
+use Rattle.blocks.proofs.Usual.{◌∙◌, ap, ◌*◌, ◌+◌, arith, rules, fill, before}
 use Rattle.rows.specs.Copy.{prep}
 use Rattle.blocks.specs.Order.{prep_rule}
 use Rattle.blocks.proofs.Laws.Loops.Stands.{around-down}
@@ -69,8 +69,8 @@ warp-returns c =
 
 pub prep-kind-spec : {M : Type 1} → Rattle.blocks.proofs.bytes.order.kinds.prep_kind.Statement.statement M
 prep-kind-spec = tie.close (tie.spec (λ c. omega (arith, c.before.requires.0.src.most)) (λ c. omega (arith, c.before.requires.0.src.most))  -- first
-    (λ c. search needs) (λ c κs. search needs) copy-requires (λ c. search needs) (λ c κs. search needs) subpel-requires (λ c. search needs)  -- enum_told, top-down, enum-known-k
-    (λ c κs. search needs) (λ c κs. search needs) (λ c κs. search needs) bilin-requires (λ c. search needs)  -- above, top-down, enum-known-k
-    (λ c κs. search needs) warp-requires  -- top-down
-    (λ c. search needs) copy-returns (λ c. search needs) subpel-returns (λ c. search needs) bilin-returns (λ c. search needs)  -- same-length
+    (λ c. search rules) (λ c κs. search rules) copy-requires (λ c. search rules) (λ c κs. search rules) subpel-requires (λ c. search rules)  -- enum_told, top-down, enum-known-k
+    (λ c κs. search rules) (λ c κs. search rules) (λ c κs. search rules) bilin-requires (λ c. search rules)  -- above, top-down, enum-known-k
+    (λ c κs. search rules) warp-requires  -- top-down
+    (λ c. search rules) copy-returns (λ c. search rules) subpel-returns (λ c. search rules) bilin-returns (λ c. search rules)  -- same-length
     warp-returns)

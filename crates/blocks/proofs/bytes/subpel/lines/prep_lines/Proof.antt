@@ -1,5 +1,5 @@
 -- Made from crates/blocks/proofs/words/subpel/lines/prep_lines/Proof.antt by tools/sets: change that.
-use Rattle.blocks.proofs.Usual.{true, ◌≡◌, ◌∙◌, sym, ◌-◌, arith, needs, leb-true, pos, length, Filled, filled_none, block-loop, filled_more}
+use Rattle.blocks.proofs.Usual.{true, ◌≡◌, ◌∙◌, sym, ◌-◌, arith, rules, leb-true, pos, length, Filled, filled_none, block-loop, filled_more}
 use Rattle.rows.specs.inner.Subpel.{Near}
 use Rattle.blocks.specs.inner.Subpel.{prep_line, along}
 use Rattle.blocks.proofs.Laws.Subpel.Lines.{Turn, turn}
@@ -39,7 +39,7 @@ prep-line-row-requires c κs =
 
 pub prep-lines-spec : {M : Type 1} → Rattle.blocks.proofs.bytes.subpel.lines.prep_lines.Statement.statement M
 prep-lines-spec = tie.close (tie.spec invariant-loop decreases-loop
-    (λ c κs. search needs)  -- is-near
+    (λ c κs. search rules)  -- is-near
     (λ c. omega (arith, c.before.before.before.before.before.before.requires))  -- p.bits - bits
     (λ c. filled_none (pos 0) _ _ _ _ _ (omega (arith, c.before.before.before.before.before.before.requires.0.dst)))  -- loop-holds
     (λ c κs. let r = (row c).src in (r.before, omega (arith, r)))  -- row_first
@@ -47,4 +47,4 @@ prep-lines-spec = tie.close (tie.spec invariant-loop decreases-loop
     (λ c. omega (arith, row c.before))  -- 2 * d
     (λ c. omega (arith, row c.before)) (λ c. omega (arith, row c.before)) (λ c. omega (arith, row c.before))  -- tmp[d..d + w]
     prep-line-row-requires
-    (λ c. search needs) (λ c. search needs) loop-again (λ c. search block-loop) (λ c. search block-loop))  -- y += 1, and the loop
+    (λ c. search rules) (λ c. search rules) loop-again (λ c. search block-loop) (λ c. search block-loop))  -- y += 1, and the loop

@@ -1,5 +1,5 @@
 -- Made from crates/blocks/proofs/words/subpel/lines/put_line_row/Proof.antt by tools/sets: change that.
-use Rattle.blocks.proofs.Usual.{◌∙◌, arith, needs, row_same}
+use Rattle.blocks.proofs.Usual.{◌∙◌, arith, rules, row_same}
 use Rattle.blocks.proofs.Laws.Subpel.Lines.{put-none, put_some}
 use Rattle.blocks.proofs.bytes.subpel.lines.put_line_row.Tie as tie
 
@@ -17,4 +17,4 @@ returns-2 c =
 pub put-line-row-spec : {M : Type 1} → Rattle.blocks.proofs.bytes.subpel.lines.put_line_row.Statement.statement M
 put-line-row-spec = tie.close (tie.spec (λ c κs. omega arith)  -- copy-row-requires
     (λ c κs. c.before.before.before.before.requires)  -- tap-row-requires
-    (λ c. search needs) returns (λ c. search needs) returns-2)  -- same-length
+    (λ c. search rules) returns (λ c. search rules) returns-2)  -- same-length

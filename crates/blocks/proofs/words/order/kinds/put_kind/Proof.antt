@@ -1,4 +1,4 @@
-use Rattle.blocks.proofs.Usual.{◌∙◌, ap, ◌*◌, ◌+◌, arith, needs, fill, put_rule, before}
+use Rattle.blocks.proofs.Usual.{◌∙◌, ap, ◌*◌, ◌+◌, arith, rules, fill, put_rule, before}
 use Rattle.rows.specs.Copy.{put}
 use Rattle.blocks.proofs.Laws.Loops.Stands.{around-down}
 use Rattle.blocks.proofs.Laws.Order.Kinds.{copy_ready, subpel_ready, bilin_ready, warp_ready}
@@ -67,8 +67,8 @@ warp-returns c =
 pub put-kind-spec : {M : Type 1} → Rattle.blocks.proofs.words.order.kinds.put_kind.Statement.statement M
 put-kind-spec = tie.close (tie.spec
     (λ c. omega (arith, c.before.before.requires.0.src.most)) (λ c. omega (arith, c.before.before.requires.0.src.most))  -- first
-    (λ c. search needs) (λ c κs. search needs) copy-requires (λ c. search needs) (λ c κs. search needs) subpel-requires (λ c. search needs)  -- enum_told, top-down, enum-known-k
-    (λ c κs. search needs) (λ c κs. search needs) (λ c κs. search needs) bilin-requires (λ c. search needs)  -- above, top-down, enum-known-k
-    (λ c κs. search needs) warp-requires  -- top-down
-    (λ c. search needs) copy-returns (λ c. search needs) subpel-returns (λ c. search needs) bilin-returns (λ c. search needs)  -- same-length
+    (λ c. search rules) (λ c κs. search rules) copy-requires (λ c. search rules) (λ c κs. search rules) subpel-requires (λ c. search rules)  -- enum_told, top-down, enum-known-k
+    (λ c κs. search rules) (λ c κs. search rules) (λ c κs. search rules) bilin-requires (λ c. search rules)  -- above, top-down, enum-known-k
+    (λ c κs. search rules) warp-requires  -- top-down
+    (λ c. search rules) copy-returns (λ c. search rules) subpel-returns (λ c. search rules) bilin-returns (λ c. search rules)  -- same-length
     warp-returns)

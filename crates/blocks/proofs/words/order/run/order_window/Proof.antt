@@ -1,4 +1,4 @@
-use Rattle.blocks.proofs.Usual.{◌≡◌, ◌∙◌, refl, sym, ℕ, needs, length, w64, Setting, Tables, area_of, lent_of, told_back}
+use Rattle.blocks.proofs.Usual.{◌≡◌, ◌∙◌, refl, sym, ℕ, rules, length, w64, Setting, Tables, area_of, lent_of, told_back}
 use Rattle.blocks.specs.Order.{asked_by, order_number}
 use Rattle.blocks.specs.inner.Order.{setting_of, lengths_of}
 use Rattle.blocks.proofs.Laws.Window.Ready.{Accepted, accepted_small, accepted_ready}
@@ -56,5 +56,5 @@ returns-2 c =
     }
 
 pub order-window-spec : {M : Type 1} → Rattle.blocks.proofs.words.order.run.order_window.Statement.statement M
-order-window-spec = tie.close (tie.spec (λ c κs. search needs) (λ c κs. search needs) returns (λ c κs. search needs)  -- check-order, no_part, kind-number
-    area-of-requires (λ c κs. search needs) fetch-requires (λ c. search needs) returns-2)  -- Mode-of, same-length
+order-window-spec = tie.close (tie.spec (λ c κs. search rules) (λ c κs. search rules) returns (λ c κs. search rules)  -- check-order, no_part, kind-number
+    area-of-requires (λ c κs. search rules) fetch-requires (λ c. search rules) returns-2)  -- Mode-of, same-length

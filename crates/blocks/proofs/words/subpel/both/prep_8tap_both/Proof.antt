@@ -1,4 +1,4 @@
-use Rattle.blocks.proofs.Usual.{true, ◌≡◌, ◌∙◌, refl, sym, ap, ◌*◌, ◌+◌, ◌-◌, arith, needs, leb-true, pos, length, half, minus16, low16, ℤ, splice, Filled, filled_none}
+use Rattle.blocks.proofs.Usual.{true, ◌≡◌, ◌∙◌, refl, sym, ap, ◌*◌, ◌+◌, ◌-◌, arith, rules, leb-true, pos, length, half, minus16, low16, ℤ, splice, Filled, filled_none}
 use Rattle.blocks.proofs.Usual.{filled_all}
 use Rattle.rows.specs.Subpel.{tapped}
 use Rattle.rows.specs.inner.Subpel.{Near}
@@ -89,8 +89,8 @@ loop-again-2 c = let m = c.before.before in grouped_last (omega (arith, c.if1.fa
 
 pub prep-8tap-both-spec : {M : Type 1} → Rattle.blocks.proofs.words.subpel.both.prep_8tap_both.Statement.statement M
 prep-8tap-both-spec = tie.close (tie.spec invariant-loop decreases-loop
-    (λ c κs. search needs) (λ c. refl) prep-lines-requires loop-holds  -- is-near, &mut mid
-    (λ c. omega (arith, c.before.loop.invariant.dst)) (λ c κs. search needs)  -- eight_at_most(h - y)
+    (λ c κs. search rules) (λ c. refl) prep-lines-requires loop-holds  -- is-near, &mut mid
+    (λ c. omega (arith, c.before.loop.invariant.dst)) (λ c κs. search rules)  -- eight_at_most(h - y)
     (λ c. omega (arith, (turn c).to, (entry c).requires.0))  -- y + 7
     (λ c κs. ((turn c).first.before, omega (arith, (turn c).first, (entry c).well-formed)))  -- plan-from
     (λ c. omega arith) (λ c. omega (arith, c.before.before.before.loop.invariant.long)) (λ c. omega (arith, c.before.before.before.loop.invariant.long))  -- mid[448..960]

@@ -1,4 +1,4 @@
-use Rattle.blocks.proofs.Usual.{◌*◌, ◌+◌, ◌-◌, arith, needs, length, at, clip, half, Filled, filled_none, block-loop}
+use Rattle.blocks.proofs.Usual.{◌*◌, ◌+◌, ◌-◌, arith, rules, length, at, clip, half, Filled, filled_none, block-loop}
 use Rattle.blocks.proofs.Usual.{filled_more}
 use Rattle.rows.specs.Subpel.{tapped}
 use Rattle.blocks.specs.inner.Source.{top_down}
@@ -30,10 +30,10 @@ mid-row-requires c κs = let t = c.before in let p = (entry t).requires in (omeg
 
 pub mid-lines-spec : {M : Type 1} → Rattle.blocks.proofs.words.subpel.lines.mid_lines.Statement.statement M
 mid-lines-spec = tie.close (tie.spec invariant-loop decreases-loop
-    (λ c κs. search needs)  -- half-power
+    (λ c κs. search rules)  -- half-power
     (λ c. filled_none 0 _ _ _ _ _ (omega (arith, c.before.before.requires.0.dst)))  -- loop-holds
     (λ c. omega (arith, row c)) (λ c. omega (arith, row c))  -- y * dst_stride, d + w
     (λ c. omega (arith, row c))  -- words: 2 * d
     (λ c. omega (arith, row c)) (λ c. omega (arith, row c)) (λ c. omega (arith, row c))  -- dst[d..d + w]
     (λ c. omega (arith, row c.before)) mid-row-requires  -- y * 64
-    (λ c. search needs) (λ c. search needs) loop-again (λ c. search block-loop) (λ c. search block-loop))  -- y += 1, and the loop
+    (λ c. search rules) (λ c. search rules) loop-again (λ c. search block-loop) (λ c. search block-loop))  -- y += 1, and the loop

@@ -1,4 +1,4 @@
-use Rattle.blocks.proofs.Usual.{◌∙◌, arith, needs, pos, w16, row_same, backn}
+use Rattle.blocks.proofs.Usual.{◌∙◌, arith, rules, pos, w16, row_same, backn}
 use Rattle.blocks.proofs.Laws.Subpel.Lines.{prep-none, prep_some, half-short}
 use Rattle.blocks.proofs.words.subpel.lines.prep_line_row.Tie as tie
 
@@ -28,4 +28,4 @@ prep-line-row-spec = tie.close (tie.spec (λ c κs. omega arith)  -- prep-row-re
     (λ c κs. omega arith)  -- bias-of-requires
     (λ c. omega arith)  -- cast
     tap-mid-row-requires
-    (λ c. search needs) returns (λ c. search needs) returns-2)  -- same-length
+    (λ c. search rules) returns (λ c. search rules) returns-2)  -- same-length

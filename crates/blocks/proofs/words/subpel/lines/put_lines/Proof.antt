@@ -1,4 +1,4 @@
-use Rattle.blocks.proofs.Usual.{true, ◌≡◌, ◌∙◌, sym, ◌-◌, arith, needs, leb-true, length, Filled, filled_none, block-loop, filled_more}
+use Rattle.blocks.proofs.Usual.{true, ◌≡◌, ◌∙◌, sym, ◌-◌, arith, rules, leb-true, length, Filled, filled_none, block-loop, filled_more}
 use Rattle.rows.specs.inner.Subpel.{Near}
 use Rattle.blocks.specs.inner.Subpel.{put_line, along}
 use Rattle.blocks.proofs.Laws.Subpel.Lines.{Turn, turn}
@@ -38,11 +38,11 @@ loop-again c =
 
 pub put-lines-spec : {M : Type 1} → Rattle.blocks.proofs.words.subpel.lines.put_lines.Statement.statement M
 put-lines-spec = tie.close (tie.spec invariant-loop decreases-loop
-    (λ c κs. search needs)  -- is-near
+    (λ c κs. search rules)  -- is-near
     (λ c. filled_none 0 _ _ _ _ _ (omega (arith, c.before.before.before.before.before.before.requires.0.dst)))  -- loop-holds
     (λ c κs. let r = (row c).src in (r.before, omega (arith, r)))  -- row_first
     (λ c. omega (arith, row c.before)) (λ c. omega (arith, row c.before))  -- y * dst_stride, d + w
     (λ c. omega (arith, row c.before))  -- words: 2 * d
     (λ c. omega (arith, row c.before)) (λ c. omega (arith, row c.before)) (λ c. omega (arith, row c.before))  -- dst[d..d + w]
     put-line-row-requires
-    (λ c. search needs) (λ c. search needs) loop-again (λ c. search block-loop) (λ c. search block-loop))  -- y += 1, and the loop
+    (λ c. search rules) (λ c. search rules) loop-again (λ c. search block-loop) (λ c. search block-loop))  -- y += 1, and the loop
