@@ -3,7 +3,6 @@ use Rattle.rows.proofs.Usual.{List, ◌≡◌, ◌∙◌, refl, ap, ap₂, ◌+�
 use Rattle.rows.proofs.Usual.{SFits, to_z, of_z, at, up, dn, sum_z, back, fit, mag-add, eq_of, sub_parts, abs_mag, mag-mul, add_parts, Summed, summed_mag}
 use Rattle.rows.specs.Subpel.{S}
 use Rattle.rows.proofs.Laws.Numbers.Signed.{sub_ind, mul_parts, mul-up, mul-dn}
-use Rattle.rows.proofs.Laws.Numbers.Sum.{summed_is}
 
 -- a pixel less 2^15 has sixteen bits
 pub centred_fits : (x : ℕ) → x < 2 ^ 16 → SFits w16 (pos x -ℤ pos 32768)
@@ -52,36 +51,36 @@ all f x (suc n) =
     paired (sum_z n (λ t. f t *ℤ (x t -ℤ pos 32768))) (f n *ℤ (x n -ℤ pos 32768)) (sum_z n f) (f n)
     ∙ ap₂ (λ (a b : ℤ). a +ℤ b) (all f x n) (one (f n) (x n))
 
--- ---- the code's last step: s, the bits of the first sum, and 2^15 times t, the second
+-- ---- the code's last step: s, the first sum, and 2^15 times t, the second
 
-abbrev Whole : (s : ℕ) (t : ℤ) → ℤ
-Whole s t = to_z w32 s +ℤ to_z w32 (of_z w32 (to_z w32 (of_z w32 t) *ℤ pos 32768))
+abbrev Whole : (s t : ℤ) → ℤ
+Whole s t = s +ℤ to_z w32 (of_z w32 (to_z w32 (of_z w32 t) *ℤ pos 32768))
 
 pub product_fits : (t : ℤ) → mag t < 2 ^ 11 → SFits w32 (to_z w32 (of_z w32 t) *ℤ pos 32768)
 product_fits t h =
     rw (back (fit w32 {z = t} (omega arith))) (fit w32 (omega (arith, mag-mul t (pos 32768) 2048 32768 (omega (arith, abs_mag t)) (omega arith))))
 
-whole_is : (s : ℕ) (t : ℤ) → mag t < 2 ^ 11 → Whole s t ≡ to_z w32 s +ℤ t *ℤ pos 32768
+whole_is : (s t : ℤ) → mag t < 2 ^ 11 → Whole s t ≡ s +ℤ t *ℤ pos 32768
 whole_is s t h = rw (back (product_fits t h), back (fit w32 {z = t} (omega arith))) refl
 
-whole-mag : {g : ℕ → ℤ} {s : ℕ} (t : ℤ) → Summed g (2 ^ 24) 8 s → mag t < 2 ^ 11 → mag (Whole s t) < 2 ^ 30
+whole-mag : {g : ℕ → ℤ} {s : ℤ} (t : ℤ) → Summed g (2 ^ 24) 8 s → mag t < 2 ^ 11 → mag (Whole s t) < 2 ^ 30
 whole-mag {g} {s} t p h =
     rw (whole_is s t h)
     (omega (
       arith,
-      summed_mag p (omega arith),
-      mag-add (to_z w32 s) (t *ℤ pos 32768),
+      summed_mag p,
+      mag-add s (t *ℤ pos 32768),
       mag-mul t (pos 32768) 2048 32768 (omega (arith, abs_mag t)) (omega arith),
     ))
 
-pub whole-fits : {g : ℕ → ℤ} {j s : ℕ} (t : ℤ) → j ≤ 8 → 8 ≤ j → Summed g (2 ^ 24) j s → mag t < 2 ^ 11 → SFits w32 (Whole s t)
+pub whole-fits : {g : ℕ → ℤ} {j : ℕ} {s : ℤ} (t : ℤ) → j ≤ 8 → 8 ≤ j → Summed g (2 ^ 24) j s → mag t < 2 ^ 11 → SFits w32 (Whole s t)
 whole-fits {g} {j} t h k p m = let e : j ≡ 8 = omega arith in fit w32 (omega (arith, whole-mag t (rw e at p) m))
 
-pub centred_whole : (f : List ℤ) (x : ℕ → ℤ) {j s : ℕ} (t : ℤ) → j ≤ 8 → 8 ≤ j → Summed (λ k. at f k *ℤ (x k -ℤ pos 32768)) (2 ^ 24) j s
+pub centred_whole : (f : List ℤ) (x : ℕ → ℤ) {j : ℕ} {s : ℤ} (t : ℤ) → j ≤ 8 → 8 ≤ j → Summed (λ k. at f k *ℤ (x k -ℤ pos 32768)) (2 ^ 24) j s
     → (t ≡ sum_z 8 (at f)) × (mag t < 2 ^ 11) → (to_z w32 (of_z w32 (Whole s t)) ≡ S f x) × (mag (to_z w32 (of_z w32 (Whole s t))) < 2 ^ 30)
 unfolding S
 centred_whole f x {j} {s} t h k p m =
     let e : j ≡ 8 = omega arith in
     let q = rw e at p in
     rw (back (whole-fits t h k p m.1))
-    (whole_is s t m.1 ∙ ap₂ (λ (a b : ℤ). a +ℤ b *ℤ pos 32768) (summed_is q (omega arith)) m.0 ∙ all (at f) x 8, whole-mag t q m.1)
+    (whole_is s t m.1 ∙ ap₂ (λ (a b : ℤ). a +ℤ b *ℤ pos 32768) q.is m.0 ∙ all (at f) x 8, whole-mag t q m.1)

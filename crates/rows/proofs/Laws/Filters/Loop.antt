@@ -1,13 +1,12 @@
 -- What the filters' loops share: the end of a sum of eight taps, and one more intermediate of a row. Assumes nothing.
 use Rattle.rows.proofs.Usual.{List, ◌≡◌, ◌∙◌, ◌+◌, ◌≤◌, ◌<◌, ◌^◌, ℕ, arith, pos, ℤ, set, mag, w32, w16, SFits, to_z, of_z, sum_z, Upto, upto_more, back}
 use Rattle.rows.proofs.Usual.{Summed, summed_mag}
-use Rattle.rows.proofs.Laws.Numbers.Sum.{summed_is}
 
-pub summed_eight : {g : ℕ → ℤ} {j s : ℕ} → j ≤ 8 → 8 ≤ j → Summed g (2 ^ 24) j s → (to_z w32 s ≡ sum_z 8 g) × (mag (to_z w32 s) < 2 ^ 30)
+pub summed_eight : {g : ℕ → ℤ} {j : ℕ} {s : ℤ} → j ≤ 8 → 8 ≤ j → Summed g (2 ^ 24) j s → (s ≡ sum_z 8 g) × (mag s < 2 ^ 30)
 summed_eight {g} {j} {s} h k q =
     let e : j ≡ 8 = omega arith in
     let p = rw e at q in
-    (summed_is p (omega arith), omega (arith, summed_mag p (omega arith)))
+    (p.is, omega (arith, summed_mag p))
 
 -- an intermediate stands in its row as it was returned
 pub upto_kept :

@@ -36,49 +36,45 @@ sizes_room f j h n =
     let e : 7 - j + suc j ≡ 8 = omega arith in
     omega (arith, rw e at (sum_grows (λ t. nat_abs (at f t)) (suc j) (7 - j)))
 
--- a local of sixteen bits holds the bits of the sum of the first j taps
-pub record NearSum (f : List ℤ) (x : ℕ → ℤ) (j s : ℕ) : Type 0 where
+-- a local is the sum of the first j taps, which sixteen bits hold
+pub record NearSum (f : List ℤ) (x : ℕ → ℤ) (j : ℕ) (s : ℤ) : Type 0 where
   pub le : j ≤ 8
-  pub is : s ≡ of_z w16 (sum_z j (λ t. at f t *ℤ x t))
+  pub is : s ≡ sum_z j (λ t. at f t *ℤ x t)
   pub most : nat_abs (sum_z j (λ t. at f t *ℤ x t)) ≤ sizes f j * 255
   pub few : sizes f j ≤ 128
 
-pub near_none : (f : List ℤ) (x : ℕ → ℤ) → NearSum f x 0 0
+pub near_none : (f : List ℤ) (x : ℕ → ℤ) → NearSum f x 0 (pos 0)
 unfolding sum_z sum
 near_none f x = record { le = omega arith; is = refl; most = omega arith; few = omega arith }
 
-pub near_is : {f : List ℤ} {x : ℕ → ℤ} {j s : ℕ} → NearSum f x j s → to_z w16 s ≡ sum_z j (λ t. at f t *ℤ x t)
-near_is {f} {x} {j} p =
-    ap (to_z w16) p.is ∙ to_z-of_z w16 (sum_z j (λ t. at f t *ℤ x t)) (fit_abs w16 (sum_z j (λ t. at f t *ℤ x t)) (omega (arith, p.most, p.few)))
-
 -- the product of tap j, which is read back from its bits, still fits
-pub near_room : {f : List ℤ} {x : ℕ → ℤ} {j s : ℕ} → NearSum f x j s → j < 8 → Near f → SFits w8 (at f j)
-    → nat_abs (to_z w16 s) + nat_abs (to_z w8 (of_z w8 (at f j))) * 255 ≤ 32640
-near_room {f} {x} {j} p h n b = rw (back b, near_is p) (omega (arith, p.most, sizes_room f j h n))
+pub near_room : {f : List ℤ} {x : ℕ → ℤ} {j : ℕ} {s : ℤ} → NearSum f x j s → j < 8 → Near f → SFits w8 (at f j)
+    → nat_abs s + nat_abs (to_z w8 (of_z w8 (at f j))) * 255 ≤ 32640
+near_room {f} {x} {j} p h n b = rw (back b, p.is) (omega (arith, p.most, sizes_room f j h n))
 
 -- and y, what it is multiplied with, is number j
 pub near_more :
-    {f : List ℤ} {x : ℕ → ℤ} {j s : ℕ} {r y : ℤ} → NearSum f x j s → j < 8 → Near f → SFits w8 (at f j) → y ≡ x j
-    → (r ≡ to_z w16 s +ℤ to_z w8 (of_z w8 (at f j)) *ℤ y) × (nat_abs (to_z w8 (of_z w8 (at f j)) *ℤ y) ≤ nat_abs (to_z w8 (of_z w8 (at f j))) * 255)
-    → NearSum f x (j + 1) (of_z w16 r)
+    {f : List ℤ} {x : ℕ → ℤ} {j : ℕ} {s r y : ℤ} → NearSum f x j s → j < 8 → Near f → SFits w8 (at f j) → y ≡ x j
+    → (r ≡ s +ℤ to_z w8 (of_z w8 (at f j)) *ℤ y) × (nat_abs (to_z w8 (of_z w8 (at f j)) *ℤ y) ≤ nat_abs (to_z w8 (of_z w8 (at f j))) * 255)
+    → NearSum f x (j + 1) r
 unfolding sum_z sum
 near_more {f} {x} {j} p h n b q made =
     let e = rw (back b, q) at made in
     rw add-one
     (record {
       le = h;
-      is = ap (of_z w16) (e.0 ∙ ap (λ (y : ℤ). y +ℤ at f j *ℤ x j) (near_is p));
+      is = e.0 ∙ ap (λ (y : ℤ). y +ℤ at f j *ℤ x j) p.is;
       most = omega (arith, p.most, e.1, abs-add (sum_z j (λ t. at f t *ℤ x t)) (at f j *ℤ x j));
       few = sizes_room f j h n;
     })
 
 -- the whole sum
-pub near_all : {f : List ℤ} {x : ℕ → ℤ} {j s : ℕ} → NearSum f x j s → 8 ≤ j → (to_z w16 s ≡ S f x) × (nat_abs (to_z w16 s) ≤ 32640)
+pub near_all : {f : List ℤ} {x : ℕ → ℤ} {j : ℕ} {s : ℤ} → NearSum f x j s → 8 ≤ j → (s ≡ S f x) × (nat_abs s ≤ 32640)
 unfolding S
 near_all {f} {x} {j} p h =
     let e : j ≡ 8 = omega (arith, p.le) in
     let q = rw e at p in
-    (near_is q, rw (near_is q) (omega (arith, q.most, q.few)))
+    (q.is, rw q.is (omega (arith, q.most, q.few)))
 
 -- ---- a wider number is 256 times its high byte and its low byte; so is a sum of such numbers
 pub split : (x : ℤ) → shr_z x 256 *ℤ pos 256 +ℤ pos (mod_z x 256) ≡ x

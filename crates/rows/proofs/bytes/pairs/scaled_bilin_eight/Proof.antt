@@ -1,4 +1,4 @@
-use Rattle.rows.proofs.Usual.{◌∙◌, refl, ap, sym, ◌+◌, ◌≤◌, ◌<◌, ℕ, add-zero, arith, rules, pos, length, get_or, back}
+use Rattle.rows.proofs.Usual.{◌∙◌, refl, ap, sym, ◌+◌, ◌≤◌, ◌<◌, ℕ, add-zero, arith, rules, pos, length, get_or, w16, back}
 use lib.ListN.{length-set}
 use Rattle.rows.specs.inner.Scaled.{pair_mid}
 use Rattle.rows.proofs.Laws.Blocks.Part.{eight_stored}
@@ -11,35 +11,104 @@ fetched s n h = let f = s.requires.2 in (omega arith, omega (arith, f.held n (om
 
 returns : tie.Need-returns
 returns c =
-    let c6 = c.before in let c5 = c6.before in let c4 = c5.before in let c3 = c4.before in let c2 = c3.before in let c1 = c2.before in
-    let c0 = c1.before in let a = c0.before.before.args in
+    let a = c.args in
     let mid = pair_mid a.src.now a.pixels.now a.fractions.now 0 in
     eight_stored (pos 0) (λ k. mid (a.i + k)) a.mid.now a.i (omega arith)
-    (back (omega arith) ∙ c0.scaled-bilin-px.ensures ∙ ap mid (sym (add-zero a.i)))
-    (back (omega arith) ∙ c1.scaled-bilin-px2.ensures)
-    (back (omega arith) ∙ c2.scaled-bilin-px3.ensures)
-    (back (omega arith) ∙ c3.scaled-bilin-px4.ensures)
-    (back (omega arith) ∙ c4.scaled-bilin-px5.ensures)
-    (back (omega arith) ∙ c5.scaled-bilin-px6.ensures)
-    (back (omega arith) ∙ c6.scaled-bilin-px7.ensures)
-    (back (omega arith) ∙ c.scaled-bilin-px8.ensures)
+    (back {w = w16} (omega arith) ∙ c.scaled_bilin_px-v0.ensures ∙ ap mid (sym (add-zero a.i)))
+    (back {w = w16} (omega arith) ∙ c.scaled_bilin_px-v1.ensures)
+    (back {w = w16} (omega arith) ∙ c.scaled_bilin_px-v2.ensures)
+    (back {w = w16} (omega arith) ∙ c.scaled_bilin_px-v3.ensures)
+    (back {w = w16} (omega arith) ∙ c.scaled_bilin_px-v4.ensures)
+    (back {w = w16} (omega arith) ∙ c.scaled_bilin_px-v5.ensures)
+    (back {w = w16} (omega arith) ∙ c.scaled_bilin_px-v6.ensures)
+    (back {w = w16} (omega arith) ∙ c.scaled_bilin_px-v7.ensures)
 
-pub scaled-bilin-eight-spec : {M : Type 1} → Rattle.rows.proofs.bytes.pairs.scaled_bilin_eight.Statement.statement M
-scaled-bilin-eight-spec = tie.close (tie.spec (λ c κs. fetched c.before _ (omega arith))  -- column i
-    (λ c. search rules) (λ c κs. fetched c.before.before _ (omega arith))  -- column i + 1
-    (λ c. search rules) (λ c κs. fetched c.before.before.before _ (omega arith))  -- column i + 2
-    (λ c. search rules) (λ c κs. fetched c.before.before.before.before _ (omega arith))  -- column i + 3
-    (λ c. search rules) (λ c κs. fetched c.before.before.before.before.before _ (omega arith))  -- column i + 4
-    (λ c. search rules) (λ c κs. fetched c.before.before.before.before.before.before _ (omega arith))  -- column i + 5
-    (λ c. search rules) (λ c κs. fetched c.before.before.before.before.before.before.before _ (omega arith))  -- column i + 6
-    (λ c. search rules) (λ c κs. fetched c.before.before.before.before.before.before.before.before _ (omega arith))  -- column i + 7
-    (λ c. search rules) (λ c. search rules)  -- mid[i] =
-    (λ c. search rules) (λ c. search rules) (λ c. simp length-set (omega arith))  -- mid[i + 1] =
-    (λ c. search rules) (λ c. search rules) (λ c. simp length-set (omega arith))  -- mid[i + 2] =
-    (λ c. search rules) (λ c. search rules) (λ c. simp length-set (omega arith))  -- mid[i + 3] =
-    (λ c. search rules) (λ c. search rules) (λ c. simp length-set (omega arith))  -- mid[i + 4] =
-    (λ c. search rules) (λ c. search rules) (λ c. simp length-set (omega arith))  -- mid[i + 5] =
-    (λ c. search rules) (λ c. search rules) (λ c. simp length-set (omega arith))  -- mid[i + 6] =
-    (λ c. search rules) (λ c. search rules) (λ c. simp length-set (omega arith))  -- mid[i + 7] =
-    (λ c. simp length-set refl)  -- same-length
+scaled_bilin_px-v0-requires : tie.Need-scaled_bilin_px-v0-requires
+scaled_bilin_px-v0-requires c κs = fetched c.before _ (omega arith)
+
+scaled_bilin_px-v1-requires : tie.Need-scaled_bilin_px-v1-requires
+scaled_bilin_px-v1-requires c κs = fetched c.before.before _ (omega arith)
+
+scaled_bilin_px-v2-requires : tie.Need-scaled_bilin_px-v2-requires
+scaled_bilin_px-v2-requires c κs = fetched c.before.before.before _ (omega arith)
+
+scaled_bilin_px-v3-requires : tie.Need-scaled_bilin_px-v3-requires
+scaled_bilin_px-v3-requires c κs = fetched c.before.before.before.before _ (omega arith)
+
+scaled_bilin_px-v4-requires : tie.Need-scaled_bilin_px-v4-requires
+scaled_bilin_px-v4-requires c κs = fetched c.before.before.before.before.before _ (omega arith)
+
+scaled_bilin_px-v5-requires : tie.Need-scaled_bilin_px-v5-requires
+scaled_bilin_px-v5-requires c κs = fetched c.before.before.before.before.before.before _ (omega arith)
+
+scaled_bilin_px-v6-requires : tie.Need-scaled_bilin_px-v6-requires
+scaled_bilin_px-v6-requires c κs = fetched c.before.before.before.before.before.before.before _ (omega arith)
+
+scaled_bilin_px-v7-requires : tie.Need-scaled_bilin_px-v7-requires
+scaled_bilin_px-v7-requires c κs = fetched c.before.before.before.before.before.before.before.before _ (omega arith)
+
+bounds-mid-i-2 : tie.Need-bounds-mid-i-2
+bounds-mid-i-2 c = simp length-set (omega arith)
+
+bounds-mid-i-3 : tie.Need-bounds-mid-i-3
+bounds-mid-i-3 c = simp length-set (omega arith)
+
+bounds-mid-i-4 : tie.Need-bounds-mid-i-4
+bounds-mid-i-4 c = simp length-set (omega arith)
+
+bounds-mid-i-5 : tie.Need-bounds-mid-i-5
+bounds-mid-i-5 c = simp length-set (omega arith)
+
+bounds-mid-i-6 : tie.Need-bounds-mid-i-6
+bounds-mid-i-6 c = simp length-set (omega arith)
+
+bounds-mid-i-7 : tie.Need-bounds-mid-i-7
+bounds-mid-i-7 c = simp length-set (omega arith)
+
+bounds-mid-i-8 : tie.Need-bounds-mid-i-8
+bounds-mid-i-8 c = simp length-set (omega arith)
+
+pub scaled_bilin_eight_spec : {M : Type 1} → Rattle.rows.proofs.bytes.pairs.scaled_bilin_eight.Statement.statement M
+scaled_bilin_eight_spec =
+    tie.close
+    (tie.spec
+    scaled_bilin_px-v0-requires
+    (λ c. search rules)
+    scaled_bilin_px-v1-requires
+    (λ c. search rules)
+    scaled_bilin_px-v2-requires
+    (λ c. search rules)
+    scaled_bilin_px-v3-requires
+    (λ c. search rules)
+    scaled_bilin_px-v4-requires
+    (λ c. search rules)
+    scaled_bilin_px-v5-requires
+    (λ c. search rules)
+    scaled_bilin_px-v6-requires
+    (λ c. search rules)
+    scaled_bilin_px-v7-requires
+    (λ c. search rules)
+    (λ c. search rules)
+    (λ c. search rules)
+    (λ c. search rules)
+    bounds-mid-i-2
+    (λ c. search rules)
+    (λ c. search rules)
+    bounds-mid-i-3
+    (λ c. search rules)
+    (λ c. search rules)
+    bounds-mid-i-4
+    (λ c. search rules)
+    (λ c. search rules)
+    bounds-mid-i-5
+    (λ c. search rules)
+    (λ c. search rules)
+    bounds-mid-i-6
+    (λ c. search rules)
+    (λ c. search rules)
+    bounds-mid-i-7
+    (λ c. search rules)
+    (λ c. search rules)
+    bounds-mid-i-8
+    (λ c. simp length-set refl)
     returns)

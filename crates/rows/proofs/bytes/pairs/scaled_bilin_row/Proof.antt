@@ -11,19 +11,30 @@ held c =
     let e = span-length 0 l c.args.o (length l) (omega arith) in
     record { held = λ i h. omega (arith, f.held i h, e); small = f.small }
 
-returns : tie.Need-returns
-returns c =
-    let t = c.before.before.before in let s = t.before.before.before in
-    rw s.requires.3 (c.before.scaled-bilin-few.ensures ∙ part-row s.args.src.now _ _ _ _ _ s.requires.2)
+returns-then-mid-lt8 : tie.Need-returns-then-mid-lt8
+returns-then-mid-lt8 c =
+    rw c.requires.3 (c.scaled_bilin_few.ensures ∙ part-row c.args.src.now _ _ _ _ _ c.requires.2)
 
-returns-2 : tie.Need-returns-2
-returns-2 c =
-    let t = c.before.before.before in let s = t.before.before.before in
-    rw s.requires.3 (c.before.scaled-bilin-eights.ensures ∙ part-row s.args.src.now _ _ _ _ _ s.requires.2)
+returns-else-mid-lt8 : tie.Need-returns-else-mid-lt8
+returns-else-mid-lt8 c =
+    rw c.requires.3 (c.scaled_bilin_eights.ensures ∙ part-row c.args.src.now _ _ _ _ _ c.requires.2)
 
-pub scaled-bilin-row-spec : {M : Type 1} → Rattle.rows.proofs.bytes.pairs.scaled_bilin_row.Statement.statement M
-scaled-bilin-row-spec = tie.close (tie.spec (λ c. omega arith) (λ c. omega arith) (λ c. omega arith)  -- &src[o..]
-    (λ c κs. let s = c.before.before.before.before in (omega arith, held s))  -- fewer than eight
-    (λ c κs. let s = c.before.before.before.before in (omega arith, omega arith, held s))  -- eight or more
-    (λ c. search rules) returns
-    (λ c. search rules) returns-2)
+scaled_bilin_few-requires : tie.Need-scaled_bilin_few-requires
+scaled_bilin_few-requires c κs = (omega arith, held c.before.before.before.before)
+
+scaled_bilin_eights-requires : tie.Need-scaled_bilin_eights-requires
+scaled_bilin_eights-requires c κs = (omega arith, omega arith, held c.before.before.before.before)
+
+pub scaled_bilin_row_spec : {M : Type 1} → Rattle.rows.proofs.bytes.pairs.scaled_bilin_row.Statement.statement M
+scaled_bilin_row_spec =
+    tie.close
+    (tie.spec
+    (λ c. omega arith)
+    (λ c. omega arith)
+    (λ c. omega arith)
+    scaled_bilin_few-requires
+    scaled_bilin_eights-requires
+    (λ c. search rules)
+    returns-then-mid-lt8
+    (λ c. search rules)
+    returns-else-mid-lt8)

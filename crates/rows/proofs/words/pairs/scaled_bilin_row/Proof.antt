@@ -11,22 +11,32 @@ held c =
     let e = span-length 0 l c.args.o (length l) (omega arith) in
     record { held = λ i h. omega (arith, f.held i h, e); small = f.small }
 
-returns : tie.Need-returns
-returns c =
-    let t = c.before.before.before in let s = t.before.before.before in
-    rw t.if1.true (c.before.scaled-bilin-by.ensures ∙ part-row s.args.src.now _ _ _ _ _ s.requires.2)
+returns-then-bits-eq4 : tie.Need-returns-then-bits-eq4
+returns-then-bits-eq4 c =
+    rw c.if-bits-eq4.true (c.scaled_bilin_by.ensures ∙ part-row c.args.src.now _ _ _ _ _ c.requires.2)
 
-returns-2 : tie.Need-returns-2
-returns-2 c =
-    let t = c.before.before.before in let s = t.before.before.before in
-    let two : s.args.bits ≡ 2 = omega (arith, t.if1.false) in
-    rw two (c.before.scaled-bilin-by2.ensures ∙ part-row s.args.src.now _ _ _ _ _ s.requires.2)
+returns-else-bits-eq4 : tie.Need-returns-else-bits-eq4
+returns-else-bits-eq4 c =
+    let two : c.args.bits ≡ 2 = omega (arith, c.if-bits-eq4.false) in
+    rw two (c.scaled_bilin_by-else-bits-eq4.ensures ∙ part-row c.args.src.now _ _ _ _ _ c.requires.2)
 
-pub scaled-bilin-row-spec : {M : Type 1} → Rattle.rows.proofs.words.pairs.scaled_bilin_row.Statement.statement M
-scaled-bilin-row-spec = tie.close (tie.spec
-    (λ c. omega arith)  -- words: 2 * src.len()
-    (λ c. omega arith) (λ c. omega arith) (λ c. omega arith)  -- &src[o..]
-    (λ c κs. let s = c.before.before.before.before in (omega arith, held s, omega arith, omega arith))  -- scaled-bilin-by-requires
-    (λ c κs. let s = c.before.before.before.before in (omega arith, held s, omega arith, omega arith))  -- scaled-bilin-by-requires-2
-    (λ c. search rules) returns  -- B is 4
-    (λ c. search rules) returns-2)  -- B is 2
+scaled_bilin_by-requires : tie.Need-scaled_bilin_by-requires
+scaled_bilin_by-requires c κs = (omega arith, held c.before.before.before.before, omega arith, omega arith)
+
+scaled_bilin_by-requires-else-bits-eq4 : tie.Need-scaled_bilin_by-requires-else-bits-eq4
+scaled_bilin_by-requires-else-bits-eq4 c κs = (omega arith, held c.before.before.before.before, omega arith, omega arith)
+
+pub scaled_bilin_row_spec : {M : Type 1} → Rattle.rows.proofs.words.pairs.scaled_bilin_row.Statement.statement M
+scaled_bilin_row_spec =
+    tie.close
+    (tie.spec
+    (λ c. omega arith)
+    (λ c. omega arith)
+    (λ c. omega arith)
+    (λ c. omega arith)
+    scaled_bilin_by-requires
+    scaled_bilin_by-requires-else-bits-eq4
+    (λ c. search rules)
+    returns-then-bits-eq4
+    (λ c. search rules)
+    returns-else-bits-eq4)

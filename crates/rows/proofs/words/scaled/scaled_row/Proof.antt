@@ -5,34 +5,52 @@ use Rattle.rows.proofs.Laws.Blocks.Part.{PartUpto, part_none, part_more, part_al
 use Rattle.rows.proofs.Laws.Filters.Scaled.{position-lt}
 use Rattle.rows.proofs.words.scaled.scaled_row.Tie as tie
 
-abbrev invariant-loop : tie.invariant-loop
-invariant-loop rows₀ q w src o table family by bits i₀ rows i =
+abbrev invariant-loop-i : tie.invariant-loop-i
+invariant-loop-i rows₀ q w src o table family by bits i₀ rows i =
     PartUpto (pos 0)
     (λ x. let p = position by.start by.step x in scaled_mid bits (in_family table family (sixteenth p)) (eight_at (λ k. get_or src k 0) o p))
     rows₀ q w i rows
 
-abbrev decreases-loop : tie.decreases-loop
-decreases-loop rows₀ q w src o table family by bits i₀ rows i = w - i
+abbrev decreases-loop-i : tie.decreases-loop-i
+decreases-loop-i rows₀ q w src o table family by bits i₀ rows i = w - i
 
 -- column i isn't far
-bounded : (c : tie.In-loop invariant-loop decreases-loop) → let a = c.before.before.before.args in position a.by.start a.by.step c.before.loop.i < 2 ^ 20
-bounded c = position-lt c.before.before.before.requires.0.5 (omega arith)
+bounded : (c : tie.In-loop-i invariant-loop-i decreases-loop-i) → let a = c.args in position a.by.start a.by.step c.loop-i.i < 2 ^ 20
+bounded c = position-lt c.requires.0.5 (omega arith)
 
-scaled-px-requires : tie.Need-scaled-px-requires invariant-loop decreases-loop
-scaled-px-requires c κs =
-    let t = c.before.before in
-    (t.before.before.before.requires.1 t.before.loop.i (omega arith), omega arith, omega arith, bounded t, omega arith)
+scaled_px-v-requires : tie.Need-scaled_px-v-requires invariant-loop-i decreases-loop-i
+scaled_px-v-requires c κs =
+    (c.requires.1 c.loop-i.i (omega arith), omega arith, omega arith, bounded c.before.before, omega arith)
 
-loop-again : tie.Need-loop-preserved invariant-loop decreases-loop
-loop-again c =
-    let f : SFits w16 c.scaled-px.result = omega arith in
-    part_more c.before.before.before.before.loop.invariant (omega arith) (omega arith) (back f ∙ c.scaled-px.ensures)
+loop-i-preserved : tie.Need-loop-i-preserved invariant-loop-i decreases-loop-i
+loop-i-preserved c =
+    let f : SFits w16 c.scaled_px-v.result = omega arith in
+    part_more c.loop-i.invariant (omega arith) (omega arith) (back f ∙ c.scaled_px-v.ensures)
 
-pub scaled-row-spec : {M : Type 1} → Rattle.rows.proofs.words.scaled.scaled_row.Statement.statement M
-scaled-row-spec = tie.close (tie.spec invariant-loop decreases-loop (λ c. part_none _ _ _ _ _)  -- while i < w
-    (λ c. omega (arith, bounded c.before))  -- i * by.step
-    (λ c. omega (arith, bounded c.before.before))  -- by.start +
-    scaled-px-requires
-    (λ c. omega arith) (λ c. omega arith) (λ c. omega arith)  -- rows[q + i] =
-    (λ c. omega arith) (λ c. omega arith) loop-again  -- i += 1
-    (λ c. part_all c.before.loop.invariant (omega arith) (omega arith)))  -- returns
+loop-i-init : tie.Need-loop-i-init invariant-loop-i decreases-loop-i
+loop-i-init c = part_none _ _ _ _ _
+
+overflow_mul-i : tie.Need-overflow_mul-i invariant-loop-i decreases-loop-i
+overflow_mul-i c = omega (arith, bounded c.before)
+
+overflow_add-by : tie.Need-overflow_add-by invariant-loop-i decreases-loop-i
+overflow_add-by c = omega (arith, bounded c.before.before)
+
+returns : tie.Need-returns invariant-loop-i decreases-loop-i
+returns c = part_all c.loop-i.invariant (omega arith) (omega arith)
+
+pub scaled_row_spec : {M : Type 1} → Rattle.rows.proofs.words.scaled.scaled_row.Statement.statement M
+scaled_row_spec =
+    tie.close
+    (tie.spec invariant-loop-i decreases-loop-i
+    loop-i-init
+    overflow_mul-i
+    overflow_add-by
+    scaled_px-v-requires
+    (λ c. omega arith)
+    (λ c. omega arith)
+    (λ c. omega arith)
+    (λ c. omega arith)
+    (λ c. omega arith)
+    loop-i-preserved
+    returns)

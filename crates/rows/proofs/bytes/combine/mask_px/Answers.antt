@@ -1,0 +1,15 @@
+-- Made from crates/rows/proofs/words/combine/mask_px/Answers.antt by tools/sets: change that.
+use Rattle.rows.proofs.Usual.{arith, rules, w32, SFits, back, backn}
+use Rattle.rows.specs.Combine.{masked}
+use Rattle.rows.proofs.bytes.combine.mask_px.Goals as goal
+
+pub returns : goal.returns
+unfolding masked
+returns c =
+    let sum = c.mix in
+    let f : SFits w32 sum.result = omega arith in
+    let m = backn w32 c.args.m (omega arith) in
+    rw (c.clip.ensures, back f, sum.ensures, back c.ranges.a, back c.ranges.b, m, c.rounding.ensures.0, c.bias_of.ensures, c.bits_of-k.ensures)
+
+pub mix-requires : goal.mix-requires
+mix-requires c = rw (backn w32 c.args.m (omega arith)) (omega arith)

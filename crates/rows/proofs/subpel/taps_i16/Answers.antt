@@ -1,0 +1,38 @@
+use Rattle.rows.proofs.Usual.{◌-◌, ◌+◌, ◌*◌, ◌≤◌, ◌^◌, arith, ◌*ℤ◌, w16, w32, w8, at, back, fit, steps-le, Summed, summed_mag, summed_none, summed_more}
+use Rattle.rows.specs.Subpel.{S}
+use Rattle.rows.proofs.Laws.Filters.Loop.{summed_eight}
+use Rattle.rows.proofs.subpel.taps_i16.Goals as goal
+use Rattle.rows.proofs.subpel.taps_i16.Goals.{In-loop-j}
+
+-- place j is within src
+place : (c : In-loop-j) → c.loop-j.j * c.args.step ≤ 7 * c.args.step
+place c = steps-le c.loop-j.j c.args.step c.loop-j-test.true
+
+pub loop-j-preserved : goal.loop-j-preserved
+loop-j-preserved c =
+    let a = c.args in
+    let ff = back (fit w8 {z = at a.f.now c.loop-j.j} c.tap_i16-arg-1.given) in
+    let fs = back (fit w16 {z = at a.src.now (a.o + c.loop-j.j * a.step)} c.tap_i16-arg-in-loop-j-1.given) in
+    (omega arith, rw (back (fit w32 c.tap_i16-s.type_inv)) (summed_more c.loop-j.invariant.1 (rw (ff, fs) at c.tap_i16-s.ensures)))
+
+pub returns : goal.returns
+unfolding S
+returns c = let h = c.loop-j in summed_eight h.invariant.0 (omega arith) h.invariant.1
+
+pub loop-j-init : goal.loop-j-init
+loop-j-init c = (omega arith, summed_none _ _)
+
+pub overflow_mul-j : goal.overflow_mul-j
+overflow_mul-j c = omega (arith, place (goal.at.overflow_mul-j c).In-loop-j)
+
+pub overflow_add-o : goal.overflow_add-o
+overflow_add-o c = omega (arith, place (goal.at.overflow_add-o c).In-loop-j)
+
+pub offset_bounds-src-o : goal.offset_bounds-src-o
+offset_bounds-src-o c = omega (arith, place (goal.at.offset_bounds-src-o c).In-loop-j)
+
+pub bounds-src-o : goal.bounds-src-o
+bounds-src-o c = omega (arith, place (goal.at.bounds-src-o c).In-loop-j)
+
+pub tap_i16-s-requires : goal.tap_i16-s-requires
+tap_i16-s-requires c = omega (arith, summed_mag c.loop-j.invariant.1)

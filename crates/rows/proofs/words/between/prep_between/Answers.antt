@@ -1,0 +1,19 @@
+use Rattle.rows.proofs.Usual.{arith, rules, w16, SFits, back, backn}
+use Rattle.rows.specs.Bilinear.{R}
+use Rattle.rows.proofs.Laws.Filters.Bilinear.{sum_joined, half-small}
+use Rattle.rows.proofs.words.between.prep_between.Goals as goal
+
+pub near_kept-requires : goal.near_kept-requires
+near_kept-requires c =
+    let r = half-small c.requires.2 (omega arith) in
+    rw (backn w16 c.high_between-high.result (omega arith), backn w16 c.low_between-low.result (omega arith)) (omega (arith, r))
+
+pub returns : goal.returns
+unfolding R
+returns c =
+    let a = c.args in
+    let e = sum_joined a.src.now a.p a.step a.f (omega arith) c.high_between-high.ensures.0 c.low_between-low.ensures.0 in
+    let fh = backn w16 c.high_between-high.result (omega arith) in let fl = backn w16 c.low_between-low.result (omega arith) in
+    let fv : SFits w16 c.near_kept.result = omega arith in
+    let v = rw (fh, fl, c.requires.2, back c.ranges.bias) at c.near_kept.ensures in
+    rw (back fv, e) v

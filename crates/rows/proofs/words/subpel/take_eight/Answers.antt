@@ -1,0 +1,11 @@
+use Rattle.rows.proofs.Usual.{refl, ◌-◌, arith, length, get_or, Upto, upto_all, upto_none, upto_more}
+use Rattle.rows.proofs.words.subpel.take_eight.Goals as goal
+
+pub loop-i-init : goal.loop-i-init
+loop-i-init c = upto_none _ _ _
+
+pub loop-i-preserved : goal.loop-i-preserved
+loop-i-preserved c = upto_more c.loop-i.invariant (omega arith) refl
+
+pub returns : goal.returns
+returns c = upto_all c.loop-i.invariant (omega arith)

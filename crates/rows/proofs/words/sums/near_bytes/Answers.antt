@@ -1,0 +1,34 @@
+use Rattle.rows.proofs.Usual.{refl, ◌-◌, ◌+◌, ◌*◌, ◌≤◌, arith, w16, w8, back, px, fit, steps-le}
+use Rattle.rows.specs.inner.Subpel.{byte_of}
+use Rattle.rows.proofs.Laws.Filters.Near.{NearSum, near_none, near_room, near_more, near_all}
+use Rattle.rows.proofs.words.sums.near_bytes.Goals as goal
+use Rattle.rows.proofs.words.sums.near_bytes.Goals.{In-loop-j}
+
+-- place j is within src
+place : (c : In-loop-j) → c.loop-j.j * c.args.step ≤ 7 * c.args.step
+place c = steps-le c.loop-j.j c.args.step c.loop-j-test.true
+
+pub loop-j-preserved : goal.loop-j-preserved
+loop-j-preserved c =
+    rw (back (fit w16 c.near_byte-s.type_inv)) (near_more c.loop-j.invariant (omega arith) c.requires.1 (fit w8 c.near_byte-arg-1.given) refl c.near_byte-s.ensures)
+
+pub loop-j-init : goal.loop-j-init
+loop-j-init c = near_none _ _
+
+pub overflow_mul-j : goal.overflow_mul-j
+overflow_mul-j c = omega (arith, place (goal.at.overflow_mul-j c).In-loop-j)
+
+pub overflow_add-o : goal.overflow_add-o
+overflow_add-o c = omega (arith, place (goal.at.overflow_add-o c).In-loop-j)
+
+pub offset_bounds-src-o : goal.offset_bounds-src-o  -- words
+offset_bounds-src-o c = omega (arith, place (goal.at.offset_bounds-src-o c).In-loop-j)  -- words
+
+pub bounds-src-o : goal.bounds-src-o
+bounds-src-o c = omega (arith, place (goal.at.bounds-src-o c).In-loop-j)
+
+pub near_byte-s-requires : goal.near_byte-s-requires
+near_byte-s-requires c = near_room c.loop-j.invariant (omega arith) c.requires.1 (fit w8 c.near_byte-arg-1.given)
+
+pub returns : goal.returns
+returns c = near_all c.loop-j.invariant (omega arith)
