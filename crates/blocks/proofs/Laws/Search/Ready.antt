@@ -283,6 +283,7 @@ off_search s =
 
 off_answer : (b : Best) → Off b → answer b ≡ centre → ⊥
 unfolding answer
+off_answer none p e = elim p [ ]
 off_answer (best t o) p e = p (ap (λ (c : Offset). nat_abs c.dx + nat_abs c.dy) e)
 
 pub explicit_moves : (depth : ℕ) (p q : ℕ → ℕ → ℕ) (w h : ℕ) → refine depth false p q w h ≡ centre → ⊥
