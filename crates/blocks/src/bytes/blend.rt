@@ -30,7 +30,6 @@ fn blend_rows(dst: &mut [Pixel], dst_stride: usize, tmp: &[Pixel], w: usize, h: 
     }
 }
 
-#[unsafe(no_mangle)]
 pub extern "C" fn hv_blend_8bpc(
     dst: &mut [Pixel],
     dst_stride: usize,

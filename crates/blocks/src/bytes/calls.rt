@@ -24,7 +24,6 @@ use super::subpel::{prep_8tap_at, put_8tap_at};
 use super::w_mask::w_mask_at;
 use super::warp::{warp_affine_8x8_at, warp_affine_8x8t_at};
 
-#[unsafe(no_mangle)]
 pub extern "C" fn hv_put_bilin_8bpc(
     dst: &mut [u8],
     dst_stride: usize,
@@ -40,7 +39,6 @@ pub extern "C" fn hv_put_bilin_8bpc(
     put_bilin_at(8, dst, dst_stride, src, src_stride, w, h, mx, my)
 }
 
-#[unsafe(no_mangle)]
 pub extern "C" fn hv_prep_bilin_8bpc(
     tmp: &mut [i16],
     tmp_stride: usize,
@@ -57,7 +55,6 @@ pub extern "C" fn hv_prep_bilin_8bpc(
     prep_bilin_at(8, tmp, tmp_stride, src, src_stride, w, h, mx, my)
 }
 
-#[unsafe(no_mangle)]
 pub extern "C" fn hv_morph_8bpc(
     dst: &mut [u8],
     dst_stride: usize,
@@ -71,7 +68,6 @@ pub extern "C" fn hv_morph_8bpc(
     morph_at(8, dst, dst_stride, alpha, beta, w, h)
 }
 
-#[unsafe(no_mangle)]
 pub extern "C" fn hv_avg_8bpc(
     dst: &mut [u8],
     dst_stride: usize,
@@ -85,7 +81,6 @@ pub extern "C" fn hv_avg_8bpc(
     avg_at(8, dst, dst_stride, tmp1, tmp2, w, h)
 }
 
-#[unsafe(no_mangle)]
 pub extern "C" fn hv_w_avg_8bpc(
     dst: &mut [u8],
     dst_stride: usize,
@@ -101,7 +96,6 @@ pub extern "C" fn hv_w_avg_8bpc(
     w_avg_at(8, dst, dst_stride, tmp1, tmp2, w, h, weight)
 }
 
-#[unsafe(no_mangle)]
 pub extern "C" fn hv_mask_8bpc(
     dst: &mut [u8],
     dst_stride: usize,
@@ -117,7 +111,6 @@ pub extern "C" fn hv_mask_8bpc(
     mask_at(8, dst, dst_stride, tmp1, tmp2, w, h, mask)
 }
 
-#[unsafe(no_mangle)]
 pub extern "C" fn hv_prep_8bpc(
     tmp: &mut [i16],
     tmp_stride: usize,
@@ -131,7 +124,6 @@ pub extern "C" fn hv_prep_8bpc(
     prep_at(8, tmp, tmp_stride, src, src_stride, w, h)
 }
 
-#[unsafe(no_mangle)]
 pub extern "C" fn hv_order_put_8bpc(
     luma_w: usize,
     luma_h: usize,
@@ -204,7 +196,6 @@ pub extern "C" fn hv_order_put_8bpc(
     )
 }
 
-#[unsafe(no_mangle)]
 pub extern "C" fn hv_order_prep_8bpc(
     luma_w: usize,
     luma_h: usize,
@@ -277,7 +268,6 @@ pub extern "C" fn hv_order_prep_8bpc(
     )
 }
 
-#[unsafe(no_mangle)]
 pub extern "C" fn hv_put_8tap_scaled_8bpc(
     dst: &mut [u8],
     dst_stride: usize,
@@ -314,7 +304,6 @@ pub extern "C" fn hv_put_8tap_scaled_8bpc(
     )
 }
 
-#[unsafe(no_mangle)]
 pub extern "C" fn hv_prep_8tap_scaled_8bpc(
     tmp: &mut [i16],
     tmp_stride: usize,
@@ -351,7 +340,6 @@ pub extern "C" fn hv_prep_8tap_scaled_8bpc(
     )
 }
 
-#[unsafe(no_mangle)]
 pub extern "C" fn hv_put_bilin_scaled_8bpc(
     dst: &mut [u8],
     dst_stride: usize,
@@ -373,7 +361,6 @@ pub extern "C" fn hv_put_bilin_scaled_8bpc(
     )
 }
 
-#[unsafe(no_mangle)]
 pub extern "C" fn hv_prep_bilin_scaled_8bpc(
     tmp: &mut [i16],
     tmp_stride: usize,
@@ -395,7 +382,6 @@ pub extern "C" fn hv_prep_bilin_scaled_8bpc(
     )
 }
 
-#[unsafe(no_mangle)]
 pub extern "C" fn hv_sad_nxn_8bpc(
     p0: &[u8],
     p0_stride: usize,
@@ -410,7 +396,6 @@ pub extern "C" fn hv_sad_nxn_8bpc(
     sad_nxn_at(8, p0, p0_stride, p1, p1_stride, w, h, sum)
 }
 
-#[unsafe(no_mangle)]
 pub extern "C" fn hv_sad_refine_mv_8bpc(
     p0: &[u8],
     p0_stride: usize,
@@ -428,7 +413,6 @@ pub extern "C" fn hv_sad_refine_mv_8bpc(
     sad_refine_mv_at(8, p0, p0_stride, p1, p1_stride, w, h, is_implicit, dx, dy)
 }
 
-#[unsafe(no_mangle)]
 pub extern "C" fn hv_put_8tap_8bpc(
     dst: &mut [u8],
     dst_stride: usize,
@@ -463,7 +447,6 @@ pub extern "C" fn hv_put_8tap_8bpc(
     )
 }
 
-#[unsafe(no_mangle)]
 pub extern "C" fn hv_prep_8tap_8bpc(
     tmp: &mut [i16],
     tmp_stride: usize,
@@ -498,7 +481,6 @@ pub extern "C" fn hv_prep_8tap_8bpc(
     )
 }
 
-#[unsafe(no_mangle)]
 pub extern "C" fn hv_w_mask_8bpc(
     dst: &mut [u8],
     dst_stride: usize,
@@ -531,7 +513,6 @@ pub extern "C" fn hv_w_mask_8bpc(
     )
 }
 
-#[unsafe(no_mangle)]
 pub extern "C" fn hv_warp_affine_8x8_8bpc(
     dst: &mut [u8],
     dst_stride: usize,
@@ -554,7 +535,6 @@ pub extern "C" fn hv_warp_affine_8x8_8bpc(
     )
 }
 
-#[unsafe(no_mangle)]
 pub extern "C" fn hv_warp_affine_8x8t_8bpc(
     tmp: &mut [i16],
     tmp_stride: usize,

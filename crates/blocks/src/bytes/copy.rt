@@ -30,7 +30,6 @@ pub fn put_rows(dst: &mut [Pixel], dst_stride: usize, src: &[Pixel], s: Stand, w
     }
 }
 
-#[unsafe(no_mangle)]
 pub extern "C" fn hv_put_8bpc(
     dst: &mut [Pixel],
     dst_stride: usize,

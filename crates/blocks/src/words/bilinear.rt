@@ -259,7 +259,6 @@ pub fn prep_bilin_rows(
     }
 }
 
-#[unsafe(no_mangle)]
 pub extern "C" fn hv_put_bilin_16bpc(
     depth: i32,
     dst: &mut [Pixel],
@@ -294,7 +293,6 @@ pub extern "C" fn hv_put_bilin_16bpc(
     number
 }
 
-#[unsafe(no_mangle)]
 pub extern "C" fn hv_prep_bilin_16bpc(
     depth: i32,
     tmp: &mut [i16],

@@ -29,7 +29,6 @@ fn blend_rows(dst: &mut [Pixel], dst_stride: usize, tmp: &[Pixel], w: usize, h: 
     }
 }
 
-#[unsafe(no_mangle)]
 pub extern "C" fn hv_blend_16bpc(
     dst: &mut [Pixel],
     dst_stride: usize,
@@ -79,7 +78,6 @@ fn morph_rows(
     }
 }
 
-#[unsafe(no_mangle)]
 pub extern "C" fn hv_morph_16bpc(
     depth: i32,
     dst: &mut [Pixel],

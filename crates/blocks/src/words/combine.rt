@@ -37,7 +37,6 @@ fn avg_rows(
     }
 }
 
-#[unsafe(no_mangle)]
 pub extern "C" fn hv_avg_16bpc(
     depth: i32,
     dst: &mut [Pixel],
@@ -93,7 +92,6 @@ fn w_avg_rows(
     }
 }
 
-#[unsafe(no_mangle)]
 pub extern "C" fn hv_w_avg_16bpc(
     depth: i32,
     dst: &mut [Pixel],
@@ -160,7 +158,6 @@ pub fn mask_rows(
     }
 }
 
-#[unsafe(no_mangle)]
 pub extern "C" fn hv_mask_16bpc(
     depth: i32,
     dst: &mut [Pixel],

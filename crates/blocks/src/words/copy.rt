@@ -29,7 +29,6 @@ pub fn put_rows(dst: &mut [Pixel], dst_stride: usize, src: &[Pixel], s: Stand, w
     }
 }
 
-#[unsafe(no_mangle)]
 pub extern "C" fn hv_put_16bpc(
     dst: &mut [Pixel],
     dst_stride: usize,
@@ -70,7 +69,6 @@ pub fn prep_rows(
     }
 }
 
-#[unsafe(no_mangle)]
 pub extern "C" fn hv_prep_16bpc(
     depth: i32,
     tmp: &mut [i16],

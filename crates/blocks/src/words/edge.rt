@@ -27,7 +27,6 @@ pub fn edge_rows(a: Area, dst: &mut [Pixel], dst_stride: usize, plane: &[Pixel],
     }
 }
 
-#[unsafe(no_mangle)]
 pub extern "C" fn hv_emu_edge_16bpc(
     bw: usize,
     bh: usize,

@@ -16,7 +16,6 @@ use rows::words::pixel::Pixel;
 pub mod kinds;
 pub mod run;
 
-#[unsafe(no_mangle)]
 pub extern "C" fn hv_order_put_16bpc(
     depth: i32,
     luma_w: usize,
@@ -109,7 +108,6 @@ pub extern "C" fn hv_order_put_16bpc(
     part.number
 }
 
-#[unsafe(no_mangle)]
 pub extern "C" fn hv_order_prep_16bpc(
     depth: i32,
     luma_w: usize,

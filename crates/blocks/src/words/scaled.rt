@@ -266,7 +266,6 @@ pub fn prep_bilin_scaled_rows(
     }
 }
 
-#[unsafe(no_mangle)]
 pub extern "C" fn hv_put_8tap_scaled_16bpc(
     depth: i32,
     dst: &mut [Pixel],
@@ -313,7 +312,6 @@ pub extern "C" fn hv_put_8tap_scaled_16bpc(
     number
 }
 
-#[unsafe(no_mangle)]
 pub extern "C" fn hv_prep_8tap_scaled_16bpc(
     depth: i32,
     tmp: &mut [i16],
@@ -360,7 +358,6 @@ pub extern "C" fn hv_prep_8tap_scaled_16bpc(
     number
 }
 
-#[unsafe(no_mangle)]
 pub extern "C" fn hv_put_bilin_scaled_16bpc(
     depth: i32,
     dst: &mut [Pixel],
@@ -396,7 +393,6 @@ pub extern "C" fn hv_put_bilin_scaled_16bpc(
     number
 }
 
-#[unsafe(no_mangle)]
 pub extern "C" fn hv_prep_bilin_scaled_16bpc(
     depth: i32,
     tmp: &mut [i16],

@@ -120,7 +120,6 @@ fn refine(p0: &[Pixel], p1: &[Pixel], n: Compared, is_implicit: bool) -> Offset
     offset_of(search(p0, p1, n, b))
 }
 
-#[unsafe(no_mangle)]
 pub extern "C" fn hv_sad_nxn_16bpc(
     depth: i32,
     p0: &[Pixel],
@@ -153,7 +152,6 @@ pub extern "C" fn hv_sad_nxn_16bpc(
     number
 }
 
-#[unsafe(no_mangle)]
 pub extern "C" fn hv_sad_refine_mv_16bpc(
     depth: i32,
     p0: &[Pixel],

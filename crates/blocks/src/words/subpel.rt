@@ -79,7 +79,6 @@ pub fn prep_8tap_rows(
     prep_lines(tmp, l.dst_stride, src, p, bits, d.bias, w, h);
 }
 
-#[unsafe(no_mangle)]
 pub extern "C" fn hv_put_8tap_16bpc(
     depth: i32,
     dst: &mut [Pixel],
@@ -127,7 +126,6 @@ pub extern "C" fn hv_put_8tap_16bpc(
     number
 }
 
-#[unsafe(no_mangle)]
 pub extern "C" fn hv_prep_8tap_16bpc(
     depth: i32,
     tmp: &mut [i16],

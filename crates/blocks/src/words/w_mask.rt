@@ -93,7 +93,6 @@ fn w_mask_rows(
     }
 }
 
-#[unsafe(no_mangle)]
 pub extern "C" fn hv_w_mask_16bpc(
     depth: i32,
     dst: &mut [Pixel],

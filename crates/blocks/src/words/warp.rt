@@ -151,7 +151,6 @@ pub fn warp_prep(
     warp_prep_rows(tmp, tmp_stride, &mid, warp, second, d.bias);
 }
 
-#[unsafe(no_mangle)]
 pub extern "C" fn hv_warp_affine_8x8_16bpc(
     depth: i32,
     dst: &mut [Pixel],
@@ -188,7 +187,6 @@ pub extern "C" fn hv_warp_affine_8x8_16bpc(
     number
 }
 
-#[unsafe(no_mangle)]
 pub extern "C" fn hv_warp_affine_8x8t_16bpc(
     depth: i32,
     tmp: &mut [i16],

@@ -90,7 +90,6 @@ pub fn window_part<'a>(
     pick(part, plane, scratch)
 }
 
-#[unsafe(no_mangle)]
 pub extern "C" fn hv_window_16bpc(
     luma_w: usize,
     luma_h: usize,
