@@ -1,5 +1,5 @@
 // Made from the functions of crates/blocks/src/words that take a depth, by tools/sets: change those. Each hands 8 down.
-ghost use Rattle.std.specs.Prelude.{leb, true};
+ghost use Rattle.std.specs.Prelude.{true, leb};
 ghost use Rattle.blocks.specs.Bilinear.{PutBilinAnswer, PrepBilinAnswer};
 ghost use Rattle.blocks.specs.Blend.{MorphAnswer};
 ghost use Rattle.blocks.specs.Combine.{AvgAnswer, WAvgAnswer, MaskAnswer};

@@ -15,8 +15,8 @@ loop-i-init c = search row-loop
 pub overflow_add-q : goal.overflow_add-q
 overflow_add-q c = search row-loop
 
-pub offset_bounds-tmp1-q : goal.offset_bounds-tmp1-q  -- words
-offset_bounds-tmp1-q c = search row-loop  -- words
+pub offset_bounds-tmp1-q : goal.offset_bounds-tmp1-q
+offset_bounds-tmp1-q c = search row-loop
 
 pub bounds-tmp1-q : goal.bounds-tmp1-q
 bounds-tmp1-q c = search row-loop
@@ -24,14 +24,14 @@ bounds-tmp1-q c = search row-loop
 pub overflow_add-q-in-loop-i : goal.overflow_add-q-in-loop-i
 overflow_add-q-in-loop-i c = search row-loop
 
-pub offset_bounds-tmp2-q : goal.offset_bounds-tmp2-q  -- words
-offset_bounds-tmp2-q c = search row-loop  -- words
+pub offset_bounds-tmp2-q : goal.offset_bounds-tmp2-q
+offset_bounds-tmp2-q c = search row-loop
 
 pub bounds-tmp2-q : goal.bounds-tmp2-q
 bounds-tmp2-q c = search row-loop
 
-pub offset_bounds-dst-i : goal.offset_bounds-dst-i  -- words
-offset_bounds-dst-i c = search row-loop  -- words
+pub offset_bounds-dst-i : goal.offset_bounds-dst-i
+offset_bounds-dst-i c = search row-loop
 
 pub bounds-dst-i : goal.bounds-dst-i
 bounds-dst-i c = search row-loop
