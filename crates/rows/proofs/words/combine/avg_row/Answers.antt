@@ -30,8 +30,8 @@ offset_bounds-tmp2-q c = search row-loop
 pub bounds-tmp2-q : goal.bounds-tmp2-q
 bounds-tmp2-q c = search row-loop
 
-pub offset_bounds-dst-i : goal.offset_bounds-dst-i
-offset_bounds-dst-i c = search row-loop
+pub offset_bounds-dst-i : goal.offset_bounds-dst-i  -- words
+offset_bounds-dst-i c = search row-loop  -- words
 
 pub bounds-dst-i : goal.bounds-dst-i
 bounds-dst-i c = search row-loop
