@@ -98,7 +98,7 @@ pub fn resolve_divisor_32(d: u32, recip: &[u16]) -> Divisor
     Divisor { number, y, shift }
 }
 
-pub extern "C" fn hv_resolve_divisor_32(d: u32, recip: &[u16], y: &mut i32, shift: &mut i32) -> u32
+pub fn hv_resolve_divisor_32(d: u32, recip: &[u16], y: &mut i32, shift: &mut i32) -> u32
     ensures { ◌≡◌ {A = Divisor} (record { number = result; y = y.new; shift = shift.new }) (divisor_of d recip.now) }
 {
     let r = resolve_divisor_32(d, recip);
@@ -197,7 +197,7 @@ pub fn get_shear_params(wm: WarpParams, recip: &[u16]) -> Answered
     Answered { number, warp }
 }
 
-pub extern "C" fn hv_get_shear_params(
+pub fn hv_get_shear_params(
     matrix: &mut [i32; 6],
     abcd: &mut [i16; 4],
     affine: &mut i32,
@@ -356,7 +356,7 @@ pub fn set_affine_mv2d(
     Answered { number, warp }
 }
 
-pub extern "C" fn hv_set_affine_mv2d(
+pub fn hv_set_affine_mv2d(
     bw4: i32,
     bh4: i32,
     mv_x: i32,

@@ -30,7 +30,7 @@ fn blend_rows(dst: &mut [Pixel], dst_stride: usize, tmp: &[Pixel], w: usize, h: 
     }
 }
 
-pub extern "C" fn hv_blend_8bpc(
+pub fn hv_blend_8bpc(
     dst: &mut [Pixel],
     dst_stride: usize,
     tmp: &[Pixel],

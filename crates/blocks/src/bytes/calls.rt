@@ -24,7 +24,7 @@ use super::subpel::{prep_8tap_at, put_8tap_at};
 use super::w_mask::w_mask_at;
 use super::warp::{warp_affine_8x8_at, warp_affine_8x8t_at};
 
-pub extern "C" fn hv_put_bilin_8bpc(
+pub fn hv_put_bilin_8bpc(
     dst: &mut [u8],
     dst_stride: usize,
     src: &[u8],
@@ -39,7 +39,7 @@ pub extern "C" fn hv_put_bilin_8bpc(
     put_bilin_at(8, dst, dst_stride, src, src_stride, w, h, mx, my)
 }
 
-pub extern "C" fn hv_prep_bilin_8bpc(
+pub fn hv_prep_bilin_8bpc(
     tmp: &mut [i16],
     tmp_stride: usize,
     src: &[u8],
@@ -55,7 +55,7 @@ pub extern "C" fn hv_prep_bilin_8bpc(
     prep_bilin_at(8, tmp, tmp_stride, src, src_stride, w, h, mx, my)
 }
 
-pub extern "C" fn hv_morph_8bpc(
+pub fn hv_morph_8bpc(
     dst: &mut [u8],
     dst_stride: usize,
     alpha: i32,
@@ -68,7 +68,7 @@ pub extern "C" fn hv_morph_8bpc(
     morph_at(8, dst, dst_stride, alpha, beta, w, h)
 }
 
-pub extern "C" fn hv_avg_8bpc(
+pub fn hv_avg_8bpc(
     dst: &mut [u8],
     dst_stride: usize,
     tmp1: &[i16],
@@ -81,7 +81,7 @@ pub extern "C" fn hv_avg_8bpc(
     avg_at(8, dst, dst_stride, tmp1, tmp2, w, h)
 }
 
-pub extern "C" fn hv_w_avg_8bpc(
+pub fn hv_w_avg_8bpc(
     dst: &mut [u8],
     dst_stride: usize,
     tmp1: &[i16],
@@ -96,7 +96,7 @@ pub extern "C" fn hv_w_avg_8bpc(
     w_avg_at(8, dst, dst_stride, tmp1, tmp2, w, h, weight)
 }
 
-pub extern "C" fn hv_mask_8bpc(
+pub fn hv_mask_8bpc(
     dst: &mut [u8],
     dst_stride: usize,
     tmp1: &[i16],
@@ -111,7 +111,7 @@ pub extern "C" fn hv_mask_8bpc(
     mask_at(8, dst, dst_stride, tmp1, tmp2, w, h, mask)
 }
 
-pub extern "C" fn hv_prep_8bpc(
+pub fn hv_prep_8bpc(
     tmp: &mut [i16],
     tmp_stride: usize,
     src: &[u8],
@@ -124,7 +124,7 @@ pub extern "C" fn hv_prep_8bpc(
     prep_at(8, tmp, tmp_stride, src, src_stride, w, h)
 }
 
-pub extern "C" fn hv_order_put_8bpc(
+pub fn hv_order_put_8bpc(
     luma_w: usize,
     luma_h: usize,
     ss_hor: bool,
@@ -196,7 +196,7 @@ pub extern "C" fn hv_order_put_8bpc(
     )
 }
 
-pub extern "C" fn hv_order_prep_8bpc(
+pub fn hv_order_prep_8bpc(
     luma_w: usize,
     luma_h: usize,
     ss_hor: bool,
@@ -268,7 +268,7 @@ pub extern "C" fn hv_order_prep_8bpc(
     )
 }
 
-pub extern "C" fn hv_put_8tap_scaled_8bpc(
+pub fn hv_put_8tap_scaled_8bpc(
     dst: &mut [u8],
     dst_stride: usize,
     src: &[u8],
@@ -304,7 +304,7 @@ pub extern "C" fn hv_put_8tap_scaled_8bpc(
     )
 }
 
-pub extern "C" fn hv_prep_8tap_scaled_8bpc(
+pub fn hv_prep_8tap_scaled_8bpc(
     tmp: &mut [i16],
     tmp_stride: usize,
     src: &[u8],
@@ -340,7 +340,7 @@ pub extern "C" fn hv_prep_8tap_scaled_8bpc(
     )
 }
 
-pub extern "C" fn hv_put_bilin_scaled_8bpc(
+pub fn hv_put_bilin_scaled_8bpc(
     dst: &mut [u8],
     dst_stride: usize,
     src: &[u8],
@@ -361,7 +361,7 @@ pub extern "C" fn hv_put_bilin_scaled_8bpc(
     )
 }
 
-pub extern "C" fn hv_prep_bilin_scaled_8bpc(
+pub fn hv_prep_bilin_scaled_8bpc(
     tmp: &mut [i16],
     tmp_stride: usize,
     src: &[u8],
@@ -382,7 +382,7 @@ pub extern "C" fn hv_prep_bilin_scaled_8bpc(
     )
 }
 
-pub extern "C" fn hv_sad_nxn_8bpc(
+pub fn hv_sad_nxn_8bpc(
     p0: &[u8],
     p0_stride: usize,
     p1: &[u8],
@@ -396,7 +396,7 @@ pub extern "C" fn hv_sad_nxn_8bpc(
     sad_nxn_at(8, p0, p0_stride, p1, p1_stride, w, h, sum)
 }
 
-pub extern "C" fn hv_sad_refine_mv_8bpc(
+pub fn hv_sad_refine_mv_8bpc(
     p0: &[u8],
     p0_stride: usize,
     p1: &[u8],
@@ -413,7 +413,7 @@ pub extern "C" fn hv_sad_refine_mv_8bpc(
     sad_refine_mv_at(8, p0, p0_stride, p1, p1_stride, w, h, is_implicit, dx, dy)
 }
 
-pub extern "C" fn hv_put_8tap_8bpc(
+pub fn hv_put_8tap_8bpc(
     dst: &mut [u8],
     dst_stride: usize,
     src: &[u8],
@@ -447,7 +447,7 @@ pub extern "C" fn hv_put_8tap_8bpc(
     )
 }
 
-pub extern "C" fn hv_prep_8tap_8bpc(
+pub fn hv_prep_8tap_8bpc(
     tmp: &mut [i16],
     tmp_stride: usize,
     src: &[u8],
@@ -481,7 +481,7 @@ pub extern "C" fn hv_prep_8tap_8bpc(
     )
 }
 
-pub extern "C" fn hv_w_mask_8bpc(
+pub fn hv_w_mask_8bpc(
     dst: &mut [u8],
     dst_stride: usize,
     tmp1: &[i16],
@@ -513,7 +513,7 @@ pub extern "C" fn hv_w_mask_8bpc(
     )
 }
 
-pub extern "C" fn hv_warp_affine_8x8_8bpc(
+pub fn hv_warp_affine_8x8_8bpc(
     dst: &mut [u8],
     dst_stride: usize,
     src: &[u8],
@@ -535,7 +535,7 @@ pub extern "C" fn hv_warp_affine_8x8_8bpc(
     )
 }
 
-pub extern "C" fn hv_warp_affine_8x8t_8bpc(
+pub fn hv_warp_affine_8x8t_8bpc(
     tmp: &mut [i16],
     tmp_stride: usize,
     src: &[u8],

@@ -30,7 +30,7 @@ pub fn put_rows(dst: &mut [Pixel], dst_stride: usize, src: &[Pixel], s: Stand, w
     }
 }
 
-pub extern "C" fn hv_put_8bpc(
+pub fn hv_put_8bpc(
     dst: &mut [Pixel],
     dst_stride: usize,
     src: &[Pixel],

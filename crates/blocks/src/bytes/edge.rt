@@ -28,7 +28,7 @@ pub fn edge_rows(a: Area, dst: &mut [Pixel], dst_stride: usize, plane: &[Pixel],
     }
 }
 
-pub extern "C" fn hv_emu_edge_8bpc(
+pub fn hv_emu_edge_8bpc(
     bw: usize,
     bh: usize,
     iw: usize,

@@ -91,7 +91,7 @@ pub fn window_part<'a>(
     pick(part, plane, scratch)
 }
 
-pub extern "C" fn hv_window_8bpc(
+pub fn hv_window_8bpc(
     luma_w: usize,
     luma_h: usize,
     ss_hor: bool,

@@ -259,7 +259,7 @@ pub fn prep_bilin_rows(
     }
 }
 
-pub extern "C" fn hv_put_bilin_16bpc(
+pub fn hv_put_bilin_16bpc(
     depth: i32,
     dst: &mut [Pixel],
     dst_stride: usize,
@@ -293,7 +293,7 @@ pub extern "C" fn hv_put_bilin_16bpc(
     number
 }
 
-pub extern "C" fn hv_prep_bilin_16bpc(
+pub fn hv_prep_bilin_16bpc(
     depth: i32,
     tmp: &mut [i16],
     tmp_stride: usize,

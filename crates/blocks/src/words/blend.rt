@@ -29,7 +29,7 @@ fn blend_rows(dst: &mut [Pixel], dst_stride: usize, tmp: &[Pixel], w: usize, h: 
     }
 }
 
-pub extern "C" fn hv_blend_16bpc(
+pub fn hv_blend_16bpc(
     dst: &mut [Pixel],
     dst_stride: usize,
     tmp: &[Pixel],
@@ -78,7 +78,7 @@ fn morph_rows(
     }
 }
 
-pub extern "C" fn hv_morph_16bpc(
+pub fn hv_morph_16bpc(
     depth: i32,
     dst: &mut [Pixel],
     dst_stride: usize,

@@ -37,7 +37,7 @@ fn avg_rows(
     }
 }
 
-pub extern "C" fn hv_avg_16bpc(
+pub fn hv_avg_16bpc(
     depth: i32,
     dst: &mut [Pixel],
     dst_stride: usize,
@@ -92,7 +92,7 @@ fn w_avg_rows(
     }
 }
 
-pub extern "C" fn hv_w_avg_16bpc(
+pub fn hv_w_avg_16bpc(
     depth: i32,
     dst: &mut [Pixel],
     dst_stride: usize,
@@ -158,7 +158,7 @@ pub fn mask_rows(
     }
 }
 
-pub extern "C" fn hv_mask_16bpc(
+pub fn hv_mask_16bpc(
     depth: i32,
     dst: &mut [Pixel],
     dst_stride: usize,

@@ -29,7 +29,7 @@ pub fn put_rows(dst: &mut [Pixel], dst_stride: usize, src: &[Pixel], s: Stand, w
     }
 }
 
-pub extern "C" fn hv_put_16bpc(
+pub fn hv_put_16bpc(
     dst: &mut [Pixel],
     dst_stride: usize,
     src: &[Pixel],
@@ -69,7 +69,7 @@ pub fn prep_rows(
     }
 }
 
-pub extern "C" fn hv_prep_16bpc(
+pub fn hv_prep_16bpc(
     depth: i32,
     tmp: &mut [i16],
     tmp_stride: usize,

@@ -16,7 +16,7 @@ use rows::words::pixel::Pixel;
 pub mod kinds;
 pub mod run;
 
-pub extern "C" fn hv_order_put_16bpc(
+pub fn hv_order_put_16bpc(
     depth: i32,
     luma_w: usize,
     luma_h: usize,
@@ -108,7 +108,7 @@ pub extern "C" fn hv_order_put_16bpc(
     part.number
 }
 
-pub extern "C" fn hv_order_prep_16bpc(
+pub fn hv_order_prep_16bpc(
     depth: i32,
     luma_w: usize,
     luma_h: usize,

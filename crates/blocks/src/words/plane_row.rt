@@ -16,7 +16,7 @@ pub fn row_part(lent: Reference, plane: &[Pixel], row: i64) -> &[Pixel]
     pick(part, plane, &plane[0..0])
 }
 
-pub extern "C" fn hv_row_16bpc(
+pub fn hv_row_16bpc(
     luma_w: usize,
     luma_h: usize,
     ss_hor: bool,

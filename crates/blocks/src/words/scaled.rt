@@ -266,7 +266,7 @@ pub fn prep_bilin_scaled_rows(
     }
 }
 
-pub extern "C" fn hv_put_8tap_scaled_16bpc(
+pub fn hv_put_8tap_scaled_16bpc(
     depth: i32,
     dst: &mut [Pixel],
     dst_stride: usize,
@@ -312,7 +312,7 @@ pub extern "C" fn hv_put_8tap_scaled_16bpc(
     number
 }
 
-pub extern "C" fn hv_prep_8tap_scaled_16bpc(
+pub fn hv_prep_8tap_scaled_16bpc(
     depth: i32,
     tmp: &mut [i16],
     tmp_stride: usize,
@@ -358,7 +358,7 @@ pub extern "C" fn hv_prep_8tap_scaled_16bpc(
     number
 }
 
-pub extern "C" fn hv_put_bilin_scaled_16bpc(
+pub fn hv_put_bilin_scaled_16bpc(
     depth: i32,
     dst: &mut [Pixel],
     dst_stride: usize,
@@ -393,7 +393,7 @@ pub extern "C" fn hv_put_bilin_scaled_16bpc(
     number
 }
 
-pub extern "C" fn hv_prep_bilin_scaled_16bpc(
+pub fn hv_prep_bilin_scaled_16bpc(
     depth: i32,
     tmp: &mut [i16],
     tmp_stride: usize,

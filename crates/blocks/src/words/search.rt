@@ -120,7 +120,7 @@ fn refine(p0: &[Pixel], p1: &[Pixel], n: Compared, is_implicit: bool) -> Offset
     offset_of(search(p0, p1, n, b))
 }
 
-pub extern "C" fn hv_sad_nxn_16bpc(
+pub fn hv_sad_nxn_16bpc(
     depth: i32,
     p0: &[Pixel],
     p0_stride: usize,
@@ -152,7 +152,7 @@ pub extern "C" fn hv_sad_nxn_16bpc(
     number
 }
 
-pub extern "C" fn hv_sad_refine_mv_16bpc(
+pub fn hv_sad_refine_mv_16bpc(
     depth: i32,
     p0: &[Pixel],
     p0_stride: usize,

@@ -79,7 +79,7 @@ pub fn prep_8tap_rows(
     prep_lines(tmp, l.dst_stride, src, p, bits, d.bias, w, h);
 }
 
-pub extern "C" fn hv_put_8tap_16bpc(
+pub fn hv_put_8tap_16bpc(
     depth: i32,
     dst: &mut [Pixel],
     dst_stride: usize,
@@ -126,7 +126,7 @@ pub extern "C" fn hv_put_8tap_16bpc(
     number
 }
 
-pub extern "C" fn hv_prep_8tap_16bpc(
+pub fn hv_prep_8tap_16bpc(
     depth: i32,
     tmp: &mut [i16],
     tmp_stride: usize,

@@ -93,7 +93,7 @@ fn w_mask_rows(
     }
 }
 
-pub extern "C" fn hv_w_mask_16bpc(
+pub fn hv_w_mask_16bpc(
     depth: i32,
     dst: &mut [Pixel],
     dst_stride: usize,

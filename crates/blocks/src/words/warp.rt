@@ -151,7 +151,7 @@ pub fn warp_prep(
     warp_prep_rows(tmp, tmp_stride, &mid, warp, second, d.bias);
 }
 
-pub extern "C" fn hv_warp_affine_8x8_16bpc(
+pub fn hv_warp_affine_8x8_16bpc(
     depth: i32,
     dst: &mut [Pixel],
     dst_stride: usize,
@@ -187,7 +187,7 @@ pub extern "C" fn hv_warp_affine_8x8_16bpc(
     number
 }
 
-pub extern "C" fn hv_warp_affine_8x8t_16bpc(
+pub fn hv_warp_affine_8x8t_16bpc(
     depth: i32,
     tmp: &mut [i16],
     tmp_stride: usize,

@@ -90,7 +90,7 @@ pub fn window_part<'a>(
     pick(part, plane, scratch)
 }
 
-pub extern "C" fn hv_window_16bpc(
+pub fn hv_window_16bpc(
     luma_w: usize,
     luma_h: usize,
     ss_hor: bool,
