@@ -8,56 +8,59 @@ abbrev named : tie.Start → LentPlane
 named c = lent_of c.args.lent []
 
 -- what the first part answers
-shape : (c : tie.After-order-shape) → let s = c.before in
-    c.order-shape.result ≡ lowest (shape_tests (named s) s.args.o s.args.dst-stride)
-shape c = c.order-shape.ensures
+shape : (c : tie.After-order_shape-shape) → c.order_shape-shape.result ≡ lowest (shape_tests (named c.before) c.args.o c.args.dst_stride)
+shape c = c.order_shape-shape.ensures
 
-none : (c : tie.Else1) → let s = c.before.before in lowest (shape_tests (named s) s.args.o s.args.dst-stride) ≡ 0
-none c = sym (shape c.before) ∙ c.if1.false
+none : (c : tie.Else-shape-ne0) → lowest (shape_tests (named c.before.before) c.args.o c.args.dst_stride) ≡ 0
+none c = sym (shape c.before) ∙ c.if-shape-ne0.false
 
 -- and the second
-numbers : (c : tie.After-order-numbers) → let s = c.before.before.before.before.before in
-    c.order-numbers.result ≡ lowest (number_tests s.args.deep s.args.named (named s) s.args.o)
+numbers : (c : tie.After-order_numbers-numbers) → c.order_numbers-numbers.result ≡ lowest (number_tests c.args.deep c.args.named (named c.before.before.before.before.before) c.args.o)
 numbers c =
-    let g = c.before.before.struct_told.given in
-    rw (told_back w64 g, told_back w64 g.1) at c.order-numbers.ensures
+    let g = c.struct_told-1.given in
+    rw (told_back w64 g, told_back w64 g.1) at c.order_numbers-numbers.ensures
 
-no_number : (c : tie.Else2) → let s = c.before.before.before.before.before.before in
-    lowest (number_tests s.args.deep s.args.named (named s) s.args.o) ≡ 0
-no_number c = sym (numbers c.before) ∙ c.if2.false
+no_number : (c : tie.Else-numbers-ne0) → lowest (number_tests c.args.deep c.args.named (named c.before.before.before.before.before.before) c.args.o) ≡ 0
+no_number c = sym (numbers c.before) ∙ c.if-numbers-ne0.false
 
 -- what is tested: a setting of any depth, plane and tables of the lengths that are handed
 abbrev tested : tie.Start → (depth : ℕ) (plane : List ℕ) → Tables → Setting
 tested c depth plane t = setting_of c.args.deep depth c.args.lent plane t
 
-returns : tie.Need-returns
-returns c depth plane tables l t =
+returns-then-shape-ne0 : tie.Need-returns-then-shape-ne0
+returns-then-shape-ne0 c depth plane tables l t =
     let e = shape c.before in
-    e ∙ shape_stop (tested c.before.before depth plane tables) _ _ _ _ _ (λ q. c.if1.true (e ∙ q))
+    e ∙ shape_stop (tested c.before.before depth plane tables) _ _ _ _ _ (λ q. c.if-shape-ne0.true (e ∙ q))
 
-returns-2 : tie.Need-returns-2
-returns-2 c depth plane tables l t =
-    let e = numbers c.before in let n = c.before.before.before.before in
-    e ∙ numbers_stop (tested n.before.before depth plane tables) _ _ _ _ _ (none n) (λ q. c.if2.true (e ∙ q))
+returns-then-numbers-ne0 : tie.Need-returns-then-numbers-ne0
+returns-then-numbers-ne0 c depth plane tables l t =
+    let e = numbers c.before in e ∙ numbers_stop (tested c.before.before.before.before.before.before depth plane tables) _ _ _ _ _ (none c.before.before.before.before) (λ q. c.if-numbers-ne0.true (e ∙ q))
 
-window-held-requires : tie.Need-window-held-requires
-window-held-requires c κs =
-    let e = c.before.before.before.before.before.before in let s = e.before.before in
-    let b = shape_block (shape_met (named s) s.args.o _ (none e)) in
+window_held-buffers-requires : tie.Need-window_held-buffers-requires
+window_held-buffers-requires c κs =
+    let b = shape_block (shape_met (named c.before.before.before.before.before.before.before.before) c.args.o _ (none c.before.before.before.before.before.before)) in
     (b.w64, b.h64)
 
-order-tables-requires : tie.Need-order-tables-requires
-order-tables-requires c κs =
-    let e = c.before.before.before in let s = e.before.before.before.before.before.before in
-    (numbers_met _ _ (named s) s.args.o (no_number e)).motion
+order_tables-requires : tie.Need-order_tables-requires
+order_tables-requires c κs =
+    (numbers_met _ _ (named c.before.before.before.before.before.before.before.before.before) c.args.o (no_number c.before.before.before)).motion
 
-returns-3 : tie.Need-returns-3
-returns-3 c depth plane tables l t =
-    let h = c.before.before.before in let n = h.before in let e = n.before.before.before.before in
-    rw (c.order-tables.ensures, c.before.window-held.ensures, c.before.before.kind-number.ensures, h.held.ensures, ← l, ← t)
-    (order_go (tested e.before.before depth plane tables) _ _ _ _ _ (none e) (no_number n))
+returns : tie.Need-returns
+returns c depth plane tables l t =
+    rw (c.order_tables.ensures, c.window_held-buffers.ensures, c.kind_number-n.ensures, c.held-written.ensures, ← l, ← t)
+    (order_go (tested c.before.before.before.before.before.before.before.before.before.before depth plane tables) _ _ _ _ _ (none c.before.before.before.before.before.before.before.before) (no_number c.before.before.before.before))
 
-pub check-order-spec : {M : Type 1} → Rattle.blocks.proofs.order.check_order.Statement.statement M
-check-order-spec = tie.close (tie.spec
-    (λ c κs. search rules) returns (λ c κs. search rules) returns-2 (λ c κs. search rules)  -- order-shape, order-numbers, held
-    (λ c κs. search rules) window-held-requires order-tables-requires returns-3)  -- kind-number
+pub check_order_spec : {M : Type 1} → Rattle.blocks.proofs.order.check_order.Statement.statement M
+check_order_spec =
+    tie.close
+    (tie.spec
+    (λ c κs. search rules)
+    returns-then-shape-ne0
+    (λ c κs. search rules)
+    returns-then-numbers-ne0
+    (λ c κs. search rules)
+    (λ c κs. search rules)
+    window_held-buffers-requires
+    order_tables-requires
+    returns
+    )

@@ -5,29 +5,37 @@ use Rattle.blocks.proofs.Laws.Window.Rows.{row-there}
 use Rattle.blocks.proofs.plane_row.row_at.Tie as tie
 
 -- what the check answered is the number of the contract, of every plane of as many places
-is : (c : tie.After-check-row) (plane : List ℕ) → let a = c.before.args in length plane ≡ a.pl
-    → c.check-row.result ≡ lowest (row_tests (lent_of a.lent plane) a.row)
-is c plane l = rw (back c.before.ranges.row) at (c.check-row.ensures plane l)
+is : (c : tie.After-check_row-number) (plane : List ℕ) → let a = c.args in length plane ≡ a.pl
+    → c.check_row-number.result ≡ lowest (row_tests (lent_of a.lent plane) a.row)
+is c plane l = rw (back c.ranges.row) at (c.check_row-number.ensures plane l)
 
-row_is : (c : tie.After-up64) → c.up64.result ≡ up c.before.before.before.before.args.row
-row_is c = c.up64.ensures ∙ ap up (back c.before.before.before.before.ranges.row)
+row_is : (c : tie.After-up64) → c.up64.result ≡ up c.args.row
+row_is c = c.up64.ensures ∙ ap up (back c.ranges.row)
+
+returns-then-number-ne0 : tie.Need-returns-then-number-ne0
+unfolding row_at
+returns-then-number-ne0 c plane l = no_part_of _ (is c.before.before plane l) c.if-number-ne0.true c.no_part.ensures
+
+overflow_mul-place : tie.Need-overflow_mul-place
+overflow_mul-place c =
+    let a = c.args in
+    let (some, l) = plane_of_lem a.pl in
+    rw (row_is c) (omega (arith, l, row-there (lent_of a.lent some) a.row (sym (is c.before.before.before some l) ∙ c.if-number-ne0.false)))
 
 returns : tie.Need-returns
 unfolding row_at
-returns c plane l = let t = c.before in no_part_of _ (is t.before plane l) t.if1.true c.no_part.ensures
+returns c plane l =
+    rw (row_is c.before, c.plane_w-len.ensures) (sym (done _ _ _ (sym (is c.before.before.before.before plane l) ∙ c.if-number-ne0.false)))
 
-mul-place : tie.Need-overflow-mul-place
-mul-place c =
-    let e = c.before.before in let a = e.before.before.args in
-    let (some, l) = plane_of_lem a.pl in
-    rw (row_is c) (omega (arith, l, row-there (lent_of a.lent some) a.row (sym (is e.before some l) ∙ e.if1.false)))
-
-returns-2 : tie.Need-returns-2
-unfolding row_at
-returns-2 c plane l =
-    let e = c.before.before.before in
-    rw (row_is c.before, c.plane-w.ensures) (sym (done _ _ _ (sym (is e.before plane l) ∙ e.if1.false)))
-
-pub row-at-spec : {M : Type 1} → Rattle.blocks.proofs.plane_row.row_at.Statement.statement M
-row-at-spec = tie.close (tie.spec (λ c κs. search rules) (λ c κs. search rules) returns (λ c κs. search rules) mul-place  -- check-row, no_part, up64
-    (λ c κs. search rules) returns-2)  -- plane-w
+pub row_at_spec : {M : Type 1} → Rattle.blocks.proofs.plane_row.row_at.Statement.statement M
+row_at_spec =
+    tie.close
+    (tie.spec
+    (λ c κs. search rules)
+    (λ c κs. search rules)
+    returns-then-number-ne0
+    (λ c κs. search rules)
+    overflow_mul-place
+    (λ c κs. search rules)
+    returns
+    )

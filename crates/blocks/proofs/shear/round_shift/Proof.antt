@@ -23,40 +23,51 @@ quotient k n h f = let m = n + 1 * 2 ^ (k - 1) % 18446744073709551616 in omega (
 is : (k n : ℕ) → k ≤ 40 → n < 2 ^ 62 → to_z w64 ((n + 1 * 2 ^ (k - 1) % 18446744073709551616) / 2 ^ k) ≡ pos ((n + 2 ^ (k - 1)) / 2 ^ k)
 is k n h f = backn w64 _ (quotient k n h f) ∙ ap (λ (x : ℕ). pos ((n + x) / 2 ^ k)) (one k h)
 
-abs : (c : tie.After-abs64) → c.abs64.result ≡ nat_abs c.before.args.v
-abs c = rw (back c.before.ranges.v) at c.abs64.ensures
+abs : (c : tie.After-abs64) → c.abs64.result ≡ nat_abs c.args.v
+abs c = rw (back c.ranges.v) at c.abs64.ensures
 
 small : (c : tie.After-abs64) → c.abs64.result < 2 ^ 62
-small c = omega (arith, abs c, c.before.requires)
+small c = omega (arith, abs c, c.requires)
 
-cut : (c : tie.After-keep32) → let v = c.before.before.args.v in let k = c.before.before.args.k in
-    c.keep32.result ≡ low32 (pos ((nat_abs v + 2 ^ (k - 1)) / 2 ^ k))
+cut : (c : tie.After-keep32-q) → let v = c.args.v in let k = c.args.k in
+    c.keep32-q.result ≡ low32 (pos ((nat_abs v + 2 ^ (k - 1)) / 2 ^ k))
 cut c =
-    let k = c.before.before.args.k in
-    let q = is k c.before.abs64.result (omega (arith, c.before.before.requires)) (small c.before) in
-    c.keep32.ensures ∙ ap low32 (q ∙ ap (λ (x : ℕ). pos ((x + 2 ^ (k - 1)) / 2 ^ k)) (abs c.before))
+    let k = c.args.k in
+    let q = is k c.abs64.result (omega (arith, c.requires)) (small c.before) in
+    c.keep32-q.ensures ∙ ap low32 (q ∙ ap (λ (x : ℕ). pos ((x + 2 ^ (k - 1)) / 2 ^ k)) (abs c.before))
 
-returns : tie.Need-returns
+returns-then-v-lt0 : tie.Need-returns-then-v-lt0
 unfolding g
-returns c =
-    let q = c.before.before in
-    let s = q.before.before in
-    let f : SFits w32 c.wrapping-neg32.result = omega arith in
-    let h : SFits w32 q.keep32.result = omega arith in
-    rw (rw (back s.ranges.v) at c.before.if1.true, back f, c.wrapping-neg32.ensures, back h, cut q)
+returns-then-v-lt0 c =
+    let f : SFits w32 c.wrapping_neg32.result = omega arith in
+    let h : SFits w32 c.keep32-q.result = omega arith in
+    rw (rw (back c.ranges.v) at c.if-v-lt0.true, back f, c.wrapping_neg32.ensures, back h, cut c.before.before)
 
-returns-2 : tie.Need-returns-2
+returns-else-v-lt0 : tie.Need-returns-else-v-lt0
 unfolding g
-returns-2 c =
-    let q = c.before in
-    let s = q.before.before in
-    let h : SFits w32 q.keep32.result = omega arith in
-    rw (rw (back s.ranges.v) at c.if1.false, back h, cut q)
+returns-else-v-lt0 c =
+    let h : SFits w32 c.keep32-q.result = omega arith in
+    rw (rw (back c.ranges.v) at c.if-v-lt0.false, back h, cut c.before)
 
-pub round-shift-spec : {M : Type 1} → Rattle.blocks.proofs.shear.round_shift.Statement.statement M
-round-shift-spec = tie.close (tie.spec
-    (λ c κs. search rules) (λ c. search rules) (λ c. search rules) (λ c. search rules)  -- abs64, sub-keep32, cast-keep32, shl-keep32
-    (λ c. let p = c.before.requires in omega (arith, sum c.before.args.k c.abs64.result p.2 (small c)))  -- add-keep32
-    (λ c. search rules)  -- shr-keep32
-    (λ c. let p = c.before.requires in fit w64 (quotient c.before.args.k c.abs64.result p.2 (small c)))  -- cast-keep32-2
-    (λ c κs. search rules) (λ c κs. search rules) returns returns-2)  -- keep32, wrapping-neg32
+overflow_add-abs64 : tie.Need-overflow_add-abs64
+overflow_add-abs64 c = let p = c.requires in omega (arith, sum c.args.k c.abs64.result p.2 (small c))
+
+overflow_cast-abs64 : tie.Need-overflow_cast-abs64
+overflow_cast-abs64 c = let p = c.requires in fit w64 (quotient c.args.k c.abs64.result p.2 (small c))
+
+pub round_shift_spec : {M : Type 1} → Rattle.blocks.proofs.shear.round_shift.Statement.statement M
+round_shift_spec =
+    tie.close
+    (tie.spec
+    (λ c κs. search rules)
+    (λ c. search rules)
+    (λ c. search rules)
+    (λ c. search rules)
+    overflow_add-abs64
+    (λ c. search rules)
+    overflow_cast-abs64
+    (λ c κs. search rules)
+    (λ c κs. search rules)
+    returns-then-v-lt0
+    returns-else-v-lt0
+    )

@@ -7,115 +7,186 @@ use Rattle.blocks.proofs.Laws.Loops.Groups.{Grouped, HoldsRows, holds-first, fil
 use Rattle.blocks.proofs.Laws.Bilinear.Both.{first_mid, first-held, put-held, Eight, bilin_group, rows_within, row_pairs, first_pairs, second_pairs}
 use Rattle.blocks.proofs.bytes.bilinear.put_bilin_both.Tie as tie
 
-abbrev invariant-loop : tie.invariant-loop
-invariant-loop d dst₀ ds src s w h f g b by mid₀ y₀ dst mid y =
+abbrev invariant-loop-y : tie.invariant-loop-y
+invariant-loop-y d dst₀ ds src s w h f g b by mid₀ y₀ dst mid y =
     Grouped 1 576 ds w (λ i j. put_bilin d.max b f g (around_in 0 src s i j)) (first_mid (4 - b) f src s) dst₀ h dst mid y
 
-abbrev decreases-loop : tie.decreases-loop
-decreases-loop d dst₀ ds src s w h f g b by mid₀ y₀ dst mid y = h - y
+abbrev decreases-loop-y : tie.decreases-loop-y
+decreases-loop-y d dst₀ ds src s w h f g b by mid₀ y₀ dst mid y = h - y
 
--- from a turn of the loop that knows how many rows it makes: the function's entry, and B as the rows take it
-abbrev entry : tie.After-eight-at-most invariant-loop decreases-loop → tie.Start invariant-loop decreases-loop
-entry k = k.before.before.before.before.before.before.before.before.before
+abbrev bits : tie.After-eight_at_most-k invariant-loop-y decreases-loop-y → ℕ
+bits k = k.bits_of-b.result
 
-abbrev bits : tie.After-eight-at-most invariant-loop decreases-loop → ℕ
-bits k = k.before.before.before.before.before.before.bits_of.result
+few : (k : tie.After-eight_at_most-k invariant-loop-y decreases-loop-y) → bits k ≤ 4
+few k = omega (arith, k.bits_of-b.ensures, k.requires.3)
 
-few : (k : tie.After-eight-at-most invariant-loop decreases-loop) → bits k ≤ 4
-few k = omega (arith, k.before.before.before.before.before.before.bits_of.ensures, (entry k).requires.3)
-
-turn : (k : tie.After-eight-at-most invariant-loop decreases-loop) → let a = (entry k).args in
-    Eight (length a.dst.now) a.ds a.w a.h k.before.before.loop.y k.eight-at-most.result
-turn k = let p = (entry k).requires in bilin_group p.0 p.1 p.2 _ _ k.before.loop-test.true k.eight-at-most.ensures
+turn : (k : tie.After-eight_at_most-k invariant-loop-y decreases-loop-y) → let a = k.args in
+    Eight (length a.dst.now) a.ds a.w a.h k.loop-y.y k.eight_at_most-k.result
+turn k = let p = k.requires in bilin_group p.0 p.1 p.2 _ _ k.loop-y-test.true k.eight_at_most-k.ensures
 
 -- the turn's rows, and the one after them, begin within the source
-within : (k : tie.After-eight-at-most invariant-loop decreases-loop) (r : ℕ) → let a = (entry k).args in r < k.before.before.loop.y + (1 + k.eight-at-most.result)
+within : (k : tie.After-eight_at_most-k invariant-loop-y decreases-loop-y) (r : ℕ) → let a = k.args in r < k.loop-y.y + (1 + k.eight_at_most-k.result)
     → StoodRow (length a.src.now) a.s (a.w + 1) r
-within k r lt = let p = (entry k).requires in rows_within p.0 p.1 p.2 r (omega (arith, turn k))
+within k r lt = let p = k.requires in rows_within p.0 p.1 p.2 r (omega (arith, turn k))
 
 -- the row that a turn's first pass begins with
-next : (k : tie.After-eight-at-most invariant-loop decreases-loop) → let a = (entry k).args in StoodRow (length a.src.now) a.s (a.w + 1) (k.before.before.loop.y + 1)
+next : (k : tie.After-eight_at_most-k invariant-loop-y decreases-loop-y) → let a = k.args in StoodRow (length a.src.now) a.s (a.w + 1) (k.loop-y.y + 1)
 next k = within k _ (omega (arith, turn k))
 
 -- the array after a turn's first pass: as long as it was, and with the rows that the second reads
-made : (f : tie.After-prep-bilin-axis2 invariant-loop decreases-loop) → let k = f.before.before.before in let a = (entry k).args in let l = k.before.before.loop in
-    let m = splice l.mid 64 576 f.prep-bilin-axis2.new.0 in
-    (length m ≡ 576) × HoldsRows a.w (first_mid (4 - bits k) a.f a.src.now a.s) m l.y (1 + k.eight-at-most.result)
+made : (f : tie.After-prep_bilin_axis-in-loop-y invariant-loop-y decreases-loop-y) → let a = f.args in let l = f.loop-y in
+    let m = splice l.mid 64 576 f.prep_bilin_axis-in-loop-y.new.tmp in
+    (length m ≡ 576) × HoldsRows a.w (first_mid (4 - bits f.before.before.before) a.f a.src.now a.s) m l.y (1 + f.eight_at_most-k.result)
 made f =
-    let k = f.before.before.before in let a = (entry k).args in let i = k.before.before.loop.invariant in
-    first-held (4 - bits k) a.f a.src.now a.s k.eight-at-most.result (entry k).requires.0.block.w64 (turn k).most i.long
-    (next k).before (i.rows k.before.loop-test.true) (rw f.before.before.rows-from.ensures at f.prep-bilin-axis2.ensures)
+    let a = f.args in let i = f.loop-y.invariant in
+    first-held (4 - bits f.before.before.before) a.f a.src.now a.s f.eight_at_most-k.result f.requires.0.block.w64 (turn f.before.before.before).most i.long
+    (next f.before.before.before).before (i.rows f.loop-y-test.true) (rw f.rows_from-next.ensures at f.prep_bilin_axis-in-loop-y.ensures)
 
 -- the destination after its second
-written : (m : tie.After-mid-bilin-rows invariant-loop decreases-loop) → let k = m.before.before.before.before.before.before.before in let a = (entry k).args in
-    let l = k.before.before.loop in let y = l.y in let n = k.eight-at-most.result in
-    Filled a.ds a.w (λ i j. put_bilin a.d.max (bits k) a.f a.g (around_in 0 a.src.now a.s i j)) a.dst.now a.h (y + n)
-    (splice l.dst (y * a.ds) (y * a.ds + (n - 1) * a.ds + a.w) m.mid-bilin-rows.new.0)
+written : (m : tie.After-mid_bilin_rows invariant-loop-y decreases-loop-y) → let a = m.args in
+    let l = m.loop-y in let y = l.y in let n = m.eight_at_most-k.result in
+    Filled a.ds a.w (λ i j. put_bilin a.d.max (bits m.before.before.before.before.before.before.before) a.f a.g (around_in 0 a.src.now a.s i j)) a.dst.now a.h (y + n)
+    (splice l.dst (y * a.ds) (y * a.ds + (n - 1) * a.ds + a.w) m.mid_bilin_rows.new.dst)
 written m =
-    let k = m.before.before.before.before.before.before.before in let a = (entry k).args in let p = (entry k).requires in
-    let t = turn k in let n = k.eight-at-most.result in
-    filled_group 0 k.before.before.loop.invariant.dst p.0.dst p.0.block.w1 n t.some t.left _
-    (λ i j u v. put-held (bits k) a.f a.src.now a.s n (made m.before.before.before.before).1 (λ r lt. (within k r lt).before) p.1 p.2
+    let a = m.args in let p = m.requires in
+    let t = turn m.before.before.before.before.before.before.before in let n = m.eight_at_most-k.result in
+    filled_group 0 m.loop-y.invariant.dst p.0.dst p.0.block.w1 n t.some t.left _
+    (λ i j u v. put-held (bits m.before.before.before.before.before.before.before) a.f a.src.now a.s n (made m.before.before.before.before).1 (λ r lt. (within m.before.before.before.before.before.before.before r lt).before) p.1 p.2
     i j u v a.d.max)
-    _ refl _ m.mid-bilin-rows.ensures
+    _ refl _ m.mid_bilin_rows.ensures
 
-first-requires : tie.Need-prep-bilin-axis-requires invariant-loop decreases-loop
-first-requires c κs = let p = c.before.before.before.before.requires in (row_pairs p.0 p.1 p.2 _ _ (omega arith) (omega arith), omega arith)
+prep_bilin_axis-requires : tie.Need-prep_bilin_axis-requires invariant-loop-y decreases-loop-y
+prep_bilin_axis-requires c κs = let p = c.requires in (row_pairs p.0 p.1 p.2 _ _ (omega arith) (omega arith), omega arith)
 
-first-requires-2 : tie.Need-prep-bilin-axis-requires-2 invariant-loop decreases-loop
-first-requires-2 c κs =
-    let o = c.before in let k = o.before in let p = (entry k).requires in let l = k.before.before.loop in
-    rw o.rows-from.ensures (first_pairs p.0 (turn k) _ (omega arith) l.mid l.invariant.long p.1 p.2, omega arith)
+prep_bilin_axis-requires-in-loop-y : tie.Need-prep_bilin_axis-requires-in-loop-y invariant-loop-y decreases-loop-y
+prep_bilin_axis-requires-in-loop-y c κs =
+    let p = c.requires in let l = c.loop-y in
+    rw c.rows_from-next.ensures (first_pairs p.0 (turn c.before.before) _ (omega arith) l.mid l.invariant.long p.1 p.2, omega arith)
 
-second-requires : tie.Need-mid-bilin-rows-requires invariant-loop decreases-loop
-second-requires c κs =
-    let k = c.before.before.before.before.before.before in let s = entry k in let i = k.before.before.loop.invariant in
-    (second_pairs s.pre.0 (turn k) _ (omega (arith, few k)) 0 _ i.dst.len refl (made c.before.before.before).0, s.pre.4)
+mid_bilin_rows-requires : tie.Need-mid_bilin_rows-requires invariant-loop-y decreases-loop-y
+mid_bilin_rows-requires c κs =
+    let i = c.loop-y.invariant in
+    (second_pairs c.requires.0 (turn c.before.before.before.before.before.before) _ (omega (arith, few c.before.before.before.before.before.before)) 0 _ i.dst.len refl (made c.before.before.before).0, c.requires.4)
 
-loop-holds : tie.Need-loop-init invariant-loop decreases-loop
-loop-holds c =
-    let p = c.before.before.before.before.before.before.requires.0 in let first = c.before.prep-bilin-axis in
+loop-y-init : tie.Need-loop-y-init invariant-loop-y decreases-loop-y
+loop-y-init c =
+    let p = c.requires.0 in let first = c.prep_bilin_axis in
     record {
       dst = filled_none 0 _ _ _ _ _ (omega (arith, p.block, p.dst));
-      long = first.auto.0;
+      long = first.auto.tmp;
       rows = λ lt. holds-first p.block.w64 _ 1 (omega arith) first.ensures;
     }
 
-loop-again : tie.Need-loop-preserved invariant-loop decreases-loop
-loop-again c =
-    let m = c.before.before.before.before.before.before in let k = m.before.before.before.before.before.before.before in
-    let f = made m.before.before.before.before in
-    grouped_next k.eight-at-most.result ((turn k).whole c.before.before.before.if1.true) (entry k).requires.0.block.w64 (omega arith) (written m)
-    f.0 f.1 c.before.carry.ensures
+loop-y-preserved-then-y-h : tie.Need-loop-y-preserved-then-y-h invariant-loop-y decreases-loop-y
+loop-y-preserved-then-y-h c =
+    let f = made c.before.before.before.before.before.before.before.before.before.before in
+    grouped_next c.eight_at_most-k.result ((turn c.before.before.before.before.before.before.before.before.before.before.before.before.before).whole c.if-y-h.true) c.requires.0.block.w64 (omega arith) (written c.before.before.before.before.before.before)
+    f.0 f.1 c.carry.ensures
 
-loop-again-2 : tie.Need-loop-preserved-2 invariant-loop decreases-loop
-loop-again-2 c = let m = c.before.before.before in grouped_last (omega (arith, c.if1.false)) (written m) (made m.before.before.before.before).0
+loop-y-preserved : tie.Need-loop-y-preserved invariant-loop-y decreases-loop-y
+loop-y-preserved c = grouped_last (omega (arith, c.if-y-h.false)) (written c.before.before.before) (made c.before.before.before.before.before.before.before).0
 
-returns : tie.Need-returns invariant-loop decreases-loop
-returns c = rw c.before.before.before.before.before.bits_of.ensures at (filled_all c.before.loop.invariant.dst (omega arith))
+returns : tie.Need-returns invariant-loop-y decreases-loop-y
+returns c = rw c.bits_of-b.ensures at (filled_all c.loop-y.invariant.dst (omega arith))
 
--- where the rows of the turn were counted, from where its first pass is made
-abbrev counted : tie.After-mid4 invariant-loop decreases-loop → tie.After-eight-at-most invariant-loop decreases-loop
-counted c = c.before.before.before.before
+overflow_sub-h : tie.Need-overflow_sub-h invariant-loop-y decreases-loop-y
+overflow_sub-h c = omega (arith, c.loop-y.invariant.dst)
 
-pub put-bilin-both-spec : {M : Type 1} → Rattle.blocks.proofs.bytes.bilinear.put_bilin_both.Statement.statement M
-put-bilin-both-spec = tie.close (tie.spec invariant-loop decreases-loop (λ c κs. search rules) (λ c. search rules)  -- bits_of, 4 - b
-    (λ c. refl) first-requires loop-holds  -- slice-aggregate-prep-bilin-axis
-    (λ c. omega (arith, c.before.loop.invariant.dst)) (λ c κs. search rules)  -- h - y, eight-at-most
-    (λ c. omega (arith, turn c, (entry c).requires.0.block)) (λ c κs. ((next c).before, omega (arith, next c, (entry c).well-formed)))  -- y + 1, rows-from
-    (λ c. omega arith) (λ c. omega (arith, c.before.before.before.loop.invariant.long))  -- mid[64..576]
-    (λ c. omega (arith, c.before.before.before.loop.invariant.long)) first-requires-2
-    (λ c. omega (arith, turn (counted c), (entry (counted c)).good)) (λ c. omega (arith, turn (counted c)))  -- a, k - 1
-    (λ c. omega (arith, turn (counted c), (entry (counted c)).good)) (λ c. omega (arith, turn (counted c), (entry (counted c)).good))  -- e
-    (λ c. omega (arith, turn (counted c), (entry (counted c)).good))
-    (λ c. omega (arith, turn (counted c))) (λ c. omega (arith, turn (counted c), (counted c).before.before.loop.invariant.dst))  -- dst[a..e]
-    (λ c. omega (arith, turn (counted c), (counted c).before.before.loop.invariant.dst))
-    (λ c. sym (made c.before.before.before).0)  -- slice-aggregate-mid-bilin-rows
-    (λ c. omega (arith, few c.before.before.before.before.before.before)) second-requires  -- 4 + b
-    (λ c. let k = c.before.before.before.before.before.before.before.before.before in omega (arith, turn k, (entry k).requires.0.block))  -- y + k
-    (λ c. sym (made c.before.before.before.before.before.before.before.before).0)  -- slice-aggregate-carry
-    (λ c κs. (omega arith, omega (arith, (made c.before.before.before.before.before.before.before.before).0)))  -- carry
-    (λ c. omega (arith, turn c.before.before.before.before.before.before.before.before.before.before.before.before.before))  -- loop-less
-    loop-again
-    (λ c. omega (arith, turn c.before.before.before.before.before.before.before.before.before.before)) loop-again-2  -- loop-less-2
-    (λ c. c.before.loop.invariant.dst.len) returns)  -- same-length
+overflow_add-y : tie.Need-overflow_add-y invariant-loop-y decreases-loop-y
+overflow_add-y c = omega (arith, turn c, c.requires.0.block)
+
+rows_from-next-requires : tie.Need-rows_from-next-requires invariant-loop-y decreases-loop-y
+rows_from-next-requires c κs = ((next c).before, omega (arith, next c, c.well_formed))
+
+slice_bounds-mid-start : tie.Need-slice_bounds-mid-start invariant-loop-y decreases-loop-y
+slice_bounds-mid-start c = omega (arith, c.loop-y.invariant.long)
+
+slice_bounds-mid-end : tie.Need-slice_bounds-mid-end invariant-loop-y decreases-loop-y
+slice_bounds-mid-end c = omega (arith, c.loop-y.invariant.long)
+
+overflow_mul-a : tie.Need-overflow_mul-a invariant-loop-y decreases-loop-y
+overflow_mul-a c = omega (arith, turn (c.before.before.before.before), c.well_formed)
+
+overflow_sub-e : tie.Need-overflow_sub-e invariant-loop-y decreases-loop-y
+overflow_sub-e c = omega (arith, turn (c.before.before.before.before))
+
+overflow_mul-e : tie.Need-overflow_mul-e invariant-loop-y decreases-loop-y
+overflow_mul-e c = omega (arith, turn (c.before.before.before.before), c.well_formed)
+
+overflow_add-e : tie.Need-overflow_add-e invariant-loop-y decreases-loop-y
+overflow_add-e c = omega (arith, turn (c.before.before.before.before), c.well_formed)
+
+overflow_add-e-in-loop-y : tie.Need-overflow_add-e-in-loop-y invariant-loop-y decreases-loop-y
+overflow_add-e-in-loop-y c = omega (arith, turn (c.before.before.before.before), c.well_formed)
+
+slice_bounds-mid_bilin_rows-count : tie.Need-slice_bounds-mid_bilin_rows-count invariant-loop-y decreases-loop-y
+slice_bounds-mid_bilin_rows-count c = omega (arith, turn (c.before.before.before.before))
+
+slice_bounds-mid_bilin_rows-start : tie.Need-slice_bounds-mid_bilin_rows-start invariant-loop-y decreases-loop-y
+slice_bounds-mid_bilin_rows-start c = omega (arith, turn (c.before.before.before.before), c.loop-y.invariant.dst)
+
+slice_bounds-mid_bilin_rows-end : tie.Need-slice_bounds-mid_bilin_rows-end invariant-loop-y decreases-loop-y
+slice_bounds-mid_bilin_rows-end c = omega (arith, turn (c.before.before.before.before), c.loop-y.invariant.dst)
+
+slice_bounds-mid_bilin_rows-end-in-loop-y : tie.Need-slice_bounds-mid_bilin_rows-end-in-loop-y invariant-loop-y decreases-loop-y
+slice_bounds-mid_bilin_rows-end-in-loop-y c = sym (made c.before.before.before).0
+
+overflow_add-b : tie.Need-overflow_add-b invariant-loop-y decreases-loop-y
+overflow_add-b c = omega (arith, few c.before.before.before.before.before.before)
+
+overflow_add-y-in-loop-y : tie.Need-overflow_add-y-in-loop-y invariant-loop-y decreases-loop-y
+overflow_add-y-in-loop-y c = omega (arith, turn c.before.before.before.before.before.before.before.before.before, c.requires.0.block)
+
+slice_bounds-carry-end : tie.Need-slice_bounds-carry-end invariant-loop-y decreases-loop-y
+slice_bounds-carry-end c = sym (made c.before.before.before.before.before.before.before.before).0
+
+carry-requires : tie.Need-carry-requires invariant-loop-y decreases-loop-y
+carry-requires c κs = (omega arith, omega (arith, (made c.before.before.before.before.before.before.before.before).0))
+
+loop-y-smaller-then-y-h : tie.Need-loop-y-smaller-then-y-h invariant-loop-y decreases-loop-y
+loop-y-smaller-then-y-h c = omega (arith, turn c.before.before.before.before.before.before.before.before.before.before.before.before.before)
+
+loop-y-smaller : tie.Need-loop-y-smaller invariant-loop-y decreases-loop-y
+loop-y-smaller c = omega (arith, turn c.before.before.before.before.before.before.before.before.before.before)
+
+shape_of-dst : tie.Need-shape_of-dst invariant-loop-y decreases-loop-y
+shape_of-dst c = c.loop-y.invariant.dst.len
+
+pub put_bilin_both_spec : {M : Type 1} → Rattle.blocks.proofs.bytes.bilinear.put_bilin_both.Statement.statement M
+put_bilin_both_spec =
+    tie.close
+    (tie.spec invariant-loop-y decreases-loop-y
+    (λ c κs. search rules)
+    (λ c. search rules)
+    (λ c. refl)
+    prep_bilin_axis-requires
+    loop-y-init
+    overflow_sub-h
+    (λ c κs. search rules)
+    overflow_add-y
+    rows_from-next-requires
+    (λ c. omega arith)
+    slice_bounds-mid-start
+    slice_bounds-mid-end
+    prep_bilin_axis-requires-in-loop-y
+    overflow_mul-a
+    overflow_sub-e
+    overflow_mul-e
+    overflow_add-e
+    overflow_add-e-in-loop-y
+    slice_bounds-mid_bilin_rows-count
+    slice_bounds-mid_bilin_rows-start
+    slice_bounds-mid_bilin_rows-end
+    slice_bounds-mid_bilin_rows-end-in-loop-y
+    overflow_add-b
+    mid_bilin_rows-requires
+    overflow_add-y-in-loop-y
+    slice_bounds-carry-end
+    carry-requires
+    loop-y-smaller-then-y-h
+    loop-y-preserved-then-y-h
+    loop-y-smaller
+    loop-y-preserved
+    shape_of-dst
+    returns
+    )

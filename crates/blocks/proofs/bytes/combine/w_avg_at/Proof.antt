@@ -6,36 +6,42 @@ use Rattle.blocks.proofs.Laws.bytes.Depth.{depth_bits, depth_bias, depth-max}
 use Rattle.blocks.proofs.Laws.Combine.Ready.{w-avg_ready}
 use Rattle.blocks.proofs.bytes.combine.w_avg_at.Tie as tie
 
-abbrev entry : tie.After-check-combine → tie.Start
-entry c = c.before.before.before.before
-
-number : (c : tie.After-check-combine) → let a = (entry c).args in
+number : (c : tie.After-check_combine-number) → let a = c.args in
     let t1 = length a.tmp1.now in let t2 = length a.tmp2.now in
-    c.check-combine.result ≡ lowest (w_avg_tests (depth_ok a.depth) (length a.dst.now) a.dst-stride t1 t2 a.w a.h a.weight)
+    c.check_combine-number.result ≡ lowest (w_avg_tests (depth_ok a.depth) (length a.dst.now) a.dst_stride t1 t2 a.w a.h a.weight)
 number c =
-    let f = (entry c).ranges in
-    rw (c.before.before.depth-ok.ensures, c.before.weight_ok_lem.ensures, back f.depth, back f.weight) at c.check-combine.ensures
+    let f = c.ranges in
+    rw (c.depth_ok.ensures, c.weight_ok.ensures, back f.depth, back f.weight) at c.check_combine-number.ensures
 
-depth : (c : tie.After-depth-numbers) → c.depth-numbers.result ≡ numbers_of (up (entry c.before.before).args.depth)
-depth c = c.depth-numbers.ensures ∙ ap (λ (z : ℤ). numbers_of (up z)) (back (entry c.before.before).ranges.depth)
+depth : (c : tie.After-depth_numbers-d) → c.depth_numbers-d.result ≡ numbers_of (up c.args.depth)
+depth c = c.depth_numbers-d.ensures ∙ ap (λ (z : ℤ). numbers_of (up z)) (back c.ranges.depth)
 
-depth-numbers-requires : tie.Need-depth-numbers-requires
-depth-numbers-requires c κs = rw (back (entry c.before).ranges.depth) (w-avg_ready _ (sym (number c.before) ∙ c.if1.true)).0
+depth_numbers-d-requires : tie.Need-depth_numbers-d-requires
+depth_numbers-d-requires c κs = rw (back c.ranges.depth) (w-avg_ready _ (sym (number c.before) ∙ c.if-number-eq0.true)).0
 
-w-avg-rows-requires : tie.Need-w-avg-rows-requires
-w-avg-rows-requires c κs =
-    let t = c.before.before in
-    let p = w-avg_ready _ (sym (number t.before) ∙ t.if1.true) in
-    rw (depth c.before, back (entry t.before).ranges.weight) (p.1.0, p.1.1, p.1.2, p.1.3, p.1.4, depth_bits _ p.0, depth_bias _ p.0, depth-max _ p.0)
+w_avg_rows-requires : tie.Need-w_avg_rows-requires
+w_avg_rows-requires c κs =
+    let p = w-avg_ready _ (sym (number c.before.before.before) ∙ c.if-number-eq0.true) in
+    rw (depth c.before, back c.ranges.weight) (p.1.0, p.1.1, p.1.2, p.1.3, p.1.4, depth_bits _ p.0, depth_bias _ p.0, depth-max _ p.0)
 
-returns : tie.Need-returns
-returns c =
-    let n = c.before.before.before.before in
-    let e = back (entry n.before.before).ranges.weight in
-    (number n.before.before, rw (depth n, e) at c.before.before.w-avg-rows.ensures ∙ sym (done _ _ _ n.before.if1.true))
+returns-then-number-eq0 : tie.Need-returns-then-number-eq0
+returns-then-number-eq0 c =
+    let e = back c.ranges.weight in
+    (number c.before.before.before.before.before.before, rw (depth c.before.before.before.before, e) at c.w_avg_rows.ensures ∙ sym (done _ _ _ c.if-number-eq0.true))
 
-pub w-avg-at-spec : {M : Type 1} → Rattle.blocks.proofs.bytes.combine.w_avg_at.Statement.statement M
-w-avg-at-spec = tie.close (tie.spec
-    (λ c κs. search rules) (λ c κs. search rules) (λ c κs. search rules) depth-numbers-requires  -- depth-ok, weight_ok_lem, check-combine
-    w-avg-rows-requires (λ c. search rules) returns  -- same-length
-    (λ c. (number c.before, sym (refused _ _ _ c.if1.false))))  -- returns-2
+returns-else-number-eq0 : tie.Need-returns-else-number-eq0
+returns-else-number-eq0 c = (number c.before, sym (refused _ _ _ c.if-number-eq0.false))
+
+pub w_avg_at_spec : {M : Type 1} → Rattle.blocks.proofs.bytes.combine.w_avg_at.Statement.statement M
+w_avg_at_spec =
+    tie.close
+    (tie.spec
+    (λ c κs. search rules)
+    (λ c κs. search rules)
+    (λ c κs. search rules)
+    depth_numbers-d-requires
+    w_avg_rows-requires
+    (λ c. search rules)
+    returns-then-number-eq0
+    returns-else-number-eq0
+    )

@@ -10,32 +10,44 @@ partner s = pos 16 -ℤ s.args.weight
 fits : (s : tie.Start) → SFits w32 (partner s)
 fits s = omega (arith, s.requires.4, mag-sub (pos 16) s.args.weight)
 
-below : (c : tie.Then1) → let k = partner c.before.before in (dn k ≡ 0) × (up k < 64)
-below c = let s = c.before.before in weight_below s.args.weight (rw (back s.ranges.weight) at c.if1.true) s.requires.4
+below : (c : tie.Then-weight-lt0) → let k = partner c.before.before in (dn k ≡ 0) × (up k < 64)
+below c = weight_below c.args.weight (rw (back c.ranges.weight) at c.if-weight-lt0.true) c.requires.4
 
-above : (c : tie.Else1) → let k = c.before.before.args.weight in (dn k ≡ 0) × (up k < 64)
-above c = let s = c.before.before in weight_above s.args.weight (rw (back s.ranges.weight) at c.if1.false) s.requires.4
+above : (c : tie.Else-weight-lt0) → let k = c.args.weight in (dn k ≡ 0) × (up k < 64)
+above c = weight_above c.args.weight (rw (back c.ranges.weight) at c.if-weight-lt0.false) c.requires.4
 
-returns : tie.Need-returns
-returns c =
-    let r = c.before.before in
-    let m = r.before.before.before in
-    let s = m.before.before.before in
-    let v = simp (back s.ranges.weight, back (fits s)) at m.mask-of.ensures in
-    r.mask-rows.ensures ∙ below_fill _ _ _ _ _ _ _ _ s.args.tmp1.now s.args.tmp2.now s.args.weight (omega (arith, s.requires)) s.requires.0.w64 v (below m.before).0
+returns-then-weight-lt0 : tie.Need-returns-then-weight-lt0
+returns-then-weight-lt0 c =
+    let v = simp (back c.ranges.weight, back (fits c.before.before.before.before.before.before.before.before)) at c.mask_of-m.ensures in
+    c.mask_rows.ensures ∙ below_fill _ _ _ _ _ _ _ _ c.args.tmp1.now c.args.tmp2.now c.args.weight (omega (arith, c.requires)) c.requires.0.w64 v (below c.before.before.before.before.before.before).0
 
-returns-2 : tie.Need-returns-2
-returns-2 c =
-    let r = c.before.before in
-    let m = r.before.before.before in
-    let s = m.before.before.before in
-    let v = simp (back s.ranges.weight) at m.mask-of2.ensures in
-    r.mask-rows2.ensures ∙ above_fill _ _ _ _ _ _ _ _ s.args.tmp1.now s.args.tmp2.now s.args.weight (omega (arith, s.requires)) s.requires.0.w64 v (above m.before).0
+returns-else-weight-lt0 : tie.Need-returns-else-weight-lt0
+returns-else-weight-lt0 c =
+    let v = simp (back c.ranges.weight) at c.mask_of-m-else-weight-lt0.ensures in
+    c.mask_rows-else-weight-lt0.ensures ∙ above_fill _ _ _ _ _ _ _ _ c.args.tmp1.now c.args.tmp2.now c.args.weight (omega (arith, c.requires)) c.requires.0.w64 v (above c.before.before.before.before.before.before).0
 
-pub w-avg-rows-spec : {M : Type 1} → Rattle.blocks.proofs.bytes.combine.w_avg_rows.Statement.statement M
-w-avg-rows-spec = tie.close (tie.spec (λ c. let s = c.before.before in simp (back s.ranges.weight) (fits s))  -- sub-mask-of
-    (λ c κs. let s = c.before.before in simp (back s.ranges.weight, back (fits s)) (below c))  -- mask-of-requires
-    (λ c. search rules) (λ c κs. search rules)  -- slice-aggregate-mask-rows, mask-rows
-    (λ c κs. let s = c.before.before in simp (back s.ranges.weight) (above c))  -- mask-of-requires-2
-    (λ c. search rules) (λ c κs. search rules) (λ c. search rules) returns (λ c. search rules)  -- slice-aggregate-mask-rows, mask-rows, same-length
-    returns-2)
+overflow_sub-weight : tie.Need-overflow_sub-weight
+overflow_sub-weight c = simp (back c.ranges.weight) (fits c.before.before)
+
+mask_of-m-requires : tie.Need-mask_of-m-requires
+mask_of-m-requires c κs = simp (back c.ranges.weight, back (fits c.before.before)) (below c)
+
+mask_of-m-requires-else-weight-lt0 : tie.Need-mask_of-m-requires-else-weight-lt0
+mask_of-m-requires-else-weight-lt0 c κs = simp (back c.ranges.weight) (above c)
+
+pub w_avg_rows_spec : {M : Type 1} → Rattle.blocks.proofs.bytes.combine.w_avg_rows.Statement.statement M
+w_avg_rows_spec =
+    tie.close
+    (tie.spec
+    overflow_sub-weight
+    mask_of-m-requires
+    (λ c. search rules)
+    (λ c κs. search rules)
+    mask_of-m-requires-else-weight-lt0
+    (λ c. search rules)
+    (λ c κs. search rules)
+    (λ c. search rules)
+    returns-then-weight-lt0
+    (λ c. search rules)
+    returns-else-weight-lt0
+    )

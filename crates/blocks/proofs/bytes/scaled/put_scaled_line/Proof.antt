@@ -4,56 +4,73 @@ use lib.Dec.{T}
 use Rattle.blocks.proofs.Laws.Scaled.Lines.{turned_lt, put_line_whole, put_line_by}
 use Rattle.blocks.proofs.bytes.scaled.put_scaled_line.Tie as tie
 
-abbrev begin : tie.After-bits-of → tie.Start
-begin c = c.before.before
-
 -- where the fourth of the eight rows stands
-third : (c : tie.After-mid-bilin-row-arg) → get_or (begin c.before.before).args.t3 3 0 < 8
-third c = turned_lt (begin c.before.before).requires.2 3 (omega arith)
+third : (c : tie.After-mid_bilin_row-arg-1) → get_or c.args.order 3 0 < 8
+third c = turned_lt c.requires.2 3 (omega arith)
 
-few : (c : tie.After-bits-of) → c.bits_of.result ≤ 4
-few c = omega (arith, c.bits_of.ensures, (begin c).requires.5)
+few : (c : tie.After-bits_of-b) → c.bits_of-b.result ≤ 4
+few c = omega (arith, c.bits_of-b.ensures, c.requires.5)
 
-returns : tie.Need-returns
-returns c =
-    let t = c.before.before.before.before in
-    let b = t.before in
-    let s = begin b in
-    let a = s.args in
-    rw b.bits_of.ensures at c.before.before.mid-bilin-row.ensures
-    ∙ put_line_whole a.rows.now a.t3 a.subpel.now _ a.family _ a.max a.bits (omega (arith, s.pre.5)) t.if1.true
+returns-then-f-eq0 : tie.Need-returns-then-f-eq0
+returns-then-f-eq0 c =
+    let a = c.args in
+    rw c.bits_of-b.ensures at c.mid_bilin_row.ensures
+    ∙ put_line_whole a.rows.now a.order a.subpel.now _ a.family _ a.max a.bits (omega (arith, c.requires.5)) c.if-f-eq0.true
 
-returns-2 : tie.Need-returns-2
-returns-2 c =
-    let q = c.before.before in
-    let h = q.before.before.before in
-    let r = h.before in
-    let e = r.before in
-    let t = e.before in
-    let b = t.before in
-    let s = begin b in
-    let a = s.args in
-    rw b.bits_of.ensures at q.mid_by.ensures
-    ∙ put_line_by a.rows.now a.t3 a.subpel.now _ a.family _ s.pre.2 (omega (arith, t.if1.false)) _
-    (rw e.eight.ensures at r.by_rows.ensures)
-    a.max a.bits _ (rw b.bits_of.ensures at h.half-power.ensures.0)
+returns-else-f-eq0 : tie.Need-returns-else-f-eq0
+returns-else-f-eq0 c =
+    let a = c.args in
+    rw c.bits_of-b.ensures at c.mid_by.ensures
+    ∙ put_line_by a.rows.now a.order a.subpel.now _ a.family _ c.requires.2 (omega (arith, c.if-f-eq0.false)) _
+    (rw c.eight.ensures at c.by_rows-g.ensures)
+    a.max a.bits _ (rw c.bits_of-b.ensures at c.half_power.ensures.0)
 
-mid-by-requires : tie.Need-mid-by-requires
-mid-by-requires c κs =
-    let h = c.before.before in let b = h.before.before.before.before in
-    (omega (arith, (begin b).requires), omega (arith, few b, h.half-power.ensures), λ e. absurd (subst T (sym e) tt), (begin b).requires.6)
+mid_by-requires : tie.Need-mid_by-requires
+mid_by-requires c κs =
+    (omega (arith, c.requires), omega (arith, few c.before.before.before.before.before.before, c.half_power.ensures), λ e. absurd (subst T (sym e) tt), c.requires.6)
 
-pub put-scaled-line-spec : {M : Type 1} → Rattle.blocks.proofs.bytes.scaled.put_scaled_line.Statement.statement M
-put-scaled-line-spec = tie.close (tie.spec (λ c κs. search rules)  -- bits_of
-    (λ c. search rules)  -- order[3]
-    (λ c. omega (arith, third c))  -- order[3] * 64
-    (λ c. omega (arith, few c.before.before))  -- 4 + b
-    (λ c κs. omega (arith, third c, few c.before.before, (begin c.before.before).requires))  -- mid-bilin-row
-    (λ c. omega arith) (λ c. omega arith) (λ c. omega arith)  -- 15 * family + (f - 1)
-    (λ c κs. omega arith)  -- eight
-    (λ c. search rules)  -- order[0]
-    (λ c κs. (begin c.before.before).requires.2.0)  -- by_rows
-    (λ c. omega (arith, few c.before.before.before)) (λ c κs. omega (arith, few c.before.before.before))  -- half-power
-    (λ c. omega (arith, few c.before.before.before.before))  -- 6 + b
-    mid-by-requires
-    (λ c. search rules) returns (λ c. search rules) returns-2)
+overflow_mul-order : tie.Need-overflow_mul-order
+overflow_mul-order c = omega (arith, third c)
+
+overflow_add-b : tie.Need-overflow_add-b
+overflow_add-b c = omega (arith, few c.before.before)
+
+mid_bilin_row-requires : tie.Need-mid_bilin_row-requires
+mid_bilin_row-requires c κs = omega (arith, third c, few c.before.before, c.requires)
+
+by_rows-g-requires : tie.Need-by_rows-g-requires
+by_rows-g-requires c κs = c.requires.2.0
+
+overflow_add-b-else-f-eq0 : tie.Need-overflow_add-b-else-f-eq0
+overflow_add-b-else-f-eq0 c = omega (arith, few c.before.before.before)
+
+half_power-requires : tie.Need-half_power-requires
+half_power-requires c κs = omega (arith, few c.before.before.before)
+
+overflow_add-by : tie.Need-overflow_add-by
+overflow_add-by c = omega (arith, few c.before.before.before.before)
+
+pub put_scaled_line_spec : {M : Type 1} → Rattle.blocks.proofs.bytes.scaled.put_scaled_line.Statement.statement M
+put_scaled_line_spec =
+    tie.close
+    (tie.spec
+    (λ c κs. search rules)
+    (λ c. search rules)
+    overflow_mul-order
+    overflow_add-b
+    mid_bilin_row-requires
+    (λ c. omega arith)
+    (λ c. omega arith)
+    (λ c. omega arith)
+    (λ c κs. omega arith)
+    (λ c. search rules)
+    by_rows-g-requires
+    overflow_add-b-else-f-eq0
+    half_power-requires
+    overflow_add-by
+    mid_by-requires
+    (λ c. search rules)
+    returns-then-f-eq0
+    (λ c. search rules)
+    returns-else-f-eq0
+    )

@@ -11,10 +11,17 @@ sums s = let a = s.args in spec.sad_at a.n.depth (pixel_in a.p0.now a.n.s0) (pix
 returns : tie.Need-returns
 unfolding spec.search
 returns c =
-    let d = c.before in let e = d.before in let f = e.before in let g = f.before in let s = g.before.before.before in
-    five (λ dy. spec.through spec.steps (λ dx. spec.visit (sums s) dy dx))
-    g.visit-row.ensures f.visit-row2.ensures e.visit-row3.ensures d.visit-row4.ensures c.visit-row5.ensures
+    five (λ dy. spec.through spec.steps (λ dx. spec.visit (sums c.before.before.before.before.before.before.before) dy dx))
+    c.visit_row-b.ensures c.visit_row-b-2.ensures c.visit_row-b-3.ensures c.visit_row-b-4.ensures c.visit_row.ensures
 
-pub search-spec : {M : Type 1} → Rattle.blocks.proofs.bytes.search.search.Statement.statement M
-search-spec = tie.close (tie.spec
-    (λ c κs. search rules) (λ c κs. search rules) (λ c κs. search rules) (λ c κs. search rules) (λ c κs. search rules) returns)  -- visit-row
+pub search_spec : {M : Type 1} → Rattle.blocks.proofs.bytes.search.search.Statement.statement M
+search_spec =
+    tie.close
+    (tie.spec
+    (λ c κs. search rules)
+    (λ c κs. search rules)
+    (λ c κs. search rules)
+    (λ c κs. search rules)
+    (λ c κs. search rules)
+    returns
+    )

@@ -10,10 +10,17 @@ sums s = let a = s.args in sad_at a.n.depth (pixel_in a.p0.now a.n.s0) (pixel_in
 
 returns : tie.Need-returns
 returns c =
-    let d = c.before in let e = d.before in let f = e.before in let g = f.before in let s = g.before.before.before in
-    rw (back s.ranges.dy) at (five (visit (sums s) (to_z w32 (of_z w32 s.args.dy)))
-    g.visit.ensures f.visit2.ensures e.visit3.ensures d.visit4.ensures c.visit5.ensures)
+    rw (back c.ranges.dy) at (five (visit (sums c.before.before.before.before.before.before.before) (to_z w32 (of_z w32 c.args.dy)))
+    c.visit-b.ensures c.visit-b-2.ensures c.visit-b-3.ensures c.visit-b-4.ensures c.visit.ensures)
 
-pub visit-row-spec : {M : Type 1} → Rattle.blocks.proofs.bytes.search.visit_row.Statement.statement M
-visit-row-spec = tie.close (tie.spec
-    (λ c κs. search rules) (λ c κs. search rules) (λ c κs. search rules) (λ c κs. search rules) (λ c κs. search rules) returns)  -- visit
+pub visit_row_spec : {M : Type 1} → Rattle.blocks.proofs.bytes.search.visit_row.Statement.statement M
+visit_row_spec =
+    tie.close
+    (tie.spec
+    (λ c κs. search rules)
+    (λ c κs. search rules)
+    (λ c κs. search rules)
+    (λ c κs. search rules)
+    (λ c κs. search rules)
+    returns
+    )

@@ -6,120 +6,167 @@ use Rattle.blocks.specs.declared.subpel.plan.Filter.{Filter}
 use Rattle.blocks.proofs.Laws.Subpel.Choice.{axis_of_lem, bits_fit, plan_none, plan_down, plan_across, plan_both}
 use Rattle.blocks.proofs.subpel.plan.plan_8tap.Tie as tie
 
-abbrev begin : tie.After-taps2 → tie.Start
-begin c = c.before.before.before.before.before.before.before.before
-
 -- N and the filters, as they are carried
-bits : (c : tie.After-filter-bits) → c.filter-bits.result ≡ filter_bits c.before.before.args.m.filter_type
-bits c = rw (told_back w32 c.before.struct_told.given.1.1) at c.filter-bits.ensures
+bits : (c : tie.After-filter_bits-n) → c.filter_bits-n.result ≡ filter_bits c.args.m.filter_type
+bits c = rw (told_back w32 c.struct_told-1.given.1.1) at c.filter_bits-n.ensures
 
-across : (c : tie.After-get-filter) → let a = c.before.before.before.before.args in
-    c.get-filter.result ≡ filter_of a.m.filter_type (up a.m.mx) a.w
-across c = let g = c.before.struct-told2.given in rw (told_back w32 g.1.1, told_back w32 g) at c.get-filter.ensures
+across : (c : tie.After-get_filter) → let a = c.args in
+    c.get_filter.result ≡ filter_of a.m.filter_type (up a.m.mx) a.w
+across c = let g = c.struct_told-2-1.given in rw (told_back w32 g.1.1, told_back w32 g) at c.get_filter.ensures
 
-down : (c : tie.After-get-filter2) → let a = c.before.before.before.before.before.before.before.args in
-    c.get-filter2.result ≡ filter_of a.m.filter_type (up a.m.my) a.h
-down c = let g = c.before.struct-told3.given in rw (told_back w32 g.1.1, told_back w32 g.1) at c.get-filter2.ensures
+down : (c : tie.After-get_filter-2) → let a = c.args in
+    c.get_filter-2.result ≡ filter_of a.m.filter_type (up a.m.my) a.h
+down c = let g = c.struct_told-3-1.given in rw (told_back w32 g.1.1, told_back w32 g.1) at c.get_filter-2.ensures
 
-abbrev filters : tie.After-half-power → tie.After-taps2
-filters c = c.before.before.before.before.before
+record Known (c : tie.After-half_power-round) : Type 0 where
+  n : c.filter_bits-n.result ≡ filter_bits c.args.m.filter_type
+  n-in : (6 ≤ c.filter_bits-n.result) × (c.filter_bits-n.result ≤ 7)
+  f : let a = c.args in c.taps-f.result ≡ taps_of (axis a.subpel.now a.ext.now a.m.filter_type (up a.m.mx) a.w)
+  g : let a = c.args in c.taps-g.result ≡ taps_of (axis a.subpel.now a.ext.now a.m.filter_type (up a.m.my) a.h)
+  x : c.on_axis-x.result ≡ on c.args.m.mx
+  y : c.on_axis-y.result ≡ on c.args.m.my
+  r : c.half_power-round.result ≡ half (filter_bits c.args.m.filter_type)
 
-record Known (c : tie.After-half-power) : Type 0 where
-  n : let d = filters c in d.before.before.before.before.before.before.filter-bits.result ≡ filter_bits (begin d).args.m.filter_type
-  n-in : let n = (filters c).before.before.before.before.before.before.filter-bits.result in (6 ≤ n) × (n ≤ 7)
-  f : let d = filters c in let a = (begin d).args in
-      d.before.before.before.taps.result ≡ taps_of (axis a.subpel.now a.ext.now a.m.filter_type (up a.m.mx) a.w)
-  g : let d = filters c in let a = (begin d).args in
-      d.taps2.result ≡ taps_of (axis a.subpel.now a.ext.now a.m.filter_type (up a.m.my) a.h)
-  x : c.before.before.before.on-axis.result ≡ on (begin (filters c)).args.m.mx
-  y : c.before.on-axis2.result ≡ on (begin (filters c)).args.m.my
-  r : c.half-power.result ≡ half (filter_bits (begin (filters c)).args.m.filter_type)
-
-known : (c : tie.After-half-power) → Known c
+known : (c : tie.After-half_power-round) → Known c
 known c =
-    let d = filters c in
-    let a = (begin d).args in
+    let a = c.args in
     let t = a.m.filter_type in
     let by : Filter → List ℤ = λ k. taps_of (axis_of a.subpel.now a.ext.now k) in
-    let p = d.before.before.before in
-    let n = bits p.before.before.before in
+    let n = bits c.before.before.before.before.before.before.before.before.before.before.before in
     record {
       n = n;
       n-in = rw n (bits_fit t);
-      f = p.taps.ensures ∙ ap by (across p.before) ∙ ap taps_of (axis_of_lem _ _ t _ _);
-      g = d.taps2.ensures ∙ ap by (down d.before) ∙ ap taps_of (axis_of_lem _ _ t _ _);
-      x = rw (told_back w32 c.before.before.before.before.struct-told4.given) at c.before.before.before.on-axis.ensures;
-      y = rw (told_back w32 c.before.before.struct-told5.given.1) at c.before.on-axis2.ensures;
-      r = rw n at c.half-power.ensures.0;
+      f = c.taps-f.ensures ∙ ap by (across c.before.before.before.before.before.before.before.before.before) ∙ ap taps_of (axis_of_lem _ _ t _ _);
+      g = c.taps-g.ensures ∙ ap by (down c.before.before.before.before.before.before) ∙ ap taps_of (axis_of_lem _ _ t _ _);
+      x = rw (told_back w32 c.struct_told-4-1.given) at c.on_axis-x.ensures;
+      y = rw (told_back w32 c.struct_told-5-1.given.1) at c.on_axis-y.ensures;
+      r = rw n at c.half_power-round.ensures.0;
     }
 
 -- the places before the block
-before : (c : tie.After-half-power) (x y : ℕ) → let a = (begin (filters c)).args in on a.m.mx ≡ x → on a.m.my ≡ y → 3 * y * a.s.forth + 4 * y * a.s.back + 3 * x ≤ a.s.off
-before c x y e f = rw (← e, ← f) (begin (filters c)).requires.1
+before : (c : tie.After-half_power-round) (x y : ℕ) → let a = c.args in on a.m.mx ≡ x → on a.m.my ≡ y → 3 * y * a.s.forth + 4 * y * a.s.back + 3 * x ≤ a.s.off
+before c x y e f = rw (← e, ← f) c.requires.1
 
-above : (c : tie.After-half-power) (y : ℕ) → let a = (begin (filters c)).args in on a.m.my ≡ y → a.s.off + 3 * y * a.s.back < 2 ^ 64
-above c y f = rw (← f) (begin (filters c)).requires.2
+above : (c : tie.After-half_power-round) (y : ℕ) → let a = c.args in on a.m.my ≡ y → a.s.off + 3 * y * a.s.back < 2 ^ 64
+above c y f = rw (← f) c.requires.2
 
-only-down : (c : tie.Else2) → let a = (begin (filters c.before.before)).args in 3 * a.s.forth + 4 * a.s.back ≤ a.s.off
-only-down c = let t = c.before.before in omega (arith, before t 0 1 (omega (arith, known t)) (omega (arith, known t)))
+only-down : (c : tie.Else-y-eq0) → let a = c.args in 3 * a.s.forth + 4 * a.s.back ≤ a.s.off
+only-down c = omega (arith, before c.before.before 0 1 (omega (arith, known c.before.before)) (omega (arith, known c.before.before)))
 
-both : (c : tie.Else3) → let a = (begin (filters c.before.before.before)).args in (3 * a.s.forth + 4 * a.s.back + 3 ≤ a.s.off) × (a.s.off + 3 * a.s.back < 2 ^ 64)
+both : (c : tie.Else-y-eq0-2) → let a = c.args in (3 * a.s.forth + 4 * a.s.back + 3 ≤ a.s.off) × (a.s.off + 3 * a.s.back < 2 ^ 64)
 both c =
-    let t = c.before.before.before in
-    let p = begin (filters t) in
-    let y : on p.args.m.my ≡ 1 = omega (arith, known t) in
-    (omega (arith, before t 1 1 (omega (arith, known t)) y), omega (arith, above t 1 y))
+    let y : on c.args.m.my ≡ 1 = omega (arith, known c.before.before.before) in
+    (omega (arith, before c.before.before.before 1 1 (omega (arith, known c.before.before.before)) y), omega (arith, above c.before.before.before 1 y))
 
-returns : tie.Need-returns
-returns c =
+returns-then-y-eq0 : tie.Need-returns-then-y-eq0
+returns-then-y-eq0 c =
     let k = known c.before.before.before in
     c.by_one.ensures ∙ plan_none _ _ _ _ _ _ _ _ _ _ k.n k.r k.g (omega arith) (omega arith)
 
-returns-2 : tie.Need-returns-2
-returns-2 c =
-    let m = c.before.before in let d = m.before in let t = d.before.before.before.before in
-    let k = known t.before.before in
-    let a = (begin (filters t.before.before)).args in
-    c.by-one2.ensures
-    ∙ plan_down _ _ _ _ _ _ _ _ _ _ k.n k.r d.stand-at.ensures (m.in_memory_lem.ensures ∙ ap (in_memory a.s.back) k.g) (omega arith) (omega arith)
+returns-then-x-eq0 : tie.Need-returns-then-x-eq0
+returns-then-x-eq0 c =
+    let k = known c.before.before.before.before.before.before.before.before.before in
+    let a = c.args in
+    c.by_one-then-x-eq0.ensures
+    ∙ plan_down _ _ _ _ _ _ _ _ _ _ k.n k.r c.stand_at-low.ensures (c.in_memory-g.ensures ∙ ap (in_memory a.s.back) k.g) (omega arith) (omega arith)
 
-returns-3 : tie.Need-returns-3
-returns-3 c =
-    let l = c.before in
-    let h = l.before.before.before in
-    let k = known h.before.before in
-    let a = (begin (filters h.before.before)).args in
-    let q = h.half-power2.ensures.0 ∙ ap (λ (n : ℕ). half (n - a.b)) k.n in
-    c.by-one3.ensures ∙ plan_across _ _ _ _ _ _ _ _ (up a.m.mx) (up a.m.my) k.n k.r q k.f l.stand-at2.ensures (omega arith) (omega arith)
+returns-then-y-eq0-2 : tie.Need-returns-then-y-eq0-2
+returns-then-y-eq0-2 c =
+    let k = known c.before.before.before.before.before.before in
+    let a = c.args in
+    let q = c.half_power.ensures.0 ∙ ap (λ (n : ℕ). half (n - a.b)) k.n in
+    c.by_one-then-y-eq0-2.ensures ∙ plan_across _ _ _ _ _ _ _ _ (up a.m.mx) (up a.m.my) k.n k.r q k.f c.stand_at-left.ensures (omega arith) (omega arith)
 
-returns-4 : tie.Need-returns-4
-returns-4 c =
-    let h = c.before.before.before.before.before in
-    let k = known h.before.before in
-    let a = (begin (filters h.before.before)).args in
-    let q = h.half-power2.ensures.0 ∙ ap (λ (n : ℕ). half (n - a.b)) k.n in
-    plan_both _ _ _ _ _ _ _ _ (up a.m.mx) (up a.m.my) k.n k.r q k.f c.stand-at3.ensures k.g (omega arith) (omega arith)
+returns : tie.Need-returns
+returns c =
+    let k = known c.before.before.before.before.before.before.before in
+    let a = c.args in
+    let q = c.half_power.ensures.0 ∙ ap (λ (n : ℕ). half (n - a.b)) k.n in
+    plan_both _ _ _ _ _ _ _ _ (up a.m.mx) (up a.m.my) k.n k.r q k.f c.stand_at-above.ensures k.g (omega arith) (omega arith)
 
-pub plan-8tap-spec : {M : Type 1} → Rattle.blocks.proofs.subpel.plan.plan_8tap.Statement.statement M
-plan-8tap-spec = tie.close (tie.spec (λ c κs. search rules) (λ c κs. search rules)  -- filter-bits, get-filter
-    (λ c κs. rw (across c) c.before.before.before.before.requires.3)  -- taps-requires
-    (λ c κs. search rules)  -- get-filter-requires-2
-    (λ c κs. rw (down c) c.before.before.before.before.before.before.before.requires.4)  -- taps-requires-2
-    (λ c κs. search rules) (λ c κs. search rules)  -- on-axis
-    (λ c κs. let d = c.before.before.before.before in omega (arith, bits d.before.before.before.before.before.before, bits_fit (begin d).args.m.filter_type))  -- half-power-requires
-    (λ c κs. search rules) returns  -- by_one
-    (λ c. omega (arith, only-down c.before)) (λ c. omega (arith, only-down c.before.before))  -- 3 * s.forth, 4 * s.back
-    (λ c. omega (arith, only-down c.before.before)) (λ c. omega (arith, only-down c.before.before.before))  -- s.off - (.. + ..)
-    (λ c κs. search rules) (λ c κs. search rules)  -- stand-at, in_memory_lem
-    (λ c. omega (arith, only-down c.before.before.before.before.before.before))  -- s.forth + s.back
-    (λ c κs. search rules) returns-2  -- by_one
-    (λ c. omega (arith, known c.before))  -- n - b
-    (λ c κs. omega (arith, known c.before))  -- half-power-requires-2
-    (λ c. search rules)  -- add-round
-    (λ c. let t = c.before.before.before.before in omega (arith, known t, (begin (filters t)).requires.1))  -- s.off - 3
-    (λ c κs. search rules) (λ c κs. search rules) returns-3  -- stand-at, by_one
-    (λ c. omega (arith, both c.before)) (λ c. omega (arith, both c.before.before))  -- s.off + 3 * s.back
-    (λ c. omega (arith, both c.before.before.before)) (λ c. omega (arith, both c.before.before.before))  -- 3 * s.forth + 3
-    (λ c. omega (arith, both c.before.before.before))  -- .. - ..
-    (λ c κs. search rules)  -- stand-at
-    returns-4)
+taps-f-requires : tie.Need-taps-f-requires
+taps-f-requires c κs = rw (across c) c.requires.3
+
+taps-g-requires : tie.Need-taps-g-requires
+taps-g-requires c κs = rw (down c) c.requires.4
+
+half_power-round-requires : tie.Need-half_power-round-requires
+half_power-round-requires c κs = omega (arith, bits c.before.before.before.before.before.before.before.before.before.before, bits_fit c.args.m.filter_type)
+
+overflow_mul-s : tie.Need-overflow_mul-s
+overflow_mul-s c = omega (arith, only-down c.before)
+
+overflow_mul-s-then-x-eq0 : tie.Need-overflow_mul-s-then-x-eq0
+overflow_mul-s-then-x-eq0 c = omega (arith, only-down c.before.before)
+
+overflow_add-s : tie.Need-overflow_add-s
+overflow_add-s c = omega (arith, only-down c.before.before)
+
+overflow_sub-s : tie.Need-overflow_sub-s
+overflow_sub-s c = omega (arith, only-down c.before.before.before)
+
+overflow_add-s-then-x-eq0 : tie.Need-overflow_add-s-then-x-eq0
+overflow_add-s-then-x-eq0 c = omega (arith, only-down c.before.before.before.before.before.before)
+
+overflow_sub-n : tie.Need-overflow_sub-n
+overflow_sub-n c = omega (arith, known c.before)
+
+half_power-requires : tie.Need-half_power-requires
+half_power-requires c κs = omega (arith, known c.before)
+
+overflow_sub-s-then-y-eq0-2 : tie.Need-overflow_sub-s-then-y-eq0-2
+overflow_sub-s-then-y-eq0-2 c = omega (arith, known c.before.before.before.before, c.requires.1)
+
+overflow_mul-s-2 : tie.Need-overflow_mul-s-2
+overflow_mul-s-2 c = omega (arith, both c.before)
+
+overflow_add-s-2 : tie.Need-overflow_add-s-2
+overflow_add-s-2 c = omega (arith, both c.before.before)
+
+overflow_mul-s-3 : tie.Need-overflow_mul-s-3
+overflow_mul-s-3 c = omega (arith, both c.before.before.before)
+
+overflow_add-s-3 : tie.Need-overflow_add-s-3
+overflow_add-s-3 c = omega (arith, both c.before.before.before)
+
+overflow_sub-s-2 : tie.Need-overflow_sub-s-2
+overflow_sub-s-2 c = omega (arith, both c.before.before.before)
+
+pub plan_8tap_spec : {M : Type 1} → Rattle.blocks.proofs.subpel.plan.plan_8tap.Statement.statement M
+plan_8tap_spec =
+    tie.close
+    (tie.spec
+    (λ c κs. search rules)
+    (λ c κs. search rules)
+    taps-f-requires
+    (λ c κs. search rules)
+    taps-g-requires
+    (λ c κs. search rules)
+    (λ c κs. search rules)
+    half_power-round-requires
+    (λ c κs. search rules)
+    returns-then-y-eq0
+    overflow_mul-s
+    overflow_mul-s-then-x-eq0
+    overflow_add-s
+    overflow_sub-s
+    (λ c κs. search rules)
+    (λ c κs. search rules)
+    overflow_add-s-then-x-eq0
+    (λ c κs. search rules)
+    returns-then-x-eq0
+    overflow_sub-n
+    half_power-requires
+    (λ c. search rules)
+    overflow_sub-s-then-y-eq0-2
+    (λ c κs. search rules)
+    (λ c κs. search rules)
+    returns-then-y-eq0-2
+    overflow_mul-s-2
+    overflow_add-s-2
+    overflow_mul-s-3
+    overflow_add-s-3
+    overflow_sub-s-2
+    (λ c κs. search rules)
+    returns
+    )

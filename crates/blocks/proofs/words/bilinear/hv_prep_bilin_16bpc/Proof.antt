@@ -6,30 +6,41 @@ use Rattle.blocks.proofs.Laws.Loops.Stands.{around-down}
 use Rattle.blocks.proofs.Laws.Bilinear.Ready.{bilin_ready}
 use Rattle.blocks.proofs.words.bilinear.hv_prep_bilin_16bpc.Tie as tie
 
--- the function's entry, from where the number is there
-abbrev entry : tie.After-check-bilin → tie.Start
-entry c = c.before.before.before
+number : (c : tie.After-check_bilin-number) → let a = c.args in
+    c.check_bilin-number.result
+    ≡ lowest (bilin_tests (depth_ok a.depth) (length a.tmp.now) a.tmp_stride (length a.src.now) a.src_stride a.w a.h a.mx a.my)
+number c = rw (c.depth_ok.ensures, back c.ranges.depth, back c.ranges.mx, back c.ranges.my) at c.check_bilin-number.ensures
 
-number : (c : tie.After-check-bilin) → let a = (entry c).args in
-    c.check-bilin.result
-    ≡ lowest (bilin_tests (depth_ok a.depth) (length a.tmp.now) a.tmp-stride (length a.src.now) a.src-stride a.w a.h a.mx a.my)
-number c = let s = entry c in rw (c.before.depth-ok.ensures, back s.fits.depth, back s.fits.mx, back s.fits.my) at c.check-bilin.ensures
+returns-then-number-eq0 : tie.Need-returns-then-number-eq0
+returns-then-number-eq0 c =
+    let f = c.ranges in
+    let q = rw (c.top_down-s.ensures, around-down 0 c.args.src.now 0 c.args.src_stride, c.up32-f.ensures, c.up32-g.ensures, c.depth_numbers-d.ensures, back f.depth, back f.mx, back f.my)
+    at c.prep_bilin_rows.ensures in
+    (number c.before.before.before.before.before.before.before.before, q ∙ sym (done _ _ _ c.if-number-eq0.true))
 
-returns : tie.Need-returns
-returns c =
-    let r = c.before in let s = r.before.before in let a = s.before in let b = a.before in let n = b.before in let t = n.before in let e = entry t.before in let f = e.fits in
-    let q = rw (s.top-down.ensures, around-down 0 e.args.src.now 0 e.args.src-stride, b.up32.ensures, a.up322.ensures, n.depth-numbers.ensures, back f.depth, back f.mx, back f.my)
-    at r.prep-bilin-rows.ensures in
-    (number t.before, q ∙ sym (done _ _ _ t.if1.true))
+prep_bilin_rows-requires : tie.Need-prep_bilin_rows-requires
+prep_bilin_rows-requires c κs =
+    let q = bilin_ready _ _ (sym c.check_bilin-number.ensures ∙ c.if-number-eq0.true) in let p = sym c.depth_ok.ensures ∙ q.0 in
+    rw (c.top_down-s.ensures, c.up32-f.ensures, c.up32-g.ensures, c.depth_numbers-d.ensures) (q.1, depth_bits _ p, depth_bias _ p)
 
-rows-requires : tie.Need-prep-bilin-rows-requires
-rows-requires c κs =
-    let s = c.before in let a = s.before in let n = a.before.before in let t = n.before in let k = t.before in
-    let q = bilin_ready _ _ (sym k.check-bilin.ensures ∙ t.if1.true) in let p = sym k.before.depth-ok.ensures ∙ q.0 in
-    rw (s.top-down.ensures, a.before.up32.ensures, a.up322.ensures, n.depth-numbers.ensures) (q.1, depth_bits _ p, depth_bias _ p)
+depth_numbers-d-requires : tie.Need-depth_numbers-d-requires
+depth_numbers-d-requires c κs = sym c.depth_ok.ensures ∙ (bilin_ready _ _ (sym c.check_bilin-number.ensures ∙ c.if-number-eq0.true)).0
 
-pub hv-prep-bilin-16bpc-spec : {M : Type 1} → Rattle.blocks.proofs.words.bilinear.hv_prep_bilin_16bpc.Statement.statement M
-hv-prep-bilin-16bpc-spec = tie.close (tie.spec (λ c κs. search rules) (λ c κs. search rules)  -- depth-ok, check-bilin
-    (λ c κs. let k = c.before in sym k.before.depth-ok.ensures ∙ (bilin_ready _ _ (sym k.check-bilin.ensures ∙ c.if1.true)).0)
-    (λ c κs. search rules) (λ c κs. search rules) (λ c κs. search rules) rows-requires (λ c. search rules) returns  -- above, top-down, same-length
-    (λ c. (number c.before, sym (refused _ _ _ c.if1.false))))
+returns-else-number-eq0 : tie.Need-returns-else-number-eq0
+returns-else-number-eq0 c = (number c.before, sym (refused _ _ _ c.if-number-eq0.false))
+
+pub hv_prep_bilin_16bpc_spec : {M : Type 1} → Rattle.blocks.proofs.words.bilinear.hv_prep_bilin_16bpc.Statement.statement M
+hv_prep_bilin_16bpc_spec =
+    tie.close
+    (tie.spec
+    (λ c κs. search rules)
+    (λ c κs. search rules)
+    depth_numbers-d-requires
+    (λ c κs. search rules)
+    (λ c κs. search rules)
+    (λ c κs. search rules)
+    prep_bilin_rows-requires
+    (λ c. search rules)
+    returns-then-number-eq0
+    returns-else-number-eq0
+    )

@@ -5,33 +5,39 @@ use Rattle.blocks.proofs.Laws.words.Depth.{depth_bits, depth_bias, depth-max}
 use Rattle.blocks.proofs.Laws.Combine.Ready.{mask_ready}
 use Rattle.blocks.proofs.words.combine.hv_mask_16bpc.Tie as tie
 
-abbrev entry : tie.After-check-combine → tie.Start
-entry c = c.before.before.before.before.before
-
-number : (c : tie.After-check-combine) → let a = (entry c).args in
+number : (c : tie.After-check_combine-number) → let a = c.args in
     let t1 = length a.tmp1.now in let t2 = length a.tmp2.now in
-    c.check-combine.result ≡ lowest (mask_tests (depth_ok a.depth) (length a.dst.now) a.dst-stride t1 t2 a.w a.h (length a.mask.now))
-number c = rw (c.before.before.depth-ok.ensures, c.before.Holds-rows.ensures, back (entry c).ranges.depth) at c.check-combine.ensures
+    c.check_combine-number.result ≡ lowest (mask_tests (depth_ok a.depth) (length a.dst.now) a.dst_stride t1 t2 a.w a.h (length a.mask.now))
+number c = rw (c.depth_ok.ensures, c.holds_rows.ensures, back c.ranges.depth) at c.check_combine-number.ensures
 
-depth : (c : tie.After-depth-numbers) → c.depth-numbers.result ≡ numbers_of (up (entry c.before.before).args.depth)
-depth c = c.depth-numbers.ensures ∙ ap (λ (z : ℤ). numbers_of (up z)) (back (entry c.before.before).ranges.depth)
+depth : (c : tie.After-depth_numbers-d) → c.depth_numbers-d.result ≡ numbers_of (up c.args.depth)
+depth c = c.depth_numbers-d.ensures ∙ ap (λ (z : ℤ). numbers_of (up z)) (back c.ranges.depth)
 
-depth-numbers-requires : tie.Need-depth-numbers-requires
-depth-numbers-requires c κs = rw (back (entry c.before).ranges.depth) (mask_ready (sym (number c.before) ∙ c.if1.true)).0
+depth_numbers-d-requires : tie.Need-depth_numbers-d-requires
+depth_numbers-d-requires c κs = rw (back c.ranges.depth) (mask_ready (sym (number c.before) ∙ c.if-number-eq0.true)).0
 
-mask-rows-requires : tie.Need-mask-rows-requires
-mask-rows-requires c κs =
-    let t = c.before.before in
-    let p = mask_ready (sym (number t.before) ∙ t.if1.true) in
+mask_rows-requires : tie.Need-mask_rows-requires
+mask_rows-requires c κs =
+    let p = mask_ready (sym (number c.before.before.before) ∙ c.if-number-eq0.true) in
     rw (depth c.before) (p.1.0, p.1.1, p.1.2, p.1.3, p.1.4.fits, depth_bits _ p.0, depth_bias _ p.0, depth-max _ p.0)
 
-returns : tie.Need-returns
-returns c =
-    let n = c.before.before.before.before in
-    (number n.before.before, rw (depth n) at c.before.before.mask-rows.ensures ∙ sym (done _ _ _ n.before.if1.true))
+returns-then-number-eq0 : tie.Need-returns-then-number-eq0
+returns-then-number-eq0 c =
+    (number c.before.before.before.before.before.before, rw (depth c.before.before.before.before) at c.mask_rows.ensures ∙ sym (done _ _ _ c.if-number-eq0.true))
 
-pub hv-mask-16bpc-spec : {M : Type 1} → Rattle.blocks.proofs.words.combine.hv_mask_16bpc.Statement.statement M
-hv-mask-16bpc-spec = tie.close (tie.spec
-    (λ c κs. search rules) (λ c κs. search rules) (λ c κs. search rules) depth-numbers-requires  -- depth-ok, Holds-rows, check-combine
-    mask-rows-requires (λ c. search rules) returns  -- same-length
-    (λ c. (number c.before, sym (refused _ _ _ c.if1.false))))  -- returns-2
+returns-else-number-eq0 : tie.Need-returns-else-number-eq0
+returns-else-number-eq0 c = (number c.before, sym (refused _ _ _ c.if-number-eq0.false))
+
+pub hv_mask_16bpc_spec : {M : Type 1} → Rattle.blocks.proofs.words.combine.hv_mask_16bpc.Statement.statement M
+hv_mask_16bpc_spec =
+    tie.close
+    (tie.spec
+    (λ c κs. search rules)
+    (λ c κs. search rules)
+    (λ c κs. search rules)
+    depth_numbers-d-requires
+    mask_rows-requires
+    (λ c. search rules)
+    returns-then-number-eq0
+    returns-else-number-eq0
+    )

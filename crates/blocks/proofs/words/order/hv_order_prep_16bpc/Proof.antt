@@ -6,61 +6,65 @@ use Rattle.blocks.proofs.Laws.Order.Run.{ordered_number, ordered, ordered_deep, 
 use Rattle.blocks.proofs.Laws.Order.Run.{setting_passed, prep_passed}
 use Rattle.blocks.proofs.words.order.hv_order_prep_16bpc.Tie as tie
 
--- the function's entry, and the window's call, from where its number is 0
-abbrev entry : tie.After-order-window → tie.Start
-entry c = c.before.before.before.before.before.before
-
-abbrev window : tie.Then1 → tie.After-order-window
-window c = c.before.before.before.before
-
-kind-is : (c : tie.After-order-window) → let a = (entry c).args in
-    c.before.before.before.kind-of.result ≡ kind_of a.kind a.mx a.my a.filter-type a.a a.b a.c a.d
+kind-is : (c : tie.After-order_window-part) → let a = c.args in
+    c.kind_of-k.result ≡ kind_of a.kind a.mx a.my a.filter_type a.a a.b a.c a.d
 kind-is c =
-    let f = (entry c).ranges in
-    rw (back f.mx, back f.my, back f.filter-type, back f.a, back f.b, back f.c, back f.d) at c.before.before.before.kind-of.ensures
+    let f = c.ranges in
+    rw (back f.mx, back f.my, back f.filter_type, back f.a, back f.b, back f.c, back f.d) at c.kind_of-k.ensures
 
 -- the depth as it is passed on, and the tables
-abbrev depth : tie.After-order-window → ℕ
-depth c = up (passed w32 (entry c).args.depth)
+abbrev depth : tie.After-order_window-part → ℕ
+depth c = up (passed w32 c.args.depth)
 
-abbrev tables : tie.After-order-window → Tables
-tables c = let a = (entry c).args in record { subpel = a.subpel.now; ext = a.ext.now; warp = a.warp.now }
+abbrev tables : tie.After-order_window-part → Tables
+tables c = let a = c.args in record { subpel = a.subpel.now; ext = a.ext.now; warp = a.warp.now }
 
-deep : (c : tie.Then1) → depth_ok (passed w32 (entry (window c)).args.depth) ≡ true
+deep : (c : tie.Then-part-eq0) → depth_ok (passed w32 c.args.depth) ≡ true
 deep c =
-    let w = window c in
-    sym w.before.before.depth-ok.ensures
-    ∙ ordered_deep (ordered (depth w) (tables w) refl w.order_window.ensures c.if1.true)
+    sym c.depth_ok.ensures
+    ∙ ordered_deep (ordered (depth c.before.before.before.before) (tables c.before.before.before.before) refl c.order_window-part.ensures c.if-part-eq0.true)
 
-pick-requires : tie.Need-pick-requires
-pick-requires c κs =
-    let t = c.before.before in let w = window t in
-    order_part_lem (ordered (depth w) (tables w) refl w.order_window.ensures t.if1.true)
+pick-src-requires : tie.Need-pick-src-requires
+pick-src-requires c κs =
+    order_part_lem (ordered (depth c.before.before.before.before.before) (tables c.before.before.before.before.before) refl c.order_window-part.ensures c.if-part-eq0.true)
 
-prep-kind-requires : tie.Need-prep-kind-requires
-prep-kind-requires c κs =
-    let s = c.before in let d = s.before.before in let t = d.before in let p = deep t in let w = window t in
-    let r = order_rows (ordered (depth w) (tables w) refl w.order_window.ensures t.if1.true) s.pick.ensures in
-    rw d.depth-numbers.ensures (r.0, r.1, depth_bits _ p, depth_bias _ p)
+prep_kind-requires : tie.Need-prep_kind-requires
+prep_kind-requires c κs =
+    let p = deep c.before.before.before in let r = order_rows (ordered (depth c.before.before.before.before.before.before.before) (tables c.before.before.before.before.before.before.before) refl c.order_window-part.ensures c.if-part-eq0.true) c.pick-src.ensures in
+    rw c.depth_numbers-numbers.ensures (r.0, r.1, depth_bits _ p, depth_bias _ p)
 
-returns : tie.Need-returns
-returns c =
-    let k = c.before in let s = k.before.before in let d = s.before.before in let t = d.before in
-    let w = window t in let f = (entry w).fits in
-    let q = ordered (depth w) (tables w) refl w.order_window.ensures t.if1.true in
-    let e = rw d.depth-numbers.ensures at k.prep-kind.ensures in
-    prep_passed _ _ _ _ _ (setting_passed _ _ (w.before.before.depth-ok.ensures ∙ ap depth_ok (back f.depth)) (ap up (back f.depth)))
-    (order_passed _ _ (back f.x) (back f.y) (kind-is w)) _ _
-    (prep-done _ _ _ _ _ _ (ordered_number (depth w) (tables w) refl w.order_window.ensures) q s.pick.ensures e)
+returns-then-part-eq0 : tie.Need-returns-then-part-eq0
+returns-then-part-eq0 c =
+    let f = c.ranges in
+    let q = ordered (depth c.before.before.before.before.before.before.before.before.before) (tables c.before.before.before.before.before.before.before.before.before) refl c.order_window-part.ensures c.if-part-eq0.true in
+    let e = rw c.depth_numbers-numbers.ensures at c.prep_kind.ensures in
+    prep_passed _ _ _ _ _ (setting_passed _ _ (c.depth_ok.ensures ∙ ap depth_ok (back f.depth)) (ap up (back f.depth)))
+    (order_passed _ _ (back f.x) (back f.y) (kind-is c.before.before.before.before.before.before.before.before.before)) _ _
+    (prep-done _ _ _ _ _ _ (ordered_number (depth c.before.before.before.before.before.before.before.before.before) (tables c.before.before.before.before.before.before.before.before.before) refl c.order_window-part.ensures) q c.pick-src.ensures e)
 
-returns-2 : tie.Need-returns-2
-returns-2 c =
-    let w = c.before.before.before.before in let f = (entry w).ranges in
-    prep_passed _ _ _ _ _ (setting_passed _ _ (w.before.before.depth-ok.ensures ∙ ap depth_ok (back f.depth)) (ap up (back f.depth)))
-    (order_passed _ _ (back f.x) (back f.y) (kind-is w)) _ _
-    (prep-refused _ _ _ _ _ _ (ordered_number (depth w) (tables w) refl w.order_window.ensures) w.order_window.ensures.full c.if1.false)
+returns-else-part-eq0 : tie.Need-returns-else-part-eq0
+returns-else-part-eq0 c =
+    let f = c.ranges in
+    prep_passed _ _ _ _ _ (setting_passed _ _ (c.depth_ok.ensures ∙ ap depth_ok (back f.depth)) (ap up (back f.depth)))
+    (order_passed _ _ (back f.x) (back f.y) (kind-is c.before.before.before.before)) _ _
+    (prep-refused _ _ _ _ _ _ (ordered_number (depth c.before.before.before.before) (tables c.before.before.before.before) refl c.order_window-part.ensures) c.order_window-part.ensures.full c.if-part-eq0.false)
 
-pub hv-order-prep-16bpc-spec : {M : Type 1} → Rattle.blocks.proofs.words.order.hv_order_prep_16bpc.Statement.statement M
-hv-order-prep-16bpc-spec = tie.close (tie.spec (λ c κs. search rules) (λ c κs. search rules) (λ c κs. search rules)  -- kind-of, depth-ok, order_window
-    (λ c κs. deep c) pick-requires prep-kind-requires  -- depth-numbers-requires
-    (λ c. search rules) (λ c. search rules) returns (λ c. search rules) returns-2)  -- same-length
+depth_numbers-numbers-requires : tie.Need-depth_numbers-numbers-requires
+depth_numbers-numbers-requires c κs = deep c
+
+pub hv_order_prep_16bpc_spec : {M : Type 1} → Rattle.blocks.proofs.words.order.hv_order_prep_16bpc.Statement.statement M
+hv_order_prep_16bpc_spec =
+    tie.close
+    (tie.spec
+    (λ c κs. search rules)
+    (λ c κs. search rules)
+    (λ c κs. search rules)
+    depth_numbers-numbers-requires
+    pick-src-requires
+    prep_kind-requires
+    (λ c. search rules)
+    (λ c. search rules)
+    returns-then-part-eq0
+    (λ c. search rules)
+    returns-else-part-eq0
+    )

@@ -7,39 +7,51 @@ use Rattle.blocks.proofs.Laws.Scaled.Ready.{ScaledMet, scaled_ready, even_bits, 
 use Rattle.blocks.proofs.Laws.Scaled.Rule.{prep_paired}
 use Rattle.blocks.proofs.words.scaled.hv_prep_bilin_scaled_16bpc.Tie as tie
 
-abbrev begin : tie.After-check-scaled → tie.Start
-begin c = c.before.before.before
-
-number : (c : tie.After-check-scaled) → let a = (begin c).args in
-    c.check-scaled.result ≡ lowest (scaled_tests false (depth_ok a.depth) true true
-    (length a.tmp.now) a.tmp-stride (length a.src.now) a.src-off a.src-stride a.w a.h a.mx a.my a.dx a.dy)
+number : (c : tie.After-check_scaled-number) → let a = c.args in
+    c.check_scaled-number.result ≡ lowest (scaled_tests false (depth_ok a.depth) true true
+    (length a.tmp.now) a.tmp_stride (length a.src.now) a.src_off a.src_stride a.w a.h a.mx a.my a.dx a.dy)
 number c =
-    let f = (begin c).ranges in
-    rw (c.before.depth-ok.ensures, back f.depth, back f.mx, back f.my, back f.dx, back f.dy) at c.check-scaled.ensures
+    let f = c.ranges in
+    rw (c.depth_ok.ensures, back f.depth, back f.mx, back f.my, back f.dx, back f.dy) at c.check_scaled-number.ensures
 
-met : (c : tie.Then1) → let a = (begin c.before).args in
+met : (c : tie.Then-number-eq0) → let a = c.args in
     ScaledMet false (depth_ok a.depth) true true
-    (length a.tmp.now) a.tmp-stride (length a.src.now) a.src-off a.src-stride a.w a.h a.mx a.my a.dx a.dy
-met c = scaled_ready (sym (number c.before) ∙ c.if1.true)
+    (length a.tmp.now) a.tmp_stride (length a.src.now) a.src_off a.src_stride a.w a.h a.mx a.my a.dx a.dy
+met c = scaled_ready (sym (number c.before) ∙ c.if-number-eq0.true)
 
-returns : tie.Need-returns
-returns c =
-    let e = c.before in let p = e.before.before in let s = p.before in let d = s.before in let t = d.before in let m = met t in
-    let f = (begin t.before).ranges in
+returns-then-number-eq0 : tie.Need-returns-then-number-eq0
+returns-then-number-eq0 c =
+    let m = met c.before.before.before.before.before.before in
+    let f = c.ranges in
     let q =
-    rw (p.scaled-plan.ensures, s.top-down.ensures, d.depth-numbers.ensures, back f.depth, back f.mx, back f.my, back f.dx, back f.dy)
-    at e.prep-bilin-scaled-rows.ensures in
-    (number t.before, q ∙ prep_paired _ _ _ _ _ _ _ _ _ _ _ _ _ _ (omega (arith, m.rows, m.block)) ∙ sym (done _ _ _ t.if1.true))
+    rw (c.scaled_plan-p.ensures, c.top_down-s.ensures, c.depth_numbers-d.ensures, back f.depth, back f.mx, back f.my, back f.dx, back f.dy)
+    at c.prep_bilin_scaled_rows.ensures in
+    (number c.before.before.before.before.before.before.before, q ∙ prep_paired _ _ _ _ _ _ _ _ _ _ _ _ _ _ (omega (arith, m.rows, m.block)) ∙ sym (done _ _ _ c.if-number-eq0.true))
 
-prep-bilin-scaled-rows-requires : tie.Need-prep-bilin-scaled-rows-requires
+prep_bilin_scaled_rows-requires : tie.Need-prep_bilin_scaled_rows-requires
 unfolding scaled_plan
-prep-bilin-scaled-rows-requires c κs =
-    let p = c.before in let s = p.before in let d = s.before in let t = d.before in let m = met t in let f = (begin t.before).ranges in
-    rw (p.scaled-plan.ensures, s.top-down.ensures, d.depth-numbers.ensures, back f.depth, back f.mx, back f.my, back f.dx, back f.dy)
-    (m.block, m.rows, pairs_met m (pos 0) _ (even_bits (up (begin t.before).args.depth)), depth_bits _ m.deep, depth_bias _ m.deep)
+prep_bilin_scaled_rows-requires c κs =
+    let m = met c.before.before.before.before in let f = c.ranges in
+    rw (c.scaled_plan-p.ensures, c.top_down-s.ensures, c.depth_numbers-d.ensures, back f.depth, back f.mx, back f.my, back f.dx, back f.dy)
+    (m.block, m.rows, pairs_met m (pos 0) _ (even_bits (up c.args.depth)), depth_bits _ m.deep, depth_bias _ m.deep)
 
-pub hv-prep-bilin-scaled-16bpc-spec : {M : Type 1} → Rattle.blocks.proofs.words.scaled.hv_prep_bilin_scaled_16bpc.Statement.statement M
-hv-prep-bilin-scaled-16bpc-spec = tie.close (tie.spec (λ c κs. search rules) (λ c κs. search rules)  -- depth-ok, check-scaled
-    (λ c κs. rw (back (begin c.before).ranges.depth) (met c).deep)  -- depth-numbers
-    (λ c κs. search rules) (λ c κs. search rules)  -- top-down, scaled-plan
-    prep-bilin-scaled-rows-requires (λ c. search rules) returns (λ c. (number c.before, sym (refused _ _ _ c.if1.false))))
+depth_numbers-d-requires : tie.Need-depth_numbers-d-requires
+depth_numbers-d-requires c κs = rw (back c.ranges.depth) (met c).deep
+
+returns-else-number-eq0 : tie.Need-returns-else-number-eq0
+returns-else-number-eq0 c = (number c.before, sym (refused _ _ _ c.if-number-eq0.false))
+
+pub hv_prep_bilin_scaled_16bpc_spec : {M : Type 1} → Rattle.blocks.proofs.words.scaled.hv_prep_bilin_scaled_16bpc.Statement.statement M
+hv_prep_bilin_scaled_16bpc_spec =
+    tie.close
+    (tie.spec
+    (λ c κs. search rules)
+    (λ c κs. search rules)
+    depth_numbers-d-requires
+    (λ c κs. search rules)
+    (λ c κs. search rules)
+    prep_bilin_scaled_rows-requires
+    (λ c. search rules)
+    returns-then-number-eq0
+    returns-else-number-eq0
+    )

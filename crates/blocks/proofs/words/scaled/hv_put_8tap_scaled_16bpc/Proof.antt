@@ -8,61 +8,57 @@ use Rattle.blocks.proofs.Laws.Scaled.Ready.{ScaledMet, scaled_ready, taps_met}
 use Rattle.blocks.proofs.Laws.Scaled.Rule.{put_planned}
 use Rattle.blocks.proofs.words.scaled.hv_put_8tap_scaled_16bpc.Tie as tie
 
-abbrev begin : tie.After-check-scaled → tie.Start
-begin c = c.before.before.before.before.before
-
-number : (c : tie.After-check-scaled) → let a = (begin c).args in
-    c.check-scaled.result ≡ lowest (scaled_tests true (depth_ok a.depth) (scaled_type_ok a.filter-type) (subpel_ok (length a.subpel.now))
-    (length a.dst.now) a.dst-stride (length a.src.now) a.src-off a.src-stride a.w a.h a.mx a.my a.dx a.dy)
+number : (c : tie.After-check_scaled-number) → let a = c.args in
+    c.check_scaled-number.result ≡ lowest (scaled_tests true (depth_ok a.depth) (scaled_type_ok a.filter_type) (subpel_ok (length a.subpel.now))
+    (length a.dst.now) a.dst_stride (length a.src.now) a.src_off a.src_stride a.w a.h a.mx a.my a.dx a.dy)
 unfolding subpel_ok
 number c =
-    let f = (begin c).ranges in let t = c.before in
-    rw (
-      t.scaled-type-ok.ensures,
-      t.before.depth-ok.ensures,
+    let f = c.ranges in rw (
+      c.scaled_type_ok.ensures,
+      c.depth_ok.ensures,
       back f.depth,
-      back f.filter-type,
+      back f.filter_type,
       back f.mx,
       back f.my,
       back f.dx,
       back f.dy,
-    ) at c.check-scaled.ensures
+    ) at c.check_scaled-number.ensures
 
-met : (c : tie.Then1) → let a = (begin c.before).args in
-    ScaledMet true (depth_ok a.depth) (scaled_type_ok a.filter-type) (subpel_ok (length a.subpel.now))
-    (length a.dst.now) a.dst-stride (length a.src.now) a.src-off a.src-stride a.w a.h a.mx a.my a.dx a.dy
-met c = scaled_ready (sym (number c.before) ∙ c.if1.true)
+met : (c : tie.Then-number-eq0) → let a = c.args in
+    ScaledMet true (depth_ok a.depth) (scaled_type_ok a.filter_type) (subpel_ok (length a.subpel.now))
+    (length a.dst.now) a.dst_stride (length a.src.now) a.src_off a.src_stride a.w a.h a.mx a.my a.dx a.dy
+met c = scaled_ready (sym (number c.before) ∙ c.if-number-eq0.true)
 
-returns : tie.Need-returns
-returns c =
-    let e = c.before.before in let p = e.before.before in let s = p.before in let d = s.before in let t = d.before in let m = met t in
-    let f = (begin t.before).ranges in
+returns-then-number-eq0 : tie.Need-returns-then-number-eq0
+returns-then-number-eq0 c =
+    let m = met c.before.before.before.before.before.before.before in
+    let f = c.ranges in
     let q =
     rw (
-      p.scaled-plan.ensures,
-      s.top-down.ensures,
-      d.depth-numbers.ensures,
+      c.scaled_plan-p.ensures,
+      c.top_down-s.ensures,
+      c.depth_numbers-d.ensures,
       back f.depth,
-      back f.filter-type,
+      back f.filter_type,
       back f.mx,
       back f.my,
       back f.dx,
       back f.dy,
-    ) at e.put-8tap-scaled-rows.ensures in (
-      number t.before,
-      q ∙ put_planned _ _ _ _ _ _ _ _ _ _ _ _ (taps_met _ _ m 0).0 _ _ _ (omega (arith, m.rows, m.block)) ∙ sym (done _ _ _ t.if1.true),
+    ) at c.put_8tap_scaled_rows.ensures in (
+      number c.before.before.before.before.before.before.before.before,
+      q ∙ put_planned _ _ _ _ _ _ _ _ _ _ _ _ (taps_met _ _ m 0).0 _ _ _ (omega (arith, m.rows, m.block)) ∙ sym (done _ _ _ c.if-number-eq0.true),
     )
 
-put-8tap-scaled-rows-requires : tie.Need-put-8tap-scaled-rows-requires
+put_8tap_scaled_rows-requires : tie.Need-put_8tap_scaled_rows-requires
 unfolding scaled_plan
-put-8tap-scaled-rows-requires c κs =
-    let p = c.before in let s = p.before in let d = s.before in let t = d.before in let m = met t in let f = (begin t.before).ranges in
+put_8tap_scaled_rows-requires c κs =
+    let m = met c.before.before.before.before in let f = c.ranges in
     rw (
-      p.scaled-plan.ensures,
-      s.top-down.ensures,
-      d.depth-numbers.ensures,
+      c.scaled_plan-p.ensures,
+      c.top_down-s.ensures,
+      c.depth_numbers-d.ensures,
       back f.depth,
-      back f.filter-type,
+      back f.filter_type,
       back f.mx,
       back f.my,
       back f.dx,
@@ -70,10 +66,32 @@ put-8tap-scaled-rows-requires c κs =
     )
     (m.block, m.rows, (taps_met _ _ m _).1, depth_bits _ m.deep, depth-max _ m.deep)
 
-pub hv-put-8tap-scaled-16bpc-spec : {M : Type 1} → Rattle.blocks.proofs.words.scaled.hv_put_8tap_scaled_16bpc.Statement.statement M
-hv-put-8tap-scaled-16bpc-spec = tie.close (tie.spec
-    (λ c κs. search rules) (λ c κs. search rules) (λ c κs. search rules)  -- depth-ok, scaled-type-ok, check-scaled
-    (λ c κs. rw (back (begin c.before).ranges.depth) (met c).deep)  -- depth-numbers
-    (λ c. omega (arith, (met c.before).most)) (λ c. (taps_met _ _ (met c.before) 0).0)  -- src_off - 3 * src_stride
-    (λ c κs. search rules) (λ c κs. search rules)  -- top-down, scaled-plan
-    put-8tap-scaled-rows-requires (λ c. search rules) returns (λ c. (number c.before, sym (refused _ _ _ c.if1.false))))
+depth_numbers-d-requires : tie.Need-depth_numbers-d-requires
+depth_numbers-d-requires c κs = rw (back c.ranges.depth) (met c).deep
+
+overflow_mul-src_stride : tie.Need-overflow_mul-src_stride
+overflow_mul-src_stride c = omega (arith, (met c.before).most)
+
+overflow_sub-src_off : tie.Need-overflow_sub-src_off
+overflow_sub-src_off c = (taps_met _ _ (met c.before) 0).0
+
+returns-else-number-eq0 : tie.Need-returns-else-number-eq0
+returns-else-number-eq0 c = (number c.before, sym (refused _ _ _ c.if-number-eq0.false))
+
+pub hv_put_8tap_scaled_16bpc_spec : {M : Type 1} → Rattle.blocks.proofs.words.scaled.hv_put_8tap_scaled_16bpc.Statement.statement M
+hv_put_8tap_scaled_16bpc_spec =
+    tie.close
+    (tie.spec
+    (λ c κs. search rules)
+    (λ c κs. search rules)
+    (λ c κs. search rules)
+    depth_numbers-d-requires
+    overflow_mul-src_stride
+    overflow_sub-src_off
+    (λ c κs. search rules)
+    (λ c κs. search rules)
+    put_8tap_scaled_rows-requires
+    (λ c. search rules)
+    returns-then-number-eq0
+    returns-else-number-eq0
+    )

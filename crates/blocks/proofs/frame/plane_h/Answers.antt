@@ -1,0 +1,5 @@
+use Rattle.blocks.proofs.Usual.{rules}
+use Rattle.blocks.proofs.frame.plane_h.Goals as goal
+
+pub returns : goal.returns
+returns c = c.plane_side.ensures

@@ -1,0 +1,6 @@
+use Rattle.blocks.proofs.Usual.{refl, rules, row_of, row_from}
+use Rattle.blocks.proofs.scaled.turned.Goals as goal
+
+pub returns : goal.returns
+unfolding row_of row_from
+returns c = refl

@@ -1,0 +1,17 @@
+use Rattle.blocks.proofs.Usual.{◌∙◌, ◌-◌, arith, pos, at, back, fit}
+use mir.Syntax.{w8}
+use Rattle.rows.proofs.Laws.Blocks.Row.{Upto, upto_none, upto_more, upto_all}
+use Rattle.blocks.proofs.Laws.Subpel.Turned.{memory_same, memory_turned}
+use Rattle.blocks.proofs.subpel.plan.in_memory.Goals as goal
+
+pub returns : goal.returns
+returns c = upto_all c.loop-t.invariant (omega arith) ∙ memory_turned _ _ (omega (arith, c.if-back-eq0.false))
+
+pub returns-then-back-eq0 : goal.returns-then-back-eq0
+returns-then-back-eq0 c = memory_same _ c.if-back-eq0.true
+
+pub loop-t-init : goal.loop-t-init
+loop-t-init c = upto_none (pos 0) _ _
+
+pub loop-t-preserved : goal.loop-t-preserved
+loop-t-preserved c = upto_more c.loop-t.invariant (omega arith) (back (fit w8 c.r-1.given))

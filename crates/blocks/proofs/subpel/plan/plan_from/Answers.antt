@@ -1,0 +1,5 @@
+use Rattle.blocks.proofs.Usual.{refl, rules}
+use Rattle.blocks.proofs.subpel.plan.plan_from.Goals as goal
+
+pub returns : goal.returns
+returns c = rw (c.stand_at-rows.ensures, c.row_first.ensures) refl

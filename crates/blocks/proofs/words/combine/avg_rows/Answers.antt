@@ -1,0 +1,46 @@
+use Rattle.blocks.proofs.Usual.{◌≤◌, ◌*◌, ◌+◌, ◌-◌, arith, rules, length, Filled, filled_none, row_in, block-loop, Turn, turn}
+use Rattle.rows.specs.Combine.{avg, both}
+use Rattle.blocks.proofs.words.combine.avg_rows.Goals as goal
+use Rattle.blocks.proofs.words.combine.avg_rows.Goals.{In-loop-y}
+
+row : (c : In-loop-y) → let a = c.args in let y = c.loop-y.y in
+    Turn a.dst_stride a.w y c.loop-y.dst × (y * a.w + a.w ≤ length a.tmp1.now) × (y * a.w + a.w ≤ length a.tmp2.now)
+row c =
+    let p = c.requires in let y = c.loop-y.y in let lt = c.loop-y-test.true in
+    (turn 0 c.loop-y.invariant p.1 lt, row_in y p.2 lt, row_in y p.3 lt)
+
+pub loop-y-init : goal.loop-y-init
+loop-y-init c = filled_none 0 _ _ _ _ _ (omega (arith, c.requires))
+
+pub overflow_mul-p : goal.overflow_mul-p
+overflow_mul-p c = omega (arith, row c)
+
+pub overflow_add-p : goal.overflow_add-p
+overflow_add-p c = omega (arith, row c)
+
+pub offset_bounds-dst-p : goal.offset_bounds-dst-p  -- words
+offset_bounds-dst-p c = omega (arith, row c)  -- words
+
+pub slice_bounds-avg_row-count : goal.slice_bounds-avg_row-count
+slice_bounds-avg_row-count c = omega (arith, row c)
+
+pub slice_bounds-avg_row-start : goal.slice_bounds-avg_row-start
+slice_bounds-avg_row-start c = omega (arith, row c)
+
+pub slice_bounds-avg_row-end : goal.slice_bounds-avg_row-end
+slice_bounds-avg_row-end c = omega (arith, row c)
+
+pub overflow_mul-y : goal.overflow_mul-y
+overflow_mul-y c = omega (arith, row (goal.at.overflow_mul-y c).In-loop-y)
+
+pub avg_row-requires : goal.avg_row-requires
+avg_row-requires c = omega (arith, row (goal.at.avg_row-requires c).In-loop-y)
+
+pub loop-y-preserved : goal.loop-y-preserved
+loop-y-preserved c = search block-loop
+
+pub shape_of-dst : goal.shape_of-dst
+shape_of-dst c = search block-loop
+
+pub returns : goal.returns
+returns c = search block-loop
