@@ -1,6 +1,7 @@
 // The C functions of the warp model, which have no pixels. Made from crates/blocks by tools/exports: change that.
 ghost use Rattle.std.specs.Prelude.{◌≡◌};
 ghost use Rattle.blocks.specs.Shear.{divisor_of, ShearAnswer, AffineMvAnswer};
+ghost use Rattle.blocks.specs.declared.shear.Divisor.{Divisor};
 
 use blocks::shear;
 
