@@ -14,8 +14,10 @@ module _ (c : After-filter_no) where
 
   is : to_z w32 (of_z w32 c.filter_no.result) ≡ Z
   is =
-      let g = c.struct_told-3-1.given in
-      back f ∙ (rw (back (fit w32 g.0.1), back (fit w16 g.1.0.1), back (fit w16 g.1.1.0.1)) at c.filter_no.ensures)
+      let s = c.args.by in let g = c.struct_told-3-1.given in
+      back f
+      ∙ (rw (back {z = s.m} (fit w32 g.0.1), back {z = s.a} (fit w16 g.1.0.1), back {z = s.b} (fit w16 g.1.1.0.1))
+      at c.filter_no.ensures)
 
   inside : T (non_neg Z) × (nat_abs Z < length c.args.table.now / 8)
   inside = in_place _ Z c.requires.3
