@@ -1,0 +1,2 @@
+-- What the proof of a run cites.
+mod Warp
