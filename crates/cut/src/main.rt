@@ -4,36 +4,37 @@
 
 ghost use Rattle.std.specs.Prelude.{◌<◌};
 
+use std::io;
 use tiles::predict_in_tiles;
 
 mod tiles;
 
 // What stands before number i: a line's end or a space.
-fn gap(i: usize, stride: usize)
+fn gap(rt: &impl Print, i: usize, stride: usize) -> io::Result<()>
     requires { 0 < stride }
 {
     if i % stride == 0 {
-        io::write_all(1, b"\n");
+        println!(rt)
     } else {
-        io::write_all(1, b" ");
+        print!(rt; " ")
     }
 }
 
-fn show(number: u32, d: &[u16], stride: usize)
+fn show(rt: &impl Print, number: u32, d: &[u16], stride: usize) -> io::Result<()>
     requires { 0 < stride }
 {
-    io::print_decimal(1, number as u64);
+    print!(rt; "{number}")?;
     let mut i = 0;
     while i < d.len() {
-        gap(i, stride);
-        io::print_decimal(1, d[i] as u64);
+        gap(rt, i, stride)?;
+        print!(rt; "{}", d[i])?;
         i += 1;
     }
-    gap(0, stride);
+    gap(rt, 0, stride)
 }
 
 // 3 x 3 from column -1 of row -1 on, from one pixel before the plane to its last, at the fractions mx and my. Tiles are 1 x 2, then 1 x 1.
-fn corner(kind: u32, mx: i32, my: i32) {
+fn corner(rt: &impl Print, kind: u32, mx: i32, my: i32) -> io::Result<()> {
     let mut d = [9u16; 12];
     let number = predict_in_tiles(
         10,
@@ -61,13 +62,13 @@ fn corner(kind: u32, mx: i32, my: i32) {
         &mut d,
         4,
     );
-    show(number, &d, 4);
+    show(rt, number, &d, 4)
 }
 
 // 12 x 2 from column -6 of row 0 on, 8-tap along the rows: the mean of the eight pixels from 3 before to 4 after. At column x, n = x + 4 of them, none at
 // least and eight at most, are right of the plane's first column. Row 0 has 25n, row 1 the whole part of 100 - 7.5n + 0.53: a sum of 64 x the mean,
 // 32 and 2 added, and shifted by 6. Tiles are 5 and 7 columns wide, on the block's side of four.
-fn wide() {
+fn wide(rt: &impl Print) -> io::Result<()> {
     let mut d = [9u16; 26];
     let number = predict_in_tiles(
         10,
@@ -95,13 +96,13 @@ fn wide() {
         &mut d,
         13,
     );
-    show(number, &d, 13);
+    show(rt, number, &d, 13)
 }
 
-fn main() {
+fn main(rt: HostRuntime) -> io::Result<()> {
     // the border repeats
-    corner(0, 0, 0);
+    corner(&rt, 0, 0, 0)?;
     // halfway on both axes: the mean of four, as (0 + 200 + 100 + 40) / 4 = 85
-    corner(2, 8, 8);
-    wide();
+    corner(&rt, 2, 8, 8)?;
+    wide(&rt)
 }

@@ -11,19 +11,20 @@
 //   rows. Other places are left as they came.
 // - Numbers: the parameters that aren't buffers, a record's entries too, in the interface's order; then the results, and what a record is left with.
 // - Values: one byte each for u8 and i8, two for u16 and i16.
+#![tactic(auto)]
+
+ghost use Rattle.std.specs.Prelude.{◌<◌, ◌≤◌, IfOk, length};
+
+use crate::list::{byte, called, due, joined};
+use crate::tally::{count, print_all, print_end};
+use std::io::{self, Read};
+
 mod bytes;
 mod list;
 mod rooms;
 mod shear;
 mod tally;
 mod words;
-
-#![tactic(auto)]
-
-ghost use Rattle.std.specs.Prelude.{◌<◌};
-
-use crate::list::{byte, called, due, joined};
-use crate::tally::{count, print_all, print_end};
 
 // Replays a call: whether it answered as the record says.
 fn replayed(id: u16, r: &[u8]) -> bool {
@@ -38,22 +39,37 @@ fn replayed(id: u16, r: &[u8]) -> bool {
     }
 }
 
+// Reads until the room is full or the input ends, and answers how many bytes it read into the room's first places.
+fn read_full(input: &mut impl Read, room: &mut [u8]) -> io::Result<usize>
+    ensures { IfOk result (λ n. n ≤ length room.new) }
+{
+    let mut done = 0;
+    while done < room.len() {
+        let n = input.read(&mut room[done..])?;
+        if n == 0 {
+            break;
+        }
+        done += n;
+    }
+    Ok(done)
+}
+
 // The two bytes ahead, as a number: 0 where the list ends.
-fn ahead() -> u16 {
+fn ahead(input: &mut impl Read) -> io::Result<u16> {
     let mut b = [0u8; 2];
-    if io::read_full(0, &mut b) == 2 {
-        joined(b[0], b[1])
+    if read_full(input, &mut b)? == 2 {
+        Ok(joined(b[0], b[1]))
     } else {
-        0
+        Ok(0)
     }
 }
 
 // Reads the next record and answers its length: 0 for one that is longer than the room or cut short.
-fn next(room: &mut [u8]) -> u16 {
-    let len = ahead();
-    let n = io::count(len as isize, room);
-    let got = io::read_full(0, &mut room[..n]);
-    if got == len as usize { len } else { 0 }
+fn next(input: &mut impl Read, room: &mut [u8]) -> io::Result<u16> {
+    let len = ahead(input)?;
+    let n = (len as usize).min(room.len());
+    let got = read_full(input, &mut room[..n])?;
+    if got == len as usize { Ok(len) } else { Ok(0) }
 }
 
 // A number that no change of a single byte leaves as it is.
@@ -71,28 +87,29 @@ fn mixed(sum: u32, r: &[u8]) -> u32
 }
 
 // Replays the next call, counts it, and mixes its record in.
-fn step(tally: &mut [u32; 141], sum: u32) -> u32
+fn step(input: &mut impl Read, tally: &mut [u32; 141], sum: u32) -> io::Result<u32>
     requires { sum < 134217689 }
-    ensures { result < 134217689 }
+    ensures { IfOk result (λ m. m < 134217689) }
 {
     let mut room = [0u8; 20000];
-    let len = next(&mut room);
-    let n = io::count(len as isize, &room);
+    let len = next(input, &mut room)?;
+    let n = (len as usize).min(room.len());
     let r = &room[..n];
     let id = called(r);
     count(tally, id, due(r) == 0, replayed(id, r));
-    mixed(sum, r)
+    Ok(mixed(sum, r))
 }
 
-fn main() {
+fn main(rt: HostRuntime) -> io::Result<()> {
     let mut tally = [0u32; 141];
     let mut sum = 0;
-    let n = ahead();
+    let mut input = rt.reader();
+    let n = ahead(&mut input)?;
     let mut i = 0;
     while i < n {
-        sum = step(&mut tally, sum);
+        sum = step(&mut input, &mut tally, sum)?;
         i += 1;
     }
-    print_all(&tally);
-    print_end(tally[0], sum);
+    print_all(&rt, &tally)?;
+    print_end(&rt, tally[0], sum)
 }

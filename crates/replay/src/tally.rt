@@ -2,6 +2,8 @@
 // which have no number and so count as accepted; the last ones are those of all.
 ghost use Rattle.std.specs.Prelude.{◌≤◌};
 
+use std::io;
+
 fn wide(n: u32) -> u64 {
     n as u64
 }
@@ -37,96 +39,99 @@ pub(crate) fn count(tally: &mut [u32; 141], id: u16, accepted: bool, same: bool)
 }
 
 // The name of a function without prefix and set: the first nine of a set, the others of a set, the scaled ones of a set, those without a set and all.
-fn print_first(k: u16) -> bool {
+fn print_first(rt: &impl Print, k: u16) -> io::Result<()> {
     match k {
-        1 => io::write_all(1, b"put"),
-        2 => io::write_all(1, b"prep"),
-        3 => io::write_all(1, b"avg"),
-        4 => io::write_all(1, b"w_avg"),
-        5 => io::write_all(1, b"mask"),
-        6 => io::write_all(1, b"blend"),
-        7 => io::write_all(1, b"morph"),
-        8 => io::write_all(1, b"w_mask"),
-        _ => io::write_all(1, b"emu_edge"),
+        1 => print!(rt; "put"),
+        2 => print!(rt; "prep"),
+        3 => print!(rt; "avg"),
+        4 => print!(rt; "w_avg"),
+        5 => print!(rt; "mask"),
+        6 => print!(rt; "blend"),
+        7 => print!(rt; "morph"),
+        8 => print!(rt; "w_mask"),
+        _ => print!(rt; "emu_edge"),
     }
 }
 
-fn print_other(k: u16) -> bool {
+fn print_other(rt: &impl Print, k: u16) -> io::Result<()> {
     match k {
-        10 => io::write_all(1, b"put_8tap"),
-        11 => io::write_all(1, b"prep_8tap"),
-        12 => io::write_all(1, b"put_bilin"),
-        13 => io::write_all(1, b"prep_bilin"),
-        14 => io::write_all(1, b"sad_nxn"),
-        15 => io::write_all(1, b"sad_refine_mv"),
-        16 => io::write_all(1, b"warp_affine_8x8"),
-        _ => io::write_all(1, b"warp_affine_8x8t"),
+        10 => print!(rt; "put_8tap"),
+        11 => print!(rt; "prep_8tap"),
+        12 => print!(rt; "put_bilin"),
+        13 => print!(rt; "prep_bilin"),
+        14 => print!(rt; "sad_nxn"),
+        15 => print!(rt; "sad_refine_mv"),
+        16 => print!(rt; "warp_affine_8x8"),
+        _ => print!(rt; "warp_affine_8x8t"),
     }
 }
 
-fn print_scaled(k: u16) -> bool {
+fn print_scaled(rt: &impl Print, k: u16) -> io::Result<()> {
     match k {
-        1 => io::write_all(1, b"put_8tap_scaled"),
-        2 => io::write_all(1, b"prep_8tap_scaled"),
-        3 => io::write_all(1, b"put_bilin_scaled"),
-        _ => io::write_all(1, b"prep_bilin_scaled"),
+        1 => print!(rt; "put_8tap_scaled"),
+        2 => print!(rt; "prep_8tap_scaled"),
+        3 => print!(rt; "put_bilin_scaled"),
+        _ => print!(rt; "prep_bilin_scaled"),
     }
 }
 
-fn print_alone(id: u16) -> bool {
+fn print_alone(rt: &impl Print, id: u16) -> io::Result<()> {
     match id {
-        35 => io::write_all(1, b"resolve_divisor_32"),
-        36 => io::write_all(1, b"get_shear_params"),
-        37 => io::write_all(1, b"set_affine_mv2d"),
-        _ => io::write_all(1, b"all"),
+        35 => print!(rt; "resolve_divisor_32"),
+        36 => print!(rt; "get_shear_params"),
+        37 => print!(rt; "set_affine_mv2d"),
+        _ => print!(rt; "all"),
     }
 }
 
-fn print_name(id: u16) -> bool {
+fn print_name(rt: &impl Print, id: u16) -> io::Result<()> {
     match id {
-        1..=9 => print_first(id),
-        10..=17 => print_other(id),
-        18..=26 => print_first(id - 17),
-        27..=34 => print_other(id - 17),
-        38..=41 => print_scaled(id - 37),
-        42..=45 => print_scaled(id - 41),
-        _ => print_alone(id),
+        1..=9 => print_first(rt, id),
+        10..=17 => print_other(rt, id),
+        18..=26 => print_first(rt, id - 17),
+        27..=34 => print_other(rt, id - 17),
+        38..=41 => print_scaled(rt, id - 37),
+        42..=45 => print_scaled(rt, id - 41),
+        _ => print_alone(rt, id),
     }
 }
 
-fn print_set(id: u16) -> bool {
+fn print_set(rt: &impl Print, id: u16) -> io::Result<()> {
     match id {
-        1..=17 | 38..=41 => io::write_all(1, b"_8bpc "),
-        18..=34 | 42..=45 => io::write_all(1, b"_16bpc "),
-        _ => io::write_all(1, b" "),
+        1..=17 | 38..=41 => print!(rt; "_8bpc "),
+        18..=34 | 42..=45 => print!(rt; "_16bpc "),
+        _ => print!(rt; " "),
     }
 }
 
-fn print_line(id: u16, accepted: u32, refused: u32, differ: u32) {
-    print_name(id);
-    print_set(id);
-    io::print_decimal(1, accepted as u64 + refused as u64);
-    io::write_all(1, b" calls, ");
-    io::print_decimal(1, wide(accepted));
-    io::write_all(1, b" accepted, ");
-    io::print_decimal(1, wide(refused));
-    io::write_all(1, b" refused, ");
-    io::print_decimal(1, wide(differ));
-    io::write_all(1, b" differ\n");
+fn print_line(
+    rt: &impl Print,
+    id: u16,
+    accepted: u32,
+    refused: u32,
+    differ: u32,
+) -> io::Result<()> {
+    print_name(rt, id)?;
+    print_set(rt, id)?;
+    println!(rt;
+        "{} calls, {} accepted, {} refused, {} differ",
+        accepted as u64 + refused as u64,
+        wide(accepted),
+        wide(refused),
+        wide(differ)
+    )
 }
 
-pub(crate) fn print_all(tally: &[u32; 141]) {
+pub(crate) fn print_all(rt: &impl Print, tally: &[u32; 141]) -> io::Result<()> {
     let mut id = 1;
     while id < 47 {
         let k = 3 * (id as usize);
-        print_line(id, tally[k], tally[k + 1], tally[k + 2]);
+        print_line(rt, id, tally[k], tally[k + 1], tally[k + 2])?;
         id += 1;
     }
+    Ok(())
 }
 
-pub(crate) fn print_end(bad: u32, sum: u32) {
-    io::print_decimal(1, wide(bad));
-    io::write_all(1, b" bad records, sum of the list ");
-    io::print_decimal(1, wide(sum));
-    io::write_all(1, b"\n");
+pub(crate) fn print_end(rt: &impl Print, bad: u32, sum: u32) -> io::Result<()> {
+    println!(rt; "{} bad records, sum of the list {}", wide(bad), wide(sum))
 }

@@ -8,14 +8,14 @@ use blocks::bytes::calls::{
 use blocks::bytes::edge::hv_emu_edge_8bpc;
 use blocks::shear::hv_get_shear_params;
 use blocks::words::combine::hv_avg_16bpc;
+use std::io;
 
-fn say(n: u64, ok: bool) {
-    io::write_all(1, b"C");
-    io::print_decimal(1, n);
+fn say(rt: &impl Print, n: u64, ok: bool) -> io::Result<()> {
+    print!(rt; "C{n}")?;
     if ok {
-        io::write_all(1, b" ok\n");
+        println!(rt; " ok")
     } else {
-        io::write_all(1, b" bad\n");
+        println!(rt; " bad")
     }
 }
 
@@ -155,15 +155,15 @@ fn c10() -> bool {
     (q(31) == 0) & (q(32) == 64) & (q(-31) == 0) & (q(-32) == -64) & (q(32767) == 32704)
 }
 
-fn main() {
-    say(1, c1());
-    say(2, c2());
-    say(3, c3());
-    say(4, c4());
-    say(5, c5());
-    say(6, c6());
-    say(7, c7());
-    say(8, c8());
-    say(9, c9());
-    say(10, c10());
+fn main(rt: HostRuntime) -> io::Result<()> {
+    say(&rt, 1, c1())?;
+    say(&rt, 2, c2())?;
+    say(&rt, 3, c3())?;
+    say(&rt, 4, c4())?;
+    say(&rt, 5, c5())?;
+    say(&rt, 6, c6())?;
+    say(&rt, 7, c7())?;
+    say(&rt, 8, c8())?;
+    say(&rt, 9, c9())?;
+    say(&rt, 10, c10())
 }
