@@ -78,10 +78,8 @@ fn mixed(sum: u32, r: &[u8]) -> u32
     ensures { result < 134217689 }
 {
     let mut m = sum;
-    let mut i = 0;
-    while i < r.len() {
+    for i in 0..r.len() {
         m = (31 * m + byte(r, i) as u32) % 134217689;
-        i += 1;
     }
     m
 }
@@ -105,10 +103,8 @@ fn main(rt: HostRuntime) -> io::Result<()> {
     let mut sum = 0;
     let mut input = rt.reader();
     let n = ahead(&mut input)?;
-    let mut i = 0;
-    while i < n {
+    for _ in 0..n {
         sum = step(&mut input, &mut tally, sum)?;
-        i += 1;
     }
     print_all(&rt, &tally)?;
     print_end(&rt, tally[0], sum)

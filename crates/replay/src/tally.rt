@@ -123,11 +123,9 @@ fn print_line(
 }
 
 pub(crate) fn print_all(rt: &impl Print, tally: &[u32; 141]) -> io::Result<()> {
-    let mut id = 1;
-    while id < 47 {
+    for id in 1..47 {
         let k = 3 * (id as usize);
         print_line(rt, id, tally[k], tally[k + 1], tally[k + 2])?;
-        id += 1;
     }
     Ok(())
 }
