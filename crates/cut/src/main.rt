@@ -24,11 +24,9 @@ fn show(rt: &impl Print, number: u32, d: &[u16], stride: usize) -> io::Result<()
     requires { 0 < stride }
 {
     print!(rt; "{number}")?;
-    let mut i = 0;
-    while i < d.len() {
+    for i in 0..d.len() {
         gap(rt, i, stride)?;
         print!(rt; "{}", d[i])?;
-        i += 1;
     }
     gap(rt, 0, stride)
 }

@@ -11,6 +11,7 @@ use blocks::words::order::hv_order_put_16bpc;
 use rows::words::pixel::Pixel;
 
 // The shortest piece of a side that is on the side's own side of four.
+#[tactic(auto, unfolding(crate::specs::inner::Tiles::least))]
 fn shortest(whole: u32) -> u32
     ensures { result ≡ least whole }
 {
