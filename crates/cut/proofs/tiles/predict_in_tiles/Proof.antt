@@ -4,7 +4,7 @@ use Prim.Native.Nat.{ℕ, ◌+◌, ◌-◌, ◌*◌, ◌^◌, ◌≤◌, ◌<◌
 use native.Mathlib.Nat.{mul-le-mul_right}
 use native.Mathlib.Omega.{arith}
 use borrow.Author.Rules.{rules}
-use borrow.Author.Tests.{not-false, not_true}
+use borrow.Author.Tests.{not-false, not-true}
 use borrow.Rule.Slice.PartMut.{same_len_mid}
 use lib.IntN.{pos, ◌+ℤ◌}
 use lib.ListN.{length, take, drop, length-take, length-drop}
@@ -23,196 +23,230 @@ use Rattle.cut.proofs.tiles.predict_in_tiles.Statement.{statement}
 use Rattle.cut.proofs.tiles.predict_in_tiles.Tie as tie
 
 -- in a row of tiles, the columns before `left` are predicted
-abbrev invariant-loop2 : tie.invariant-loop2
-invariant-loop2 depth lw lh sh sv pn plane ps kind x y w h mx my ft subpel ext warp tw th scratch₀ dst₀ s row top rows left₀ scratch dst left =
+abbrev invariant-loop-left : tie.invariant-loop-left
+invariant-loop-left depth lw lh sh sv pn plane ps kind x y w h mx my ft subpel ext warp tw th scratch₀ dst₀ s row top rows left₀ scratch dst left =
     Upto w left × (length scratch ≡ length scratch₀) × (length dst ≡ length dst₀)
     × Tiled
     (functions.put16 (to_z w32 depth) lw lh sh sv pn plane ps kind (to_z w32 mx) (to_z w32 my) (to_z w32 ft) (pos 0) (pos 0) (pos 0) (pos 0) subpel ext warp)
     (to_z w32 x) (to_z w32 y) s w h
     (record { x = 0; y = top; w = left; h = rows }) dst₀ dst
 
-abbrev decreases-loop2 : tie.decreases-loop2
-decreases-loop2 depth lw lh sh sv pn plane ps kind x y w h mx my ft subpel ext warp tw th scratch₀ dst₀ s row top rows left₀ scratch dst left = w - left
+abbrev decreases-loop-left : tie.decreases-loop-left
+decreases-loop-left depth lw lh sh sv pn plane ps kind x y w h mx my ft subpel ext warp tw th scratch₀ dst₀ s row top rows left₀ scratch dst left = w - left
 
 -- between rows of tiles, the rows above `top` are
-abbrev invariant-loop : tie.invariant-loop
-invariant-loop depth lw lh sh sv pn plane ps kind x y w h mx my ft subpel ext warp tw th scratch₀ dst₀ s row top₀ scratch dst top =
+abbrev invariant-loop-top : tie.invariant-loop-top
+invariant-loop-top depth lw lh sh sv pn plane ps kind x y w h mx my ft subpel ext warp tw th scratch₀ dst₀ s row top₀ scratch dst top =
     Upto h top × (length scratch ≡ length scratch₀) × (length dst ≡ length dst₀)
     × Tiled
     (functions.put16 (to_z w32 depth) lw lh sh sv pn plane ps kind (to_z w32 mx) (to_z w32 my) (to_z w32 ft) (pos 0) (pos 0) (pos 0) (pos 0) subpel ext warp)
     (to_z w32 x) (to_z w32 y) s w h
     (record { x = 0; y = 0; w = w; h = top }) dst₀ dst
 
-abbrev decreases-loop : tie.decreases-loop
-decreases-loop depth lw lh sh sv pn plane ps kind x y w h mx my ft subpel ext warp tw th scratch₀ dst₀ s row top₀ scratch dst top = h - top
+abbrev decreases-loop-top : tie.decreases-loop-top
+decreases-loop-top depth lw lh sh sv pn plane ps kind x y w h mx my ft subpel ext warp tw th scratch₀ dst₀ s row top₀ scratch dst top = h - top
 
--- the function's entry, from after its tests; a row of tiles; a tile
-abbrev entry : tie.Else3 invariant-loop2 decreases-loop2 invariant-loop decreases-loop → tie.Start invariant-loop2 decreases-loop2 invariant-loop decreases-loop
-entry c = c.before.before.before.before.before.before.before
-
-abbrev tests : tie.In-loop invariant-loop2 decreases-loop2 invariant-loop decreases-loop → tie.Else3 invariant-loop2 decreases-loop2 invariant-loop decreases-loop
-tests c = c.before.before
-
-abbrev row_of_lem : tie.In-loop2 invariant-loop2 decreases-loop2 invariant-loop decreases-loop → tie.In-loop invariant-loop2 decreases-loop2 invariant-loop decreases-loop
-row_of_lem c = c.before.before.before
-
-abbrev called : tie.Else4 invariant-loop2 decreases-loop2 invariant-loop decreases-loop → tie.After-hv-order-put-16bpc invariant-loop2 decreases-loop2 invariant-loop decreases-loop
-called c = c.before.before.before.before.before
-
-abbrev tile : tie.After-hv-order-put-16bpc invariant-loop2 decreases-loop2 invariant-loop decreases-loop → tie.After-piece2 invariant-loop2 decreases-loop2 invariant-loop decreases-loop
-tile c = c.before.before.before.before.before
-
-abbrev tile-of : tie.After-hv-order-put-16bpc-arg invariant-loop2 decreases-loop2 invariant-loop decreases-loop → tie.In-loop2 invariant-loop2 decreases-loop2 invariant-loop decreases-loop
-tile-of c = c.before.before.before.before
-
-held : (c : tie.Else3 invariant-loop2 decreases-loop2 invariant-loop decreases-loop) → let a = (entry c).args in (a.h - 1) * a.dst-stride + a.w ≤ length a.dst.now
-held c = let a = (entry c).args in
-    holds_met (length a.dst.now) a.dst-stride a.w a.h (sym c.before.Holds-rows.ensures ∙ not-false _ c.if3.false)
+held : (c : tie.Else-not-holds_rows invariant-loop-left decreases-loop-left invariant-loop-top decreases-loop-top) → let a = c.args in (a.h - 1) * a.dst_stride + a.w ≤ length a.dst.now
+held c = let a = c.args in
+    holds_met (length a.dst.now) a.dst_stride a.w a.h (sym c.holds_rows.ensures ∙ not-false _ c.if-not-holds_rows.false-raw)
 
 -- where a tile begins in dst
-abbrev begin : tie.In-loop2 invariant-loop2 decreases-loop2 invariant-loop decreases-loop → ℕ
-begin c = (row_of_lem c).before.loop.top * (entry (tests (row_of_lem c))).args.dst-stride + c.before.loop2.left
+abbrev begin : tie.In-loop-left invariant-loop-left decreases-loop-left invariant-loop-top decreases-loop-top → ℕ
+begin c = c.loop-top.top * c.args.dst_stride + c.loop-left.left
 
-begun : (c : tie.In-loop2 invariant-loop2 decreases-loop2 invariant-loop decreases-loop) → (begin c ≤ length c.before.loop2.dst) × (length c.before.loop2.dst * 2 < 2 ^ 63)
-begun c =
-    let o = row_of_lem c in let s = entry (tests o) in (
-      omega (arith, held (tests o), mul-le-mul_right {m = o.before.loop.top} {n = s.args.h - 1} s.args.dst-stride (omega arith)),
-      omega (arith, s.good.1.1.1.1.1.1.1.1.1.1.1.1.1.1.1.1.1.1.1.1.1.1.0.1),
-    )
+begun : (c : tie.In-loop-left invariant-loop-left decreases-loop-left invariant-loop-top decreases-loop-top) → (begin c ≤ length c.loop-left.dst) × (length c.loop-left.dst * 2 < 2 ^ 63)
+begun c = (
+  omega (arith, held (c.before.before.before.before.before), mul-le-mul_right {m = c.loop-top.top} {n = c.args.h - 1} c.args.dst_stride (omega arith)),
+  omega (arith, c.well_formed.1.1.1.1.1.1.1.1.1.1.1.1.1.1.1.1.1.1.1.1.1.1.0.1),
+)
 
-loop-holds : tie.Need-loop-init invariant-loop2 decreases-loop2 invariant-loop decreases-loop
-loop-holds c = (upto_none _, refl, refl, tiled_none _ _ _ _ _ _ _ _ (λ i j q. omega (arith, q)))
+loop-top-init : tie.Need-loop-top-init invariant-loop-left decreases-loop-left invariant-loop-top decreases-loop-top
+loop-top-init c = (upto_none _, refl, refl, tiled_none _ _ _ _ _ _ _ _ (λ i j q. omega (arith, q)))
 
-loop2-holds : tie.Need-loop2-init invariant-loop2 decreases-loop2 invariant-loop decreases-loop
-loop2-holds c = (upto_none _, refl, refl, tiled_none _ _ _ _ _ _ _ _ (λ i j q. omega (arith, q)))
+loop-left-init : tie.Need-loop-left-init invariant-loop-left decreases-loop-left invariant-loop-top decreases-loop-top
+loop-left-init c = (upto_none _, refl, refl, tiled_none _ _ _ _ _ _ _ _ (λ i j q. omega (arith, q)))
 
 -- what a tile's call leaves in scratch and in dst, as long as they were
-abbrev scratch_after : tie.After-hv-order-put-16bpc invariant-loop2 decreases-loop2 invariant-loop decreases-loop → List ℕ
-scratch_after c = c.hv-order-put-16bpc.new.1.1.1.1.1.1.1.1.1.1.1.1.1.1.1.1.1.1.1.1.1.1.1.0
+abbrev scratch_after : tie.After-hv_order_put_16bpc-number invariant-loop-left decreases-loop-left invariant-loop-top decreases-loop-top → List ℕ
+scratch_after c = c.hv_order_put_16bpc-number.new.scratch
 
-abbrev part-after : tie.After-hv-order-put-16bpc invariant-loop2 decreases-loop2 invariant-loop decreases-loop → List ℕ
-part-after c = c.hv-order-put-16bpc.new.1.1.1.1.1.1.1.1.1.1.1.1.1.1.1.1.1.1.1.1.1.1.1.1.0
+abbrev part-after : tie.After-hv_order_put_16bpc-number invariant-loop-left decreases-loop-left invariant-loop-top decreases-loop-top → List ℕ
+part-after c = c.hv_order_put_16bpc-number.new.dst
 
-abbrev dst-after : tie.After-hv-order-put-16bpc invariant-loop2 decreases-loop2 invariant-loop decreases-loop → List ℕ
+abbrev dst-after : tie.After-hv_order_put_16bpc-number invariant-loop-left decreases-loop-left invariant-loop-top decreases-loop-top → List ℕ
 dst-after c =
-    let t = (tile c).before in let d = t.before.loop2.dst in
-    take (begin t) d ++ (part-after c ++ drop (length d - begin t) (drop (begin t) d))
+    let d = c.loop-left.dst in
+    take (begin c.before.before.before.before.before.before) d ++ (part-after c ++ drop (length d - begin c.before.before.before.before.before.before) (drop (begin c.before.before.before.before.before.before) d))
 
-long : (c : tie.After-hv-order-put-16bpc invariant-loop2 decreases-loop2 invariant-loop decreases-loop) → let t = (tile c).before.before.loop2 in
+long : (c : tie.After-hv_order_put_16bpc-number invariant-loop-left decreases-loop-left invariant-loop-top decreases-loop-top) → let t = c.loop-left in
     (length (scratch_after c) ≡ length t.scratch) × (length (dst-after c) ≡ length t.dst)
 long c =
-    let t = (tile c).before in let d = t.before.loop2.dst in
-    let kept = c.hv-order-put-16bpc.auto.1.1.1.1.1.1.1.1.1.1.1.1.1.1.1.1.1.1.1.1.1.1.1 in
-    (kept.0, same_len_mid (begin t) (length d - begin t) d (part-after c) kept.1.0)
+    let d = c.loop-left.dst in
+    let kept = c.hv_order_put_16bpc-number.auto in
+    (kept.scratch, same_len_mid (begin c.before.before.before.before.before.before) (length d - begin c.before.before.before.before.before.before) d (part-after c) kept.dst)
 
-same_length : tie.Need-same-length invariant-loop2 decreases-loop2 invariant-loop decreases-loop
-same_length c = omega (arith, long c.before.before.before.before.before)
+shape_of-scratch-then-number-ne0 : tie.Need-shape_of-scratch-then-number-ne0 invariant-loop-left decreases-loop-left invariant-loop-top decreases-loop-top
+shape_of-scratch-then-number-ne0 c = omega (arith, long c.before.before.before.before.before)
 
-same-length-2 : tie.Need-same-length-2 invariant-loop2 decreases-loop2 invariant-loop decreases-loop
-same-length-2 c = omega (arith, long c.before.before.before.before.before)
+shape_of-dst-then-number-ne0 : tie.Need-shape_of-dst-then-number-ne0 invariant-loop-left decreases-loop-left invariant-loop-top decreases-loop-top
+shape_of-dst-then-number-ne0 c = omega (arith, long c.before.before.before.before.before)
 
 -- a tile's rectangle, which is one of a cut
-abbrev rect : tie.After-hv-order-put-16bpc invariant-loop2 decreases-loop2 invariant-loop decreases-loop → Rect
+abbrev rect : tie.After-hv_order_put_16bpc-number invariant-loop-left decreases-loop-left invariant-loop-top decreases-loop-top → Rect
 rect c =
-    let t = tile c in let o = row_of_lem t.before in
-    record { x = t.before.before.loop2.left; y = o.before.loop.top; w = t.piece2.result; h = t.before.before.before.piece.result }
+    record { x = c.loop-left.left; y = c.loop-top.top; w = c.piece-columns.result; h = c.piece-rows.result }
 
-inside : (c : tie.After-hv-order-put-16bpc invariant-loop2 decreases-loop2 invariant-loop decreases-loop) → let a = (entry (tests (row_of_lem (tile c).before))).args in
+inside : (c : tie.After-hv_order_put_16bpc-number invariant-loop-left decreases-loop-left invariant-loop-top decreases-loop-top) → let a = c.args in
     Inside a.w a.h (rect c) × SameSide a.w a.h (rect c)
 inside c =
-    let t = tile c in let a = (entry (tests (row_of_lem t.before))).args in
-    let across = t.piece2.ensures in let down = t.before.before.before.piece.ensures in (
+    let a = c.args in
+    let across = c.piece-columns.ensures in let down = c.piece-rows.ensures in (
       record { right = omega (arith, across); low = omega (arith, down) },
       record {
-        width = same_side a.w t.piece2.result across.enough (omega (arith, across));
-        height = same_side a.h t.before.before.before.piece.result down.enough (omega (arith, down));
+        width = same_side a.w c.piece-columns.result across.enough (omega (arith, across));
+        height = same_side a.h c.piece-rows.result down.enough (omega (arith, down));
       },
     )
 
 -- where the call stands, on the plane
-place : (c : tie.After-hv-order-put-16bpc invariant-loop2 decreases-loop2 invariant-loop decreases-loop) → let m = c.before.before.before in
-    let a = (entry (tests (row_of_lem (tile c).before))).args in
-    (passed w64 m.before.moved.result ≡ passed w32 a.x +ℤ pos (rect c).x)
-    × (passed w64 m.moved2.result ≡ passed w32 a.y +ℤ pos (rect c).y)
+place : (c : tie.After-hv_order_put_16bpc-number invariant-loop-left decreases-loop-left invariant-loop-top decreases-loop-top) → let a = c.args in
+    (passed w64 c.moved.result ≡ passed w32 a.x +ℤ pos (rect c).x)
+    × (passed w64 c.moved-in-loop-left.result ≡ passed w32 a.y +ℤ pos (rect c).y)
 place c =
-    let m = c.before.before.before in
-    (back (fit w64 m.before.moved.type-inv) ∙ m.before.moved.ensures, back (fit w64 m.moved2.type-inv) ∙ m.moved2.ensures)
+    (back (fit w64 c.moved.type_inv) ∙ c.moved.ensures, back (fit w64 c.moved-in-loop-left.type_inv) ∙ c.moved-in-loop-left.ensures)
 
-returns : tie.Need-returns invariant-loop2 decreases-loop2 invariant-loop decreases-loop
-returns c = record { done = λ z. absurd (omega arith); refused = λ n. narrow refl c.if1.true }
+returns-then-dst_stride-row : tie.Need-returns-then-dst_stride-row invariant-loop-left decreases-loop-left invariant-loop-top decreases-loop-top
+returns-then-dst_stride-row c = record { done = λ z. absurd (omega arith); refused = λ n. narrow refl c.if-dst_stride-row.true }
 
-returns-2 : tie.Need-returns-2 invariant-loop2 decreases-loop2 invariant-loop decreases-loop
-returns-2 c = record { done = λ z. absurd (omega arith); refused = λ n. warped refl c.if2.true }
+returns-then-kind-gt2 : tie.Need-returns-then-kind-gt2 invariant-loop-left decreases-loop-left invariant-loop-top decreases-loop-top
+returns-then-kind-gt2 c = record { done = λ z. absurd (omega arith); refused = λ n. warped refl c.if-kind-gt2.true }
 
-returns-3 : tie.Need-returns-3 invariant-loop2 decreases-loop2 invariant-loop decreases-loop
-returns-3 c = record { done = λ z. absurd (omega arith); refused = λ n. short refl (sym c.before.Holds-rows.ensures ∙ not_true _ c.if3.true) }
+returns-then-not-holds_rows : tie.Need-returns-then-not-holds_rows invariant-loop-left decreases-loop-left invariant-loop-top decreases-loop-top
+returns-then-not-holds_rows c = record { done = λ z. absurd (omega arith); refused = λ n. short refl (sym c.holds_rows.ensures ∙ not-true _ c.if-not-holds_rows.true-raw) }
 
-returns-4 : tie.Need-returns-4 invariant-loop2 decreases-loop2 invariant-loop decreases-loop
-returns-4 c =
-    let k = c.before.before.before.before.before in let t = (tile k).before in let l = t.before.loop2 in
-    let e = tests (row_of_lem t) in let f = (entry e).fits in let a = (entry e).args in
-    let lent : length (take (length l.dst - begin t) (drop (begin t) l.dst)) ≡ length a.dst.now - begin t =
-    length-take (length l.dst - begin t) (drop (begin t) l.dst) ∙ omega (arith, length-drop (begin t) l.dst) in
-    let number = tile-number (passed w32 a.depth) a.luma-w a.luma-h a.ss-hor a.ss-ver a.plane-no a.plane.now a.plane-stride a.kind
-    (passed w32 a.mx) (passed w32 a.my) (passed w32 a.filter-type) (pos 0) (pos 0) (pos 0) (pos 0) a.subpel.now a.ext.now a.warp.now
-    (passed w32 a.x) (passed w32 a.y) a.w a.h a.dst-stride e.before.before.if2.left e.before.before.before.if1.left
-    (rect k) _ _ l.scratch (take (length l.dst - begin t) (drop (begin t) l.dst)) (scratch_after k) (part-after k)
-    (length a.scratch.now) (length a.dst.now) k.hv-order-put-16bpc.result (place k).0 (place k).1 (omega arith) lent
-    k.hv-order-put-16bpc.ensures in
+returns-then-number-ne0 : tie.Need-returns-then-number-ne0 invariant-loop-left decreases-loop-left invariant-loop-top decreases-loop-top
+returns-then-number-ne0 c =
+    let l = c.loop-left in
+    let f = c.ranges in let a = c.args in
+    let lent : length (take (length l.dst - begin c.before.before.before.before.before.before.before.before.before.before.before) (drop (begin c.before.before.before.before.before.before.before.before.before.before.before) l.dst)) ≡ length a.dst.now - begin c.before.before.before.before.before.before.before.before.before.before.before =
+    length-take (length l.dst - begin c.before.before.before.before.before.before.before.before.before.before.before) (drop (begin c.before.before.before.before.before.before.before.before.before.before.before) l.dst) ∙ omega (arith, length-drop (begin c.before.before.before.before.before.before.before.before.before.before.before) l.dst) in
+    let number = tile-number (passed w32 a.depth) a.luma_w a.luma_h a.ss_hor a.ss_ver a.plane_no a.plane.now a.plane_stride a.kind
+    (passed w32 a.mx) (passed w32 a.my) (passed w32 a.filter_type) (pos 0) (pos 0) (pos 0) (pos 0) a.subpel.now a.ext.now a.warp.now
+    (passed w32 a.x) (passed w32 a.y) a.w a.h a.dst_stride c.if-kind-gt2.false c.if-dst_stride-row.false
+    (rect c.before.before.before.before.before) _ _ l.scratch (take (length l.dst - begin c.before.before.before.before.before.before.before.before.before.before.before) (drop (begin c.before.before.before.before.before.before.before.before.before.before.before) l.dst)) (scratch_after c.before.before.before.before.before) (part-after c.before.before.before.before.before)
+    (length a.scratch.now) (length a.dst.now) c.hv_order_put_16bpc-number.result (place c.before.before.before.before.before).0 (place c.before.before.before.before.before).1 (omega arith) lent
+    c.hv_order_put_16bpc-number.ensures in
     record {
-      done = λ z. absurd (c.if4.true z);
+      done = λ z. absurd (c.if-number-ne0.true z);
       refused =
           λ n.
-          answer.tile (rect k) (inside k).0 (inside k).1
-          (rw (back f.depth, back f.mx, back f.my, back f.filter-type, back f.x, back f.y) at number);
+          answer.tile (rect c.before.before.before.before.before) (inside c.before.before.before.before.before).0 (inside c.before.before.before.before.before).1
+          (rw (back f.depth, back f.mx, back f.my, back f.filter_type, back f.x, back f.y) at number);
     }
 
-loop2-again : tie.Need-loop2-preserved invariant-loop2 decreases-loop2 invariant-loop decreases-loop
-loop2-again c =
-    let k = called c in let t = tile k in let l = t.before.before.loop2 in (
-      upto_more l.inv.0 t.before.loop2-test.taken t.piece2.ensures,
-      omega (arith, long k),
-      omega (arith, long k),
-      tiled_beside _ _ _ _ _ _ (rect k).y (rect k).x (rect k).w (rect k).h _ _ _ l.inv.3
-          (tiled_one _ _ _ _ _ _ (rect k) _ _ (inside k).0 (inside k).1
-          (one_call _ _ _ _ _ _ (rect k) k.hv-order-put-16bpc.result (length l.dst - begin t.before) l.dst l.scratch
-          (scratch_after k) (part-after k)
-          (place k).0 (place k).1 c.if4.false k.hv-order-put-16bpc.ensures)),
+loop-left-preserved : tie.Need-loop-left-preserved invariant-loop-left decreases-loop-left invariant-loop-top decreases-loop-top
+loop-left-preserved c =
+    let l = c.loop-left in (
+      upto_more l.invariant.0 c.loop-left-test.true c.piece-columns.ensures,
+      omega (arith, long c.before.before.before.before.before),
+      omega (arith, long c.before.before.before.before.before),
+      tiled_beside _ _ _ _ _ _ (rect c.before.before.before.before.before).y (rect c.before.before.before.before.before).x (rect c.before.before.before.before.before).w (rect c.before.before.before.before.before).h _ _ _ l.invariant.3
+          (tiled_one _ _ _ _ _ _ (rect c.before.before.before.before.before) _ _ (inside c.before.before.before.before.before).0 (inside c.before.before.before.before.before).1
+          (one_call _ _ _ _ _ _ (rect c.before.before.before.before.before) c.hv_order_put_16bpc-number.result (length l.dst - begin c.before.before.before.before.before.before.before.before.before.before.before) l.dst l.scratch
+          (scratch_after c.before.before.before.before.before) (part-after c.before.before.before.before.before)
+          (place c.before.before.before.before.before).0 (place c.before.before.before.before.before).1 c.if-number-ne0.false c.hv_order_put_16bpc-number.ensures)),
     )
 
-loop-again : tie.Need-loop-preserved invariant-loop2 decreases-loop2 invariant-loop decreases-loop
-loop-again c =
-    let p = c.before.before in let o = p.before in let l = c.before.loop2 in (
-      upto_more o.before.loop.invariant.0 o.loop-test.true p.piece.ensures,
+loop-top-preserved : tie.Need-loop-top-preserved invariant-loop-left decreases-loop-left invariant-loop-top decreases-loop-top
+loop-top-preserved c =
+    let l = c.loop-left in (
+      upto_more c.loop-top.invariant.0 c.loop-top-test.true c.piece-rows.ensures,
       omega arith,
       omega arith,
-      tiled_below _ _ _ _ _ _ o.before.loop.top l.left p.piece.result _ _ _ (omega arith) o.before.loop.invariant.3 l.invariant.3,
+      tiled_below _ _ _ _ _ _ c.loop-top.top l.left c.piece-rows.result _ _ _ (omega arith) c.loop-top.invariant.3 l.invariant.3,
     )
 
-returns-5 : tie.Need-returns-5 invariant-loop2 decreases-loop2 invariant-loop decreases-loop
-returns-5 c =
-    let e = c.before.before in let f = (entry e).ranges in
-    let t = rw (back f.depth, back f.mx, back f.my, back f.filter-type, back f.x, back f.y) at c.before.loop.invariant.3 in
-    let tested = e.before.before in
+returns : tie.Need-returns invariant-loop-left decreases-loop-left invariant-loop-top decreases-loop-top
+returns c =
+    let f = c.ranges in
+    let t = rw (back f.depth, back f.mx, back f.my, back f.filter_type, back f.x, back f.y) at c.loop-top.invariant.3 in
     record {
       done =
           λ z.
-          tiles_fill _ _ _ _ _ _ _ _ _ _ _ _ _ _ _ _ _ _ _ _ _ _ _ _ tested.if2.false tested.before.if1.false c.before.loop.top _ _ (omega arith) t;
+          tiles_fill _ _ _ _ _ _ _ _ _ _ _ _ _ _ _ _ _ _ _ _ _ _ _ _ c.if-kind-gt2.false c.if-dst_stride-row.false c.loop-top.top _ _ (omega arith) t;
       refused = λ n. absurd (n refl);
     }
 
-pub predict-in-tiles-spec : {M : Type 1} → statement M
-predict-in-tiles-spec = tie.close (tie.spec invariant-loop2 decreases-loop2 invariant-loop decreases-loop
-    returns returns-2 (λ c κs. search rules) returns-3  -- holds-rows-requires
-    loop-holds (λ c. omega arith) (λ c κs. upto_left c.before.loop.invariant.0 c.loop-test.true)  -- piece(h, h - top, tile_h)
-    loop2-holds (λ c. omega arith) (λ c κs. upto_left c.before.loop2.invariant.0 c.loop2-test.true)  -- piece(w, w - left, tile_w)
-    (λ c. omega arith) (λ c. omega (arith, begun c.before))  -- top as usize * dst_stride
-    (λ c. omega arith) (λ c. omega (arith, begun c.before))  -- + left as usize
-    (λ c κs. search rules) (λ c κs. search rules) (λ c. omega arith) (λ c. omega arith)  -- moved twice, columns as usize, rows as usize
-    (λ c. omega (arith, begun (tile-of c))) (λ c. (begun (tile-of c)).0) (λ c. (begun (tile-of c)).0) (λ c. search rules)  -- dst[at..]
-    (λ c κs. search rules) same_length same-length-2 returns-4  -- hv-order-put-16bpc
-    (λ c. omega (arith, (inside (called c)).0, (entry (tests (row_of_lem (tile (called c)).before))).fits.w))  -- left + columns
-    (λ c. let t = tile (called c) in omega (arith, piece_some t.piece2.ensures, t.before.loop2-test.taken)) loop2-again  -- loop2-less
-    (λ c. omega (arith, c.before.before.piece.ensures, (entry (tests c.before.before.before)).fits.h))  -- top + rows
-    (λ c. let p = c.before.before in omega (arith, piece_some p.piece.ensures, p.before.loop-test.true)) loop-again  -- loop-less
-    (λ c. omega arith) (λ c. omega arith) returns-5)  -- same_length
+piece-rows-requires : tie.Need-piece-rows-requires invariant-loop-left decreases-loop-left invariant-loop-top decreases-loop-top
+piece-rows-requires c κs = upto_left c.loop-top.invariant.0 c.loop-top-test.true
+
+piece-columns-requires : tie.Need-piece-columns-requires invariant-loop-left decreases-loop-left invariant-loop-top decreases-loop-top
+piece-columns-requires c κs = upto_left c.loop-left.invariant.0 c.loop-left-test.true
+
+overflow_mul-at : tie.Need-overflow_mul-at invariant-loop-left decreases-loop-left invariant-loop-top decreases-loop-top
+overflow_mul-at c = omega (arith, begun c.before)
+
+overflow_add-at : tie.Need-overflow_add-at invariant-loop-left decreases-loop-left invariant-loop-top decreases-loop-top
+overflow_add-at c = omega (arith, begun c.before)
+
+offset_bounds-dst-at : tie.Need-offset_bounds-dst-at invariant-loop-left decreases-loop-left invariant-loop-top decreases-loop-top
+offset_bounds-dst-at c = omega (arith, begun (c.before.before.before.before))
+
+slice_bounds-hv_order_put_16bpc-count : tie.Need-slice_bounds-hv_order_put_16bpc-count invariant-loop-left decreases-loop-left invariant-loop-top decreases-loop-top
+slice_bounds-hv_order_put_16bpc-count c = (begun (c.before.before.before.before)).0
+
+slice_bounds-hv_order_put_16bpc-start : tie.Need-slice_bounds-hv_order_put_16bpc-start invariant-loop-left decreases-loop-left invariant-loop-top decreases-loop-top
+slice_bounds-hv_order_put_16bpc-start c = (begun (c.before.before.before.before)).0
+
+overflow_add-left : tie.Need-overflow_add-left invariant-loop-left decreases-loop-left invariant-loop-top decreases-loop-top
+overflow_add-left c = omega (arith, (inside (c.before.before.before.before.before)).0, c.ranges.w)
+
+loop-left-smaller : tie.Need-loop-left-smaller invariant-loop-left decreases-loop-left invariant-loop-top decreases-loop-top
+loop-left-smaller c = omega (arith, piece_some c.piece-columns.ensures, c.loop-left-test.true)
+
+overflow_add-top : tie.Need-overflow_add-top invariant-loop-left decreases-loop-left invariant-loop-top decreases-loop-top
+overflow_add-top c = omega (arith, c.piece-rows.ensures, c.ranges.h)
+
+loop-top-smaller : tie.Need-loop-top-smaller invariant-loop-left decreases-loop-left invariant-loop-top decreases-loop-top
+loop-top-smaller c = omega (arith, piece_some c.piece-rows.ensures, c.loop-top-test.true)
+
+pub predict_in_tiles_spec : {M : Type 1} → Rattle.cut.proofs.tiles.predict_in_tiles.Statement.statement M
+predict_in_tiles_spec =
+    tie.close
+    (tie.spec invariant-loop-left decreases-loop-left invariant-loop-top decreases-loop-top
+    returns-then-dst_stride-row
+    returns-then-kind-gt2
+    (λ c κs. search rules)
+    returns-then-not-holds_rows
+    loop-top-init
+    (λ c. omega arith)
+    piece-rows-requires
+    loop-left-init
+    (λ c. omega arith)
+    piece-columns-requires
+    (λ c. omega arith)
+    overflow_mul-at
+    (λ c. omega arith)
+    overflow_add-at
+    (λ c κs. search rules)
+    (λ c κs. search rules)
+    (λ c. omega arith)
+    (λ c. omega arith)
+    offset_bounds-dst-at
+    slice_bounds-hv_order_put_16bpc-count
+    slice_bounds-hv_order_put_16bpc-start
+    (λ c. search rules)
+    (λ c κs. search rules)
+    shape_of-scratch-then-number-ne0
+    shape_of-dst-then-number-ne0
+    returns-then-number-ne0
+    overflow_add-left
+    loop-left-smaller
+    loop-left-preserved
+    overflow_add-top
+    loop-top-smaller
+    loop-top-preserved
+    (λ c. omega arith)
+    (λ c. omega arith)
+    returns
+    )
