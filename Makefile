@@ -3,10 +3,10 @@
 # make compare   compare at length: N calls of each function at each depth, and N cut blocks of each kind, made from SEED
 # make wrong     try the wrong programs of wrong/, which the prover must refuse, and write docs/wrong-programs.md
 # make bench     measure speed against the Rust
-# make sets      hold the byte half, which is made, to the 16-bit half, which is written (tools/sets writes it)
+# make sets      hold what is made to what it is made from: bytes to 16-bit pixels (tools/sets), what C calls to the library (tools/exports)
 # make clean     remove what the others made
 #
-# Nothing needs the network. Wanted: the kit (rt) and make; python3 for `make wrong`, tools/sets, tools/reading, tools/equations and tools/wrong-table, cargo for what runs the Rust.
+# Nothing needs the network. Wanted: the kit (rt) and make; python3 for `make wrong`, tools/sets, tools/exports, tools/reading, tools/equations and tools/wrong-table, cargo for what runs the Rust.
 
 RAV2D_SRC ?= ../shared/docs/src
 N ?= 20000
@@ -23,50 +23,44 @@ elif [ ! -f '$(SOURCE)/crates/rav2d/src/mc.rs' ]; then echo "Not compared with t
 elif ! command -v cargo >/dev/null; then echo "Not compared with the Rust: there is no cargo."; fi
 endef
 
-# An archive is made once crates/blocks exports a function.
-ARCHIVE := $(shell grep -rqs 'extern "C"' crates/blocks/src && echo dist/libblocks.a)
+# What C links. Making it proves the library and what stands below it, so it is made only after a change.
+ARCHIVE := dist/libblocks.a
 
 .PHONY: all check sets test compare wrong bench clean
 
 all: check $(ARCHIVE)
-	@mkdir -p dist
-	@for h in include/*.h; do [ ! -f "$$h" ] || { mkdir -p dist/include && cp "$$h" dist/include/; }; done
+	@mkdir -p dist/include
+	@cp include/*.h dist/include/
 	@{ echo "kit: $$(rt version)"; \
 	   if commit=$$(git rev-parse HEAD 2>/dev/null); then \
 	       [ -z "$$(git status --porcelain)" ] || commit="$$commit, with changes that no commit has"; echo "commit: $$commit"; fi; \
-	   grep '^rt: ' target/check.log; } >dist/VERSION
-	@if [ -d crates/worked ]; then cat target/log/worked.stdout; fi
-	@for f in dist/libblocks.a dist/include/*.h dist/VERSION; do [ ! -f "$$f" ] || echo "made $$f"; done
-	@[ -n '$(ARCHIVE)' ] || echo "made no archive: crates/blocks exports no function yet"
+	   grep '^logic=' target/check.log; } >dist/VERSION
+	@cd crates/worked && rt run 2>/dev/null
+	@for f in $(ARCHIVE) dist/include/*.h dist/VERSION; do echo "made $$f"; done
 
 check:
 	@mkdir -p target
-	@rt check >target/check.log 2>&1 || { cat target/check.log; exit 1; }
-	@grep '^rt: ' target/check.log
+	@rt all check >target/check.log 2>&1 || { cat target/check.log; exit 1; }
+	@grep '^logic=' target/check.log
 
+# The byte half is held to the 16-bit half, and what C calls to the library's functions: each is made from the other.
 sets:
-	@if command -v python3 >/dev/null; then tools/sets --check; else echo "The made half was not held to the written one: there is no python3."; fi
+	@if command -v python3 >/dev/null; then tools/sets --check && tools/exports --check; else echo "What is made was not held to what it is made from: there is no python3."; fi
 
-# Making it proves the crate, so it is made only after a change.
-dist/libblocks.a: crates.txt tools/native-archive tools/kept-module $(shell find crates -name '*.rt' -o -name '*.antt')
-	@tools/native-archive blocks $@
-
-# What `make test` compares: the same code, compiled in seconds; `rt ci` proves it in the same run.
-DRAFT := $(if $(ARCHIVE),target/draft/libblocks.a)
-target/draft/libblocks.a: crates.txt tools/draft-archive tools/kept-module $(shell find crates -name '*.rt')
-	@tools/draft-archive blocks $@
+$(ARCHIVE): crates.txt tools/native-archive $(shell find crates -name out -prune -o \( -name '*.rt' -o -name '*.antt' \) -print)
+	@tools/native-archive $@
 
 # The made half is held to the written one first, before anything is compiled from it. The verdict is the last line, so rt ci comes last (tools/timed-ci runs
-# it, and prints what each crate and edit took); it proves everything anew.
-test: sets $(if $(shell command -v cargo),$(DRAFT))
+# it, prints what each crate and edit took, and fails where an edit shows nothing).
+test: sets $(ARCHIVE)
 	@if command -v python3 >/dev/null; then tools/reading && tools/equations && tools/wrong-table --check; fi
 	@if command -v cc >/dev/null; then cc -std=c99 -Wall -Wextra -pedantic -Werror -fsyntax-only include/hemavolups.h; fi
-	@if command -v cargo >/dev/null; then cd bindings/rust && HEMAVOLUPS_ARCHIVE='$(abspath $(DRAFT))' cargo test --offline -q; \
+	@if command -v cargo >/dev/null; then cd bindings/rust && HEMAVOLUPS_ARCHIVE='$(abspath $(ARCHIVE))' cargo test --offline -q; \
 	    else echo "The Rust bindings were not tried: there is no cargo."; fi
-	@why=$$($(lacking)); if [ -n "$$why" ]; then echo "$$why"; else ($(call ORACLE,$(DRAFT)) run --offline) \
-	    && ($(call ORACLE,$(DRAFT)) test --offline --release -q) && ($(call ORACLE,$(DRAFT)) run --offline --release -- compare 300) \
-	    && ($(call ORACLE,$(DRAFT)) run --offline --release -- guard 100); fi
-	@why=$$($(lacking)); [ -n "$$why" ] || ($(call ORACLE,$(DRAFT)) run --offline --release -q -- differences) | diff docs/differences-run.md - \
+	@why=$$($(lacking)); if [ -n "$$why" ]; then echo "$$why"; else ($(call ORACLE,$(ARCHIVE)) run --offline) \
+	    && ($(call ORACLE,$(ARCHIVE)) test --offline --release -q) && ($(call ORACLE,$(ARCHIVE)) run --offline --release -- compare 300) \
+	    && ($(call ORACLE,$(ARCHIVE)) run --offline --release -- guard 100); fi
+	@why=$$($(lacking)); [ -n "$$why" ] || ($(call ORACLE,$(ARCHIVE)) run --offline --release -q -- differences) | diff docs/differences-run.md - \
 	    || { echo "docs/differences-run.md isn't what the oracle prints for 'differences', which is marked > above."; exit 1; }
 	@tools/timed-ci
 
@@ -83,4 +77,4 @@ bench: $(if $(shell $(lacking)),,$(ARCHIVE))
 	@cd bench && RAV2D_SRC='$(SOURCE)' HEMAVOLUPS_ARCHIVE='$(abspath dist/libblocks.a)' cargo run --offline --release
 
 clean:
-	rm -rf target dist oracle/target bench/target bindings/rust/target
+	rm -rf target dist oracle/target bench/target bindings/rust/target crates/*/out
