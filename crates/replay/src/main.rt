@@ -13,7 +13,7 @@
 // - Values: one byte each for u8 and i8, two for u16 and i16.
 #![tactic(auto)]
 
-ghost use Rattle.std.specs.Prelude.{◌<◌, ◌≤◌, IfOk, length};
+ghost use Rattle.std.specs.Prelude.{◌≡◌, ◌<◌, ◌≤◌, IfOk, OnErr, length};
 
 use crate::list::{byte, called, due, joined};
 use crate::tally::{count, print_all, print_end};
@@ -84,10 +84,11 @@ fn mixed(sum: u32, r: &[u8]) -> u32
     m
 }
 
-// Replays the next call, counts it, and mixes its record in.
+// Replays the next call, counts it, and mixes its record in. Where the list can't be read, nothing is counted.
 fn step(input: &mut impl Read, tally: &mut [u32; 141], sum: u32) -> io::Result<u32>
     requires { sum < 134217689 }
-    ensures { IfOk result (λ m. m < 134217689) }
+    ensures below { IfOk result (λ m. m < 134217689) }
+    ensures uncounted { OnErr result (tally.new ≡ tally.old) }
 {
     let mut room = [0u8; 20000];
     let len = next(input, &mut room)?;

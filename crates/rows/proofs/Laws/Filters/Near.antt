@@ -47,6 +47,9 @@ pub near_none : (f : List ℤ) (x : ℕ → ℤ) → NearSum f x 0 (pos 0)
 unfolding sum_z sum
 near_none f x = record { le = omega arith; is = refl; most = omega arith; few = omega arith }
 
+pub near_is : {f : List ℤ} {x : ℕ → ℤ} {j : ℕ} {s : ℤ} → NearSum f x j s → s ≡ sum_z j (λ t. at f t *ℤ x t)
+near_is p = p.is
+
 -- the product of tap j, which is read back from its bits, still fits
 pub near_room : {f : List ℤ} {x : ℕ → ℤ} {j : ℕ} {s : ℤ} → NearSum f x j s → j < 8 → Near f → SFits w8 (at f j)
     → nat_abs s + nat_abs (to_z w8 (of_z w8 (at f j))) * 255 ≤ 32640

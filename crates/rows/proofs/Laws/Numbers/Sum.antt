@@ -18,6 +18,10 @@ pub summed_none : (g : ℕ → ℤ) (M : ℕ) → Summed g M 0 (pos 0)
 unfolding sum_z
 summed_none g M = record { is = refl; le = omega arith }
 
+-- the local is the sum
+pub summed_is : {g : ℕ → ℤ} {M j : ℕ} {s : ℤ} → Summed g M j s → s ≡ sum_z j g
+summed_is p = p.is
+
 pub summed_mag : {g : ℕ → ℤ} {M j : ℕ} {s : ℤ} → Summed g M j s → mag s ≤ j * M
 summed_mag p = rw p.is p.le
 
