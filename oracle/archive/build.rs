@@ -7,7 +7,7 @@ use std::path::{Path, PathBuf};
 /// Names the archive; if it isn't set, the places are searched.
 const VARIABLE: &str = "HEMAVOLUPS_ARCHIVE";
 /// Where the archive may lie, seen from oracle/, the first place first.
-const PLACES: [&str; 2] = ["../dist/libblocks.a", "../target/staticlib/libblocks.a"];
+const PLACES: [&str; 2] = ["../dist/libblocks.a", "../crates/blocks_c/out/libblocks_c.a"];
 
 /// The functions that have a byte set and a 16-bit set.
 const WITH_SETS: [&str; 25] = [
