@@ -1,4 +1,4 @@
-// The C functions of the warp model, which have no pixels. Made from crates/blocks by tools/exports: change that.
+// What C calls of blocks' shear. Made from crates/blocks by tools/exports: change that.
 ghost use Rattle.std.specs.Prelude.{◌≡◌};
 ghost use Rattle.blocks.specs.Shear.{divisor_of, ShearAnswer, AffineMvAnswer};
 ghost use Rattle.blocks.specs.declared.shear.Divisor.{Divisor};

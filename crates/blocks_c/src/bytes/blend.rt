@@ -1,0 +1,36 @@
+// What C calls of blocks' bytes::blend. Made from crates/blocks by tools/exports: change that.
+ghost use Rattle.std.specs.Prelude.{true};
+ghost use Rattle.blocks.specs.Blend.{BlendAnswer, MorphAnswer};
+
+use blocks::bytes::{blend, calls};
+
+#[unsafe(no_mangle)]
+pub extern "C" fn hv_blend_8bpc(
+    dst: &mut [u8],
+    dst_stride: usize,
+    tmp: &[u8],
+    w: usize,
+    h: usize,
+    mask: &[u8],
+    row: &mut usize,
+    col: &mut usize,
+) -> u32
+    ensures { BlendAnswer dst.old dst_stride tmp.now w h mask.now result dst.new row.new
+        col.new }
+{
+    blend::hv_blend_8bpc(dst, dst_stride, tmp, w, h, mask, row, col)
+}
+
+#[unsafe(no_mangle)]
+pub extern "C" fn hv_morph_8bpc(
+    dst: &mut [u8],
+    dst_stride: usize,
+    alpha: i32,
+    beta: i32,
+    w: usize,
+    h: usize,
+) -> u32
+    ensures { MorphAnswer true 8 dst.old dst_stride alpha beta w h result dst.new }
+{
+    calls::hv_morph_8bpc(dst, dst_stride, alpha, beta, w, h)
+}

@@ -1,0 +1,51 @@
+// What C calls of blocks' bytes::combine. Made from crates/blocks by tools/exports: change that.
+ghost use Rattle.std.specs.Prelude.{true};
+ghost use Rattle.blocks.specs.Combine.{AvgAnswer, WAvgAnswer, MaskAnswer};
+
+use blocks::bytes::calls;
+
+#[unsafe(no_mangle)]
+pub extern "C" fn hv_avg_8bpc(
+    dst: &mut [u8],
+    dst_stride: usize,
+    tmp1: &[i16],
+    tmp2: &[i16],
+    w: usize,
+    h: usize,
+) -> u32
+    ensures { AvgAnswer true 8 dst.old dst_stride tmp1.now tmp2.now w h result dst.new }
+{
+    calls::hv_avg_8bpc(dst, dst_stride, tmp1, tmp2, w, h)
+}
+
+#[unsafe(no_mangle)]
+pub extern "C" fn hv_w_avg_8bpc(
+    dst: &mut [u8],
+    dst_stride: usize,
+    tmp1: &[i16],
+    tmp2: &[i16],
+    w: usize,
+    h: usize,
+    weight: i32,
+) -> u32
+    ensures { WAvgAnswer true 8 dst.old dst_stride tmp1.now tmp2.now w h weight result
+        dst.new }
+{
+    calls::hv_w_avg_8bpc(dst, dst_stride, tmp1, tmp2, w, h, weight)
+}
+
+#[unsafe(no_mangle)]
+pub extern "C" fn hv_mask_8bpc(
+    dst: &mut [u8],
+    dst_stride: usize,
+    tmp1: &[i16],
+    tmp2: &[i16],
+    w: usize,
+    h: usize,
+    mask: &[u8],
+) -> u32
+    ensures { MaskAnswer true 8 dst.old dst_stride tmp1.now tmp2.now w h mask.now result
+        dst.new }
+{
+    calls::hv_mask_8bpc(dst, dst_stride, tmp1, tmp2, w, h, mask)
+}

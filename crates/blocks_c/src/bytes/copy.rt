@@ -1,0 +1,33 @@
+// What C calls of blocks' bytes::copy. Made from crates/blocks by tools/exports: change that.
+ghost use Rattle.std.specs.Prelude.{true};
+ghost use Rattle.blocks.specs.Copy.{PrepAnswer, PutAnswer};
+
+use blocks::bytes::{calls, copy};
+
+#[unsafe(no_mangle)]
+pub extern "C" fn hv_prep_8bpc(
+    tmp: &mut [i16],
+    tmp_stride: usize,
+    src: &[u8],
+    src_stride: usize,
+    w: usize,
+    h: usize,
+) -> u32
+    ensures { PrepAnswer true 8 tmp.old tmp_stride src.now src_stride w h result tmp.new }
+{
+    calls::hv_prep_8bpc(tmp, tmp_stride, src, src_stride, w, h)
+}
+
+#[unsafe(no_mangle)]
+pub extern "C" fn hv_put_8bpc(
+    dst: &mut [u8],
+    dst_stride: usize,
+    src: &[u8],
+    src_stride: usize,
+    w: usize,
+    h: usize,
+) -> u32
+    ensures { PutAnswer dst.old dst_stride src.now src_stride w h result dst.new }
+{
+    copy::hv_put_8bpc(dst, dst_stride, src, src_stride, w, h)
+}

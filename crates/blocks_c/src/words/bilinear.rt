@@ -1,0 +1,41 @@
+// What C calls of blocks' words::bilinear. Made from crates/blocks by tools/exports: change that.
+ghost use Rattle.blocks.specs.Bilinear.{PutBilinAnswer, PrepBilinAnswer};
+ghost use Rattle.blocks.specs.words.Depth.{depth_ok};
+ghost use Rattle.rows.specs.Numbers.{up};
+
+use blocks::words::bilinear;
+
+#[unsafe(no_mangle)]
+pub extern "C" fn hv_put_bilin_16bpc(
+    depth: i32,
+    dst: &mut [u16],
+    dst_stride: usize,
+    src: &[u16],
+    src_stride: usize,
+    w: usize,
+    h: usize,
+    mx: i32,
+    my: i32,
+) -> u32
+    ensures { PutBilinAnswer (depth_ok depth) (up depth) dst.old dst_stride src.now src_stride w h mx my result dst.new }
+{
+    bilinear::hv_put_bilin_16bpc(depth, dst, dst_stride, src, src_stride, w, h, mx, my)
+}
+
+#[unsafe(no_mangle)]
+pub extern "C" fn hv_prep_bilin_16bpc(
+    depth: i32,
+    tmp: &mut [i16],
+    tmp_stride: usize,
+    src: &[u16],
+    src_stride: usize,
+    w: usize,
+    h: usize,
+    mx: i32,
+    my: i32,
+) -> u32
+    ensures { PrepBilinAnswer (depth_ok depth) (up depth) tmp.old tmp_stride src.now src_stride w h mx my result
+        tmp.new }
+{
+    bilinear::hv_prep_bilin_16bpc(depth, tmp, tmp_stride, src, src_stride, w, h, mx, my)
+}
