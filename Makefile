@@ -51,7 +51,7 @@ $(ARCHIVE): crates.txt tools/native-archive $(shell find crates -name out -prune
 	@tools/native-archive $@
 
 # The made half is held to the written one first, before anything is compiled from it. The verdict is the last line, so rt ci comes last (tools/timed-ci runs
-# it, prints what each crate and edit took, and fails where an edit shows nothing).
+# it, prints the minutes it took, and fails where an edit shows nothing).
 test: sets $(ARCHIVE)
 	@if command -v python3 >/dev/null; then tools/reading && tools/equations && tools/wrong-table --check; fi
 	@if command -v cc >/dev/null; then cc -std=c99 -Wall -Wextra -pedantic -Werror -fsyntax-only include/hemavolups.h; fi
