@@ -3,10 +3,10 @@
 # make compare   compare at length: N calls of each function at each depth, and N cut blocks of each kind, made from SEED
 # make wrong     try the wrong programs of wrong/, which the prover must refuse, and write docs/wrong-programs.md
 # make bench     measure speed against the Rust
-# make sets      hold what is made to what it is made from: bytes to 16-bit pixels (tools/sets), what C calls to the library (tools/exports)
+# make exports   hold what C calls to the library, from which it is made (tools/exports)
 # make clean     remove what the others made
 #
-# Nothing needs the network. Wanted: the kit (rt) and make; python3 for `make wrong`, tools/sets, tools/exports, tools/reading, tools/equations and tools/wrong-table, cargo for what runs the Rust.
+# Nothing needs the network. Wanted: the kit (rt) and make; python3 for `make wrong`, tools/exports, tools/reading, tools/equations and tools/wrong-table, cargo for what runs the Rust.
 
 RAV2D_SRC ?= ../shared/docs/src
 N ?= 20000
@@ -26,7 +26,7 @@ endef
 # What C links. Making it proves the library and what stands below it, so it is made only after a change.
 ARCHIVE := dist/libblocks.a
 
-.PHONY: all check sets test compare wrong bench clean
+.PHONY: all check exports test compare wrong bench clean
 
 all: check $(ARCHIVE)
 	@mkdir -p dist/include
@@ -43,16 +43,16 @@ check:
 	@rt all check >target/check.log 2>&1 || { cat target/check.log; exit 1; }
 	@grep '^logic=' target/check.log
 
-# The byte half is held to the 16-bit half, and what C calls to the library's functions: each is made from the other.
-sets:
-	@if command -v python3 >/dev/null; then tools/sets --check && tools/exports --check; else echo "What is made was not held to what it is made from: there is no python3."; fi
+# What C calls is held to the library's functions, from which it is made.
+exports:
+	@if command -v python3 >/dev/null; then tools/exports --check; else echo "What is made was not held to what it is made from: there is no python3."; fi
 
 $(ARCHIVE): crates.txt tools/native-archive $(shell find crates -name out -prune -o \( -name '*.rt' -o -name '*.antt' \) -print)
 	@tools/native-archive $@
 
-# The made half is held to the written one first, before anything is compiled from it. The verdict is the last line, so rt ci comes last (tools/timed-ci runs
+# What is made is held to what it is made from first, before anything is compiled of it. The verdict is the last line, so rt ci comes last (tools/timed-ci runs
 # it, prints the minutes it took, and fails where an edit shows nothing).
-test: sets $(ARCHIVE)
+test: exports $(ARCHIVE)
 	@if command -v python3 >/dev/null; then tools/reading && tools/equations && tools/wrong-table --check; fi
 	@if command -v cc >/dev/null; then cc -std=c99 -Wall -Wextra -pedantic -Werror -fsyntax-only include/hemavolups.h; fi
 	@if command -v cargo >/dev/null; then cd bindings/rust && HEMAVOLUPS_ARCHIVE='$(abspath $(ARCHIVE))' cargo test --offline -q; \

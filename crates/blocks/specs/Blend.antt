@@ -1,5 +1,5 @@
 -- `blend`, `morph`: the tests of their calls, and their answers. deep is the outcome of the depth's test, true for bytes. Assumes nothing.
-use Rattle.std.specs.Prelude.{ℕ, zero, suc, ◌+◌, ◌*◌, ◌/◌, ◌%◌, ◌^◌, leb, eqb, ℤ, get_or, length, Bool, List, [], ◌∷◌, ◌++◌, ◌≡◌}
+use Rattle.std.specs.Prelude.{ℕ, zero, suc, ◌*◌, ◌/◌, ◌%◌, ◌^◌, leb, eqb, ℤ, get_or, length, Bool, List, [], ◌∷◌, ◌++◌, ◌≡◌}
 use Rattle.rows.specs.Numbers.{is_within}
 use Rattle.rows.specs.Depth.{max_of}
 use Rattle.rows.specs.Places.{pick, pixel, fill}

@@ -1,7 +1,7 @@
 -- E1, `put_8tap_scaled`, `prep_8tap_scaled`, `put_bilin_scaled` and `prep_bilin_scaled`: the tests of a call, and the rule of a block. dl and sl are the
 -- lengths of dst (or tmp) and src, o is the place of the block's first pixel, s the source's stride; eight is true for 8-tap, false for bilinear; deep is the
 -- outcome of the depth's test, true for bytes. Assumes nothing.
-use Rattle.std.specs.Prelude.{ℕ, zero, suc, ◌+◌, ◌-◌, ◌*◌, min, ℤ, pos, Bool, true, false, ◌&&◌, List, [], ◌∷◌, ◌≡◌, length}
+use Rattle.std.specs.Prelude.{ℕ, ◌+◌, ◌-◌, ◌*◌, min, ℤ, pos, Bool, true, false, List, [], ◌∷◌, ◌≡◌, length}
 use Rattle.rows.specs.Depth.{bits_of, bias_of, max_of}
 use Rattle.rows.specs.Places.{fill, around}
 use Rattle.rows.specs.Numbers.{up, between}

@@ -9,3 +9,4 @@ pub mod Warp
 pub mod Search
 pub mod Window
 pub mod Order
+pub mod Blend

@@ -1,16 +1,2 @@
-// Pixels that are bytes: made from src/words by tools/sets, but for depth.
-pub mod bilinear;
-pub mod blend;
-pub mod calls;
-pub mod combine;
-pub mod copy;
+// What the one depth of bytes has of its own.
 pub mod depth;
-pub mod edge;
-pub mod order;
-pub mod plane_row;
-pub mod scaled;
-pub mod search;
-pub mod subpel;
-pub mod w_mask;
-pub mod warp;
-pub mod window;

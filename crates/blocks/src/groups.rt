@@ -14,10 +14,8 @@ pub fn carry(mid: &mut [i16], n: usize)
     requires { (n ≤ 512) × (512 + n ≤ length mid.old) }
     ensures { mid.new ≡ carried n mid.old }
 {
-    let mut i = 0;
-    while i < n {
+    for i in 0..n {
         let v = mid[i + 512];
         mid[i] = v;
-        i += 1;
     }
 }

@@ -1,4 +1,4 @@
-// Block kernels, windows and orders, over the contracts of the rows. The two sets of pixels have one text: src/bytes is made from src/words by tools/sets.
+// Block kernels, windows and orders, over the contracts of the rows. Both sets of pixels have one text, generic over `sample::Sample`.
 #![tactic(auto)]
 
 pub mod bilinear;
@@ -13,6 +13,7 @@ pub mod numbers;
 pub mod order;
 pub mod plane_row;
 pub mod refuse;
+pub mod sample;
 pub mod scaled;
 pub mod search;
 pub mod shear;

@@ -1,20 +1,28 @@
 // Prediction orders: what one is, and its number.
-ghost use Rattle.std.specs.Prelude.{◌≡◌, true, List, ℕ, length};
+// Prediction orders as C functions: put and prep differ in the last call.
+ghost use Rattle.std.specs.Prelude.{◌≡◌, true, List, ℕ, length, leb};
 ghost use Rattle.blocks.specs.Refuse.{need, size_ok, block_side, stride_ok, whole_filters};
 ghost use Rattle.blocks.specs.Edge.{place_ok};
 ghost use Rattle.blocks.specs.Subpel.{subpel_ok};
 ghost use Rattle.blocks.specs.Window.{plane_w, frame_sizes_ok, frame_names_ok};
-ghost use Rattle.blocks.specs.Order.{kind_number, mode_of, kind_of, kind_size_ok, motion_ok, filters_ok, Tables, order_number};
+ghost use Rattle.blocks.specs.Order.{kind_number, mode_of, kind_of, kind_size_ok, motion_ok, filters_ok, Tables, order_number, OrderPutAnswer, OrderPrepAnswer};
 ghost use Rattle.blocks.specs.inner.Order.{setting_of, lengths_of};
+ghost use Rattle.rows.specs.Numbers.{up};
 
 use crate::bilinear::sixteenth_ok;
 use crate::edge::places;
-use crate::frame::{Reference, frame_names_ok, frame_sizes_ok, plane_w};
+use crate::frame::{Frame, Reference, frame_names_ok, frame_sizes_ok, plane_w};
 use crate::numbers::within;
-use crate::refuse::{held, needed, sizes, stride};
+use crate::order::kinds::{prep_kind, put_kind};
+use crate::order::run::order_window;
+use crate::refuse::{Layout, held, needed, sizes, stride};
+use crate::sample::Sample;
 use crate::subpel::plan::{SubpelMotion, filter_in, fraction_ok, type_ok};
 use crate::warp::{Shears, filters_there};
-use crate::window::{ALWAYS_SCRATCH, PLANE_IF_INSIDE, window_held};
+use crate::window::{ALWAYS_SCRATCH, PLANE_IF_INSIDE, pick, window_held};
+
+pub mod kinds;
+pub mod run;
 
 // The motion of a bilinear block: the two fractions.
 #[derive(Clone, Copy)]
@@ -219,4 +227,188 @@ pub fn check_order(
     let n = kind_number(k);
     let buffers = window_held(lent, pl, n, o.w, o.h, sl, written);
     order_tables(k, t, buffers)
+}
+
+pub fn hv_order_put<P: Sample>(
+    depth: i32,
+    luma_w: usize,
+    luma_h: usize,
+    ss_hor: bool,
+    ss_ver: bool,
+    plane_no: u32,
+    plane: &[P],
+    plane_stride: usize,
+    kind: u32,
+    x: i64,
+    y: i64,
+    w: usize,
+    h: usize,
+    mx: i32,
+    my: i32,
+    filter_type: i32,
+    a: i16,
+    b: i16,
+    c: i16,
+    d: i16,
+    subpel: &[i8],
+    ext: &[i8],
+    warp: &[i8],
+    scratch: &mut [P],
+    dst: &mut [P],
+    dst_stride: usize,
+) -> u32
+    ensures { OrderPutAnswer
+        (record {
+          deep = P.depth_ok depth;
+          depth = up depth;
+          lent = record {
+            frame = record { luma_w = luma_w; luma_h = luma_h; ss_hor = ss_hor; ss_ver = ss_ver };
+            plane_no = plane_no;
+            plane = (P.values plane.now);
+            stride = plane_stride;
+          };
+          tables = record { subpel = subpel.entry.now; ext = ext.now; warp = warp.now };
+        })
+        (leb kind 3) (record { x = x; y = y; w = w; h = h; kind = kind_of kind mx my filter_type a b c d })
+        (P.values scratch.old) (P.values dst.old) dst_stride result (P.values scratch.new) (P.values dst.new) }
+{
+    let f = Frame {
+        luma_w,
+        luma_h,
+        ss_hor,
+        ss_ver,
+    };
+    let lent = Reference {
+        frame: f,
+        plane_no,
+        stride: plane_stride,
+    };
+    let k = kind_of(kind, mx, my, filter_type, a, b, c, d);
+    let o = Order {
+        x,
+        y,
+        w,
+        h,
+        kind: k,
+    };
+    let t = TableLengths {
+        subpel: subpel.len(),
+        ext: ext.len(),
+        warp: warp.len(),
+    };
+    let part = order_window(
+        P::depth_ok(depth),
+        kind <= 3,
+        lent,
+        plane,
+        o,
+        t,
+        scratch,
+        dst.len(),
+        dst_stride,
+    );
+    if part.number == 0 {
+        let numbers = P::depth_numbers(depth);
+        let l = Layout {
+            w,
+            h,
+            src_stride: part.stride,
+            dst_stride,
+        };
+        let src = pick(part, plane, scratch);
+        put_kind(numbers, k, src, l, subpel, ext, warp, dst);
+    }
+    part.number
+}
+
+pub fn hv_order_prep<P: Sample>(
+    depth: i32,
+    luma_w: usize,
+    luma_h: usize,
+    ss_hor: bool,
+    ss_ver: bool,
+    plane_no: u32,
+    plane: &[P],
+    plane_stride: usize,
+    kind: u32,
+    x: i64,
+    y: i64,
+    w: usize,
+    h: usize,
+    mx: i32,
+    my: i32,
+    filter_type: i32,
+    a: i16,
+    b: i16,
+    c: i16,
+    d: i16,
+    subpel: &[i8],
+    ext: &[i8],
+    warp: &[i8],
+    scratch: &mut [P],
+    tmp: &mut [i16],
+    tmp_stride: usize,
+) -> u32
+    ensures { OrderPrepAnswer
+        (record {
+          deep = P.depth_ok depth;
+          depth = up depth;
+          lent = record {
+            frame = record { luma_w = luma_w; luma_h = luma_h; ss_hor = ss_hor; ss_ver = ss_ver };
+            plane_no = plane_no;
+            plane = (P.values plane.now);
+            stride = plane_stride;
+          };
+          tables = record { subpel = subpel.entry.now; ext = ext.now; warp = warp.now };
+        })
+        (leb kind 3) (record { x = x; y = y; w = w; h = h; kind = kind_of kind mx my filter_type a b c d })
+        (P.values scratch.old) tmp.old tmp_stride result (P.values scratch.new) tmp.new }
+{
+    let f = Frame {
+        luma_w,
+        luma_h,
+        ss_hor,
+        ss_ver,
+    };
+    let lent = Reference {
+        frame: f,
+        plane_no,
+        stride: plane_stride,
+    };
+    let k = kind_of(kind, mx, my, filter_type, a, b, c, d);
+    let o = Order {
+        x,
+        y,
+        w,
+        h,
+        kind: k,
+    };
+    let t = TableLengths {
+        subpel: subpel.len(),
+        ext: ext.len(),
+        warp: warp.len(),
+    };
+    let part = order_window(
+        P::depth_ok(depth),
+        kind <= 3,
+        lent,
+        plane,
+        o,
+        t,
+        scratch,
+        tmp.len(),
+        tmp_stride,
+    );
+    if part.number == 0 {
+        let numbers = P::depth_numbers(depth);
+        let l = Layout {
+            w,
+            h,
+            src_stride: part.stride,
+            dst_stride: tmp_stride,
+        };
+        let src = pick(part, plane, scratch);
+        prep_kind(numbers, k, src, l, subpel, ext, warp, tmp);
+    }
+    part.number
 }

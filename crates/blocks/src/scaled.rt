@@ -14,6 +14,8 @@ use crate::source::Stand;
 use rows::bilinear::mid_bilin_prep_row;
 use rows::subpel::{Way, eight, mid_prep_by};
 
+pub mod kernels;
+
 // The motion of a scaled block: where it starts in a pixel, and its steps.
 #[derive(Clone, Copy)]
 pub struct ScaledMotion {
@@ -101,10 +103,8 @@ fn reads_scaled(taps: bool, l: Lent, w: usize, h: usize, m: ScaledMotion) -> boo
         );
     }
     let mut ok = true;
-    let mut x = 0;
-    while x < w {
+    for x in 0..w {
         ok = ok & column_read(taps, l.sl, l.src_off, l.src_stride, rows, start + x * step);
-        x += 1;
     }
     ok
 }
@@ -214,10 +214,8 @@ pub fn by_rows(f: [i8; 8], first: usize) -> [i8; 8]
     ensures { result ≡ row_of 8 (λ k. at f ((k + 8 - first) % 8)) }
 {
     let mut g = [0i8; 8];
-    let mut k = 0;
-    while k < 8 {
+    for k in 0..8 {
         g[k] = f[(k + 8 - first) % 8];
-        k += 1;
     }
     g
 }

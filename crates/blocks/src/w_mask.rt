@@ -1,14 +1,20 @@
 // w_mask's tests, and the mask of the weights that two blocks of intermediates give, for both sets of pixels.
+// w_mask: two blocks of intermediates combined by weights from their differences, and the mask of these weights.
 ghost use Rattle.std.specs.Prelude.{◌≡◌, true, false, ◌*◌, ◌/◌, ◌≤◌, length};
 ghost use Rattle.rows.specs.Places.{fill};
-ghost use Rattle.rows.specs.Combine.{both};
+ghost use Rattle.rows.specs.Combine.{both, masked};
 ghost use Rattle.rows.specs.WMask.{weight_of, mask_at};
 ghost use Rattle.blocks.specs.Refuse.{need, lowest, holds, holds_all};
-ghost use Rattle.blocks.specs.inner.Ready.{Depths, Weighing};
-ghost use Rattle.blocks.specs.WMask.{even_ok, mask_side, flags_ok, sign_ok, w_mask_tests};
+ghost use Rattle.blocks.specs.inner.Ready.{Depths, Weighing, Block, Rows, DepthRange};
+ghost use Rattle.blocks.specs.WMask.{even_ok, mask_side, flags_ok, sign_ok, w_mask_tests, WMaskAnswer};
+ghost use Rattle.rows.specs.Numbers.{up};
 
+use crate::combine::mask_rows;
 use crate::frame::flags_ok;
-use crate::refuse::{held, needed, sizes, stride};
+use crate::numbers::up32;
+use crate::refuse::{DepthNumbers, held, needed, sizes, stride};
+use crate::sample::Sample;
+use rows::combine::mask_row;
 use rows::w_mask::{four_row, pair_row, weight_row};
 
 // h rows of w places, a stride apart.
@@ -128,11 +134,9 @@ fn keep_each(
     ensures { mask.new
         ≡ fill mask.old mask_stride w h (λ i j. both (weight_of depth bits) tmp1.now tmp2.now (j * w) i) }
 {
-    let mut y = 0;
-    while y < h {
+    for y in 0..h {
         let k = y * mask_stride;
         weight_row(&mut mask[k..k + w], tmp1, tmp2, y * w, depth, bits);
-        y += 1;
     }
 }
 
@@ -154,12 +158,10 @@ fn keep_pairs(
         (λ i j. both (weight_of depth bits) tmp1.now tmp2.now (j * w) i)) }
 {
     let mut m = [0u8; 64];
-    let mut y = 0;
-    while y < h {
+    for y in 0..h {
         let k = y * mask_stride;
         weight_row(&mut m[..w], tmp1, tmp2, y * w, depth, bits);
         pair_row(&mut mask[k..k + w / 2], &m, sign);
-        y += 1;
     }
 }
 
@@ -182,14 +184,12 @@ fn keep_fours(
 {
     let mut m = [0u8; 64];
     let mut n = [0u8; 64];
-    let mut y = 0;
-    while y < h / 2 {
+    for y in 0..h / 2 {
         let k = y * mask_stride;
         let r = 2 * y;
         weight_row(&mut m[..w], tmp1, tmp2, r * w, depth, bits);
         weight_row(&mut n[..w], tmp1, tmp2, (r + 1) * w, depth, bits);
         four_row(&mut mask[k..k + w / 2], &m, &n, sign);
-        y += 1;
     }
 }
 
@@ -220,4 +220,129 @@ pub fn keep_mask(
     } else {
         keep_each(mask, form.stride, tmp1, tmp2, w, h, depth, bits);
     }
+}
+
+// The pixels where the mask doesn't keep each weight.
+fn weighed_rows<P: Sample>(
+    d: DepthNumbers,
+    dst: &mut [P],
+    dst_stride: usize,
+    tmp1: &[i16],
+    tmp2: &[i16],
+    w: usize,
+    h: usize,
+    depth: u32,
+)
+    requires { Block w h × Rows (length dst.old) dst_stride w h × Rows (length tmp1.now) w w h × Rows (length tmp2.now) w w h × DepthRange depth
+        × P.bits_ok d.bits × P.bias_ok d.bias × P.max_ok d.max }
+    ensures { P.values dst.new
+        ≡ fill (P.values dst.old) dst_stride w h
+        (λ i j. both (masked d.max d.bits d.bias (both (weight_of depth d.bits) tmp1.now tmp2.now (j * w) i))
+        tmp1.now tmp2.now (j * w) i) }
+{
+    let bits = P::bits_of(d.bits);
+    let mut m = [0u8; 64];
+    for y in 0..h {
+        let p = y * dst_stride;
+        let q = y * w;
+        weight_row(&mut m[..w], tmp1, tmp2, q, depth, bits);
+        mask_row(
+            &mut dst[p..p + w],
+            tmp1,
+            tmp2,
+            q,
+            &m,
+            0,
+            d.bits,
+            d.bias,
+            d.max,
+        );
+    }
+}
+
+// The mask first: where it keeps each weight, the pixels are then made by it, as in mask.
+fn w_mask_rows<P: Sample>(
+    d: DepthNumbers,
+    dst: &mut [P],
+    block: Extent,
+    tmp1: &[i16],
+    tmp2: &[i16],
+    mask: &mut [u8],
+    form: MaskForm,
+    sign: u32,
+    depth: u32,
+)
+    requires { Rows (length dst.old) block.stride block.w block.h
+        × Weighing (length tmp1.now) (length tmp2.now) block.w block.h (length mask.old) form.stride
+        (mask_side form.ss_hor block.w) (mask_side form.ss_ver block.h)
+        × (flags_ok form.ss_hor form.ss_ver ≡ true) × (sign ≤ 1) × DepthRange depth × P.bits_ok d.bits × P.bias_ok d.bias × P.max_ok d.max }
+    ensures { (P.values dst.new
+        ≡ fill (P.values dst.old) block.stride block.w block.h
+        (λ i j. both (masked d.max d.bits d.bias (both (weight_of depth d.bits) tmp1.now tmp2.now (j * block.w) i))
+        tmp1.now tmp2.now (j * block.w) i))
+        × (mask.new
+        ≡ fill mask.old form.stride (mask_side form.ss_hor block.w) (mask_side form.ss_ver block.h)
+        (mask_at sign form.ss_hor form.ss_ver
+        (λ i j. both (weight_of depth d.bits) tmp1.now tmp2.now (j * block.w) i))) }
+{
+    let ds = block.stride;
+    let w = block.w;
+    let h = block.h;
+    let bits = P::bits_of(d.bits);
+    keep_mask(mask, form, tmp1, tmp2, w, h, sign, depth, bits);
+    if form.ss_hor {
+        weighed_rows(d, dst, ds, tmp1, tmp2, w, h, depth);
+    } else {
+        mask_rows(d, dst, ds, tmp1, tmp2, w, h, mask, form.stride);
+    }
+}
+
+pub fn hv_w_mask<P: Sample>(
+    depth: i32,
+    dst: &mut [P],
+    dst_stride: usize,
+    tmp1: &[i16],
+    tmp2: &[i16],
+    w: usize,
+    h: usize,
+    mask: &mut [u8],
+    mask_stride: usize,
+    sign: i32,
+    ss_hor: bool,
+    ss_ver: bool,
+) -> u32
+    ensures { WMaskAnswer (P.depth_ok depth) (up depth) (P.values dst.old) dst_stride tmp1.now tmp2.now w h mask.old
+        mask_stride sign ss_hor ss_ver result (P.values dst.new) mask.new }
+{
+    let block = Extent {
+        stride: dst_stride,
+        w,
+        h,
+    };
+    let lengths = WMaskLengths {
+        dst: dst.len(),
+        tmp1: tmp1.len(),
+        tmp2: tmp2.len(),
+        mask: mask.len(),
+    };
+    let number = check_w_mask(
+        P::depth_ok(depth),
+        lengths,
+        block,
+        mask_stride,
+        sign,
+        ss_hor,
+        ss_ver,
+    );
+    if number == 0 {
+        let d = P::depth_numbers(depth);
+        let form = MaskForm {
+            stride: mask_stride,
+            ss_hor,
+            ss_ver,
+        };
+        let s = up32(sign);
+        w_mask_rows(d, dst, block, tmp1, tmp2, mask, form, s, up32(depth));
+    }
+    number
 }

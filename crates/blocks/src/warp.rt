@@ -1,15 +1,21 @@
 // Warp's shears, tests and second pass into intermediates, for both sets of pixels.
-ghost use Rattle.std.specs.Prelude.{◌≡◌, suc, ◌+◌, ◌*◌, ◌/◌, ◌^◌, ◌≤◌, pos, nat_abs, length};
-ghost use Rattle.rows.specs.Numbers.{at, low16, minus16};
+// warp_affine_8x8 and 8x8t: blocks of eight by eight, each pixel with filters of its own.
+ghost use Rattle.std.specs.Prelude.{◌≡◌, suc, ◌+◌, ◌*◌, ◌/◌, ◌^◌, ◌≤◌, pos, nat_abs, length, ◌-◌};
+ghost use Rattle.rows.specs.Numbers.{at, low16, minus16, px, clip, up};
 ghost use Rattle.rows.specs.Places.{fill};
-ghost use Rattle.rows.specs.Warp.{filter_no, is_there, every, all_there, warped};
+ghost use Rattle.rows.specs.Warp.{filter_no, is_there, every, all_there, warped, warp_put, warp_prep};
 ghost use Rattle.blocks.specs.Refuse.{need, lowest, stride_ok, holds, reads, whole_filters};
-ghost use Rattle.blocks.specs.inner.Ready.{Rows, Pass};
-ghost use Rattle.blocks.specs.Warp.{warp_place_ok, warp_tests};
+ghost use Rattle.blocks.specs.inner.Ready.{Rows, Pass, Margins, Warps};
+ghost use Rattle.blocks.specs.Warp.{warp_place_ok, warp_tests, WarpAnswer, WarpTAnswer};
+ghost use Rattle.blocks.specs.inner.Source.{around_in, pixel_in, Stood};
+ghost use Rattle.blocks.specs.inner.Warp.{first_in};
 
 use crate::numbers::within;
-use crate::refuse::{held, needed, stride};
-use rows::warp::{Slope, filter_no, warp_prep_row};
+use crate::refuse::{DepthNumbers, held, needed, stride};
+use crate::sample::Sample;
+use crate::source::{Stand, corner, row_first, top_down};
+use rows::copy::numbers_row;
+use rows::warp::{Slope, filter_no, warp_column, warp_prep_row, warp_put_row};
 
 // The four shears of a warped block, and its mx and my.
 #[derive(Clone, Copy)]
@@ -142,8 +148,7 @@ pub fn warp_prep_rows(
     ensures { tmp.new ≡ fill tmp.old tmp_stride 8 8
         (λ i j. minus16 (low16 (warped table.now by.m by.a by.b 7 j i (λ v. at mid.now (j + i * 15 + v)))) (pos bias)) }
 {
-    let mut y = 0;
-    while y < 8 {
+    for y in 0..8 {
         let d = y * tmp_stride;
         warp_prep_row(
             &mut tmp[d..d + 8],
@@ -155,6 +160,219 @@ pub fn warp_prep_rows(
             7,
             bias as i16,
         );
-        y += 1;
     }
+}
+
+// The first pass: fifteen rows of eight intermediates, column after column; the first tap of the first stands at place o.
+fn warp_mid<P: Sample>(
+    mid: &mut [i16],
+    src: &[P],
+    o: usize,
+    s: usize,
+    table: &[i8],
+    by: Slope,
+    bits: u32,
+)
+    requires { (length mid.old ≡ 120) × (o + 14 * s + 15 ≤ length src.now) × Pass (length table.now / 8) by.m by.a by.b 15
+        × P.bits_ok bits }
+    ensures { mid.new ≡ fill mid.old 15 15 8
+        (λ r i. low16 (warped table.now by.m by.a by.b (7 - bits) r i (λ u. px (P.values src.now) (o + i + r * s + u)))) }
+{
+    let b = P::bits_of(bits);
+    for x in 0..8 {
+        let d = x * 15;
+        warp_column(
+            &mut mid[d..d + 15],
+            src,
+            o + x,
+            s,
+            table,
+            by,
+            x as u32,
+            7 - b,
+        );
+    }
+}
+
+// Fifteen rows of fifteen pixels in the picture's order, by their numbers.
+fn upright<P: Sample>(rows: &mut [u16], src: &[P], s: Stand)
+    requires { (length rows.old ≡ 225) × Stood (length src.now) s 15 15 }
+    ensures { rows.new ≡ fill rows.old 15 15 15 (pixel_in (P.values src.now) s) }
+{
+    for y in 0..15 {
+        let o = row_first(s, y);
+        let d = y * 15;
+        numbers_row(&mut rows[d..d + 15], src, o);
+    }
+}
+
+// The first pass wherever the rows stand. With the last row first in memory the fifteen rows are copied before, into the picture's order.
+fn warp_first<P: Sample>(mid: &mut [i16], src: &[P], s: Stand, table: &[i8], by: Slope, bits: u32)
+    requires { (length mid.old ≡ 120) × Margins (length src.now) s × Pass (length table.now / 8) by.m by.a by.b 15 × P.bits_ok bits }
+    ensures { mid.new
+        ≡ fill mid.old 15 15 8 (first_in bits table.now by.m by.a by.b (P.values src.now) s) }
+{
+    let first = corner(s);
+    if s.back == 0 {
+        warp_mid(mid, src, first.off, s.forth, table, by, bits);
+    } else {
+        let mut rows = [0u16; 225];
+        upright(&mut rows, src, first);
+        warp_mid(mid, &rows, 0, 15, table, by, P::bits_of(bits));
+    }
+}
+
+// The second pass, put.
+fn warp_put_rows<P: Sample>(
+    dst: &mut [P],
+    dst_stride: usize,
+    mid: &[i16],
+    table: &[i8],
+    by: Slope,
+    bits: u32,
+    max: u16,
+)
+    requires { Rows (length dst.old) dst_stride 8 8 × (length mid.now ≡ 120) × Pass (length table.now / 8) by.m by.a by.b 8
+        × P.bits_ok bits × P.max_ok max }
+    ensures { P.values dst.new ≡ fill (P.values dst.old) dst_stride 8 8
+        (λ i j. clip max (low16 (warped table.now by.m by.a by.b (7 + bits) j i (λ v. at mid.now (j + i * 15 + v))))) }
+{
+    let b = P::bits_of(bits);
+    for y in 0..8 {
+        let d = y * dst_stride;
+        warp_put_row(&mut dst[d..d + 8], mid, y, table, by, y as u32, 7 + b, max);
+    }
+}
+
+pub fn warp_put<P: Sample>(
+    d: DepthNumbers,
+    dst: &mut [P],
+    dst_stride: usize,
+    src: &[P],
+    s: Stand,
+    m: Shears,
+    warp: &[i8],
+)
+    requires { Warps (length dst.old) dst_stride (length src.now) s (length warp.now / 8) m
+        × P.bits_ok d.bits × P.max_ok d.max }
+    ensures { P.values dst.new ≡ fill (P.values dst.old) dst_stride 8 8
+        (λ i j. warp_put d.max d.bits warp.now m.mx m.my m.a m.b m.c m.d i j
+        (around_in 3 (P.values src.now) s i j)) }
+{
+    let first = Slope {
+        m: m.mx,
+        a: m.a,
+        b: m.b,
+    };
+    let mut mid = [0i16; 120];
+    warp_first(&mut mid, src, s, warp, first, d.bits);
+    let second = Slope {
+        m: m.my,
+        a: m.c,
+        b: m.d,
+    };
+    warp_put_rows(dst, dst_stride, &mid, warp, second, d.bits, d.max);
+}
+
+pub fn warp_prep<P: Sample>(
+    d: DepthNumbers,
+    tmp: &mut [i16],
+    tmp_stride: usize,
+    src: &[P],
+    s: Stand,
+    m: Shears,
+    warp: &[i8],
+)
+    requires { Warps (length tmp.old) tmp_stride (length src.now) s (length warp.now / 8) m
+        × P.bits_ok d.bits × P.bias_ok d.bias }
+    ensures { tmp.new ≡ fill tmp.old tmp_stride 8 8
+        (λ i j. warp_prep d.bits d.bias warp.now m.mx m.my m.a m.b m.c m.d i j
+        (around_in 3 (P.values src.now) s i j)) }
+{
+    let first = Slope {
+        m: m.mx,
+        a: m.a,
+        b: m.b,
+    };
+    let mut mid = [0i16; 120];
+    warp_first(&mut mid, src, s, warp, first, d.bits);
+    let second = Slope {
+        m: m.my,
+        a: m.c,
+        b: m.d,
+    };
+    let p = P::bias_of(d.bias);
+    warp_prep_rows(tmp, tmp_stride, &mid, warp, second, p);
+}
+
+pub fn hv_warp_affine_8x8<P: Sample>(
+    depth: i32,
+    dst: &mut [P],
+    dst_stride: usize,
+    src: &[P],
+    src_stride: usize,
+    src_off: usize,
+    a: i16,
+    b: i16,
+    c: i16,
+    d: i16,
+    mx: i32,
+    my: i32,
+    warp: &[i8],
+) -> u32
+    ensures { WarpAnswer (P.depth_ok depth) (up depth) (P.values dst.old) dst_stride (P.values src.now) src_stride src_off a b c d mx my
+        warp.now result (P.values dst.new) }
+{
+    let m = Shears { a, b, c, d, mx, my };
+    let number = check_warp(
+        P::depth_ok(depth),
+        dst.len(),
+        dst_stride,
+        src.len(),
+        src_stride,
+        src_off,
+        m,
+        warp.len(),
+    );
+    if number == 0 {
+        let s = top_down(src_off, src_stride);
+        warp_put(P::depth_numbers(depth), dst, dst_stride, src, s, m, warp);
+    }
+    number
+}
+
+pub fn hv_warp_affine_8x8t<P: Sample>(
+    depth: i32,
+    tmp: &mut [i16],
+    tmp_stride: usize,
+    src: &[P],
+    src_stride: usize,
+    src_off: usize,
+    a: i16,
+    b: i16,
+    c: i16,
+    d: i16,
+    mx: i32,
+    my: i32,
+    warp: &[i8],
+) -> u32
+    ensures { WarpTAnswer (P.depth_ok depth) (up depth) tmp.old tmp_stride (P.values src.now) src_stride src_off a b c d mx my
+        warp.now result tmp.new }
+{
+    let m = Shears { a, b, c, d, mx, my };
+    let number = check_warp(
+        P::depth_ok(depth),
+        tmp.len(),
+        tmp_stride,
+        src.len(),
+        src_stride,
+        src_off,
+        m,
+        warp.len(),
+    );
+    if number == 0 {
+        let s = top_down(src_off, src_stride);
+        warp_prep(P::depth_numbers(depth), tmp, tmp_stride, src, s, m, warp);
+    }
+    number
 }

@@ -1,17 +1,21 @@
 // Windows: their tests, and where a block's pixels with its margins lie, in the plane or in scratch, for both sets of pixels.
+// Windows: where a block's pixels with its margins lie, in the plane or in scratch.
 ghost use Rattle.std.specs.Prelude.{◌≡◌, List, ℕ, ◌+◌, ◌^◌, ◌≤◌, leb, nat_abs, length};
 ghost use Rattle.blocks.specs.Refuse.{need, lowest, size_ok, block_side, stride_ok, part_len, holds, holds_all};
 ghost use Rattle.blocks.specs.Edge.{place_ok};
-ghost use Rattle.blocks.specs.inner.Ready.{Ranged};
-ghost use Rattle.blocks.specs.Window.{plane_w, plane_h, frame_sizes_ok, frame_names_ok, window_side, window_tests, inside, is_planes, no_part, window_of};
-ghost use Rattle.blocks.specs.inner.Window.{lent_of, asked, area_at};
+ghost use Rattle.blocks.specs.inner.Ready.{Ranged, Fetch, PartIn};
+ghost use Rattle.blocks.specs.Window.{plane_w, plane_h, frame_sizes_ok, frame_names_ok, window_side, window_tests, inside, is_planes, no_part, window_of, scratch_of, part_of, WindowAnswer};
+ghost use Rattle.blocks.specs.inner.Window.{lent_of, asked, area_at, area_fetched};
+ghost use Rattle.blocks.specs.inner.Source.{top_down};
 
-use crate::edge::places;
+use crate::edge::{edge_rows, places};
 use crate::frame::{
-    Area, Reference, area_of, frame_names_ok, frame_sizes_ok, plane_h, plane_w, window_side,
+    Area, Frame, Reference, area_of, frame_names_ok, frame_sizes_ok, plane_h, plane_w, window_side,
 };
 use crate::numbers::up64;
 use crate::refuse::{held, needed, sizes, stride};
+use crate::sample::Sample;
+use crate::source::top_down;
 
 // A part of a buffer: 1 the plane, 2 scratch; its first place, its stride and its length. Refused: the number and zeros.
 #[derive(Clone, Copy)]
@@ -181,4 +185,132 @@ pub fn find_window(
     }
     let a = area_of(lent, kind, w, h, x, y);
     locate(a, mode, lent.stride)
+}
+
+// An area that passed its tests: where it lies, and scratch filled where the plane hasn't got it.
+pub fn fetch<P: Sample>(
+    a: Area,
+    plane: &[P],
+    plane_stride: usize,
+    mode: u32,
+    scratch: &mut [P],
+) -> Part
+    requires { Fetch a (length scratch.old) a.ww (length plane.now) (top_down 0 plane_stride) }
+    ensures { (result ≡ area_at a mode plane_stride)
+        × (P.values scratch.new ≡ area_fetched a (P.values plane.now) plane_stride mode (P.values scratch.old)) }
+{
+    let part = locate(a, mode, plane_stride);
+    if part.buffer == 2 {
+        let s = top_down(0, plane_stride);
+        edge_rows(a, scratch, a.ww, plane, s);
+    }
+    part
+}
+
+// A window's call: its tests, and the window where none refuses.
+pub fn window<P: Sample>(
+    lent: Reference,
+    plane: &[P],
+    kind: u32,
+    w: usize,
+    h: usize,
+    x: i64,
+    y: i64,
+    mode: u32,
+    scratch: &mut [P],
+) -> Part
+    ensures { (result ≡ window_of (lent_of lent (P.values plane.now)) (asked kind w h x y mode) (length scratch.old))
+        × (P.values scratch.new ≡ scratch_of result.number (lent_of lent (P.values plane.now)) (asked kind w h x y mode) (P.values scratch.old)) }
+{
+    let number = check_window(lent, plane.len(), kind, w, h, x, y, mode, scratch.len());
+    if number != 0 {
+        return no_part(number);
+    }
+    let a = area_of(lent, kind, w, h, x, y);
+    fetch(a, plane, lent.stride, mode, scratch)
+}
+
+// The part that an answer names, empty where it was refused.
+pub fn pick<'a, P: Sample>(p: Part, plane: &'a [P], scratch: &'a [P]) -> &'a [P]
+    requires { PartIn p (length plane.now) (length scratch.now) }
+    ensures { P.values result.now ≡ part_of p (P.values plane.now) (P.values scratch.now) }
+{
+    let buffer = p.buffer;
+    let start = p.place;
+    let len = p.len;
+    if buffer == 1 {
+        return &plane[start..start + len];
+    }
+    if buffer == 2 {
+        return &scratch[start..start + len];
+    }
+    &plane[0..0]
+}
+
+// The part itself: a second call on the same arguments, after the first has filled scratch.
+pub fn window_part<'a, P: Sample>(
+    lent: Reference,
+    plane: &'a [P],
+    kind: u32,
+    w: usize,
+    h: usize,
+    x: i64,
+    y: i64,
+    mode: u32,
+    scratch: &'a [P],
+) -> &'a [P]
+    ensures { P.values result.now ≡ part_of (window_of (lent_of lent (P.values plane.now)) (asked kind w h x y mode) (length scratch.now))
+        (P.values plane.now) (P.values scratch.now) }
+{
+    let part = find_window(lent, plane.len(), kind, w, h, x, y, mode, scratch.len());
+    pick(part, plane, scratch)
+}
+
+pub fn hv_window<P: Sample>(
+    luma_w: usize,
+    luma_h: usize,
+    ss_hor: bool,
+    ss_ver: bool,
+    plane_no: u32,
+    plane: &[P],
+    plane_stride: usize,
+    kind: u32,
+    w: usize,
+    h: usize,
+    x: i64,
+    y: i64,
+    mode: u32,
+    scratch: &mut [P],
+    buffer: &mut u32,
+    place: &mut usize,
+    stride: &mut usize,
+    len: &mut usize,
+) -> u32
+    ensures { WindowAnswer
+        (record {
+          frame = record { luma_w = luma_w; luma_h = luma_h; ss_hor = ss_hor; ss_ver = ss_ver };
+          plane_no = plane_no;
+          plane = (P.values plane.now);
+          stride = plane_stride;
+        })
+        (record { kind = kind; w = w; h = h; x = x; y = y; mode = mode })
+        (P.values scratch.old) result buffer.new place.new stride.new len.new (P.values scratch.new) }
+{
+    let f = Frame {
+        luma_w,
+        luma_h,
+        ss_hor,
+        ss_ver,
+    };
+    let lent = Reference {
+        frame: f,
+        plane_no,
+        stride: plane_stride,
+    };
+    let part = window(lent, plane, kind, w, h, x, y, mode, scratch);
+    *buffer = part.buffer;
+    *place = part.place;
+    *stride = part.stride;
+    *len = part.len;
+    part.number
 }

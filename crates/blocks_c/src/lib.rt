@@ -1,4 +1,4 @@
-// What C calls: each function of crates/blocks that is named hv_X, under that name, with its clauses. Made by tools/exports.
+// What C calls: each function hv_X of crates/blocks, at each set of pixels that it is for, with its clauses. Made by tools/exports.
 #![tactic(auto)]
 
 mod bytes;

@@ -6,9 +6,8 @@ ghost use Rattle.blocks.specs.Order.{kind_of};
 ghost use Rattle.cut.specs.Answer.{TilesAnswer};
 ghost use Rattle.cut.specs.inner.Tiles.{least, Left, Piece};
 
+use blocks::order::hv_order_put;
 use blocks::refuse::holds_rows;
-use blocks::words::order::hv_order_put_16bpc;
-use rows::words::pixel::Pixel;
 
 // The shortest piece of a side that is on the side's own side of four.
 #[tactic(auto, unfolding(crate::specs::inner::Tiles::least))]
@@ -54,7 +53,7 @@ pub fn predict_in_tiles(
     ss_hor: bool,
     ss_ver: bool,
     plane_no: u32,
-    plane: &[Pixel],
+    plane: &[u16],
     plane_stride: usize,
     kind: u32,
     x: i32,
@@ -69,8 +68,8 @@ pub fn predict_in_tiles(
     warp: &[i8],
     tile_w: u32,
     tile_h: u32,
-    scratch: &mut [Pixel],
-    dst: &mut [Pixel],
+    scratch: &mut [u16],
+    dst: &mut [u16],
     dst_stride: usize,
 ) -> u32
     ensures { TilesAnswer
@@ -98,6 +97,7 @@ pub fn predict_in_tiles(
     if !holds_rows(dst.len(), dst_stride, row, h as usize) {
         return 6;
     }
+    // Two loops by hand: a tile's height and width are found at its place, so no range counts them.
     let mut top = 0;
     while top < h {
         let rows = piece(h, h - top, tile_h);
@@ -105,7 +105,7 @@ pub fn predict_in_tiles(
         while left < w {
             let columns = piece(w, w - left, tile_w);
             let at = top as usize * dst_stride + left as usize;
-            let number = hv_order_put_16bpc(
+            let number = hv_order_put(
                 depth,
                 luma_w,
                 luma_h,

@@ -23,6 +23,11 @@ pub(crate) struct Layout {
     pub left: u16,
 }
 
+// How many places are filled: none of a buffer that is longer than the room.
+pub(crate) fn places(c: Layout, room: usize) -> u16 {
+    if c.len as usize <= room { c.len } else { 0 }
+}
+
 // Value k of those that begin at a place.
 #[derive(Clone, Copy)]
 pub(crate) struct Value {

@@ -17,25 +17,36 @@ ghost use Rattle.std.specs.Prelude.{◌≡◌, ◌<◌, ◌≤◌, IfOk, OnErr, 
 
 use crate::list::{byte, called, due, joined};
 use crate::tally::{count, print_all, print_end};
+use std::alloc::{AllocError, Global};
 use std::io::{self, Read};
 
-mod bytes;
+mod bilinear;
+mod blend;
+mod combine;
+mod copy;
+mod edge;
 mod list;
+mod mask;
+mod numbered;
 mod rooms;
+mod scaled;
+mod search;
+mod set;
 mod shear;
+mod subpel;
 mod tally;
-mod words;
+mod warp;
 
 // Replays a call: whether it answered as the record says.
-fn replayed(id: u16, r: &[u8]) -> bool {
+fn replayed(alloc: Global, id: u16, r: &[u8]) -> Result<bool, AllocError> {
     match id {
-        35 => shear::resolve_divisor_32(r),
-        36 => shear::get_shear_params(r),
-        37 => shear::set_affine_mv2d(r),
-        18..=34 => words::numbered::replayed(id - 17, r),
-        38..=41 => bytes::numbered::replayed(id - 20, r),
-        42..=45 => words::numbered::replayed(id - 24, r),
-        _ => bytes::numbered::replayed(id, r),
+        35 => shear::resolve_divisor_32(alloc, r),
+        36 => shear::get_shear_params(alloc, r),
+        37 => Ok(shear::set_affine_mv2d(r)),
+        18..=34 => numbered::replayed::<u16>(alloc, id - 17, r),
+        38..=41 => numbered::replayed::<u8>(alloc, id - 20, r),
+        42..=45 => numbered::replayed::<u16>(alloc, id - 24, r),
+        _ => numbered::replayed::<u8>(alloc, id, r),
     }
 }
 
@@ -43,6 +54,7 @@ fn replayed(id: u16, r: &[u8]) -> bool {
 fn read_full(input: &mut impl Read, room: &mut [u8]) -> io::Result<usize>
     ensures { IfOk result (λ n. n ≤ length room.new) }
 {
+    // A loop by hand: a read gives as many bytes as it has, so no range counts them.
     let mut done = 0;
     while done < room.len() {
         let n = input.read(&mut room[done..])?;
@@ -85,7 +97,7 @@ fn mixed(sum: u32, r: &[u8]) -> u32
 }
 
 // Replays the next call, counts it, and mixes its record in. Where the list can't be read, nothing is counted.
-fn step(input: &mut impl Read, tally: &mut [u32; 141], sum: u32) -> io::Result<u32>
+fn step(alloc: Global, input: &mut impl Read, tally: &mut [u32; 141], sum: u32) -> io::Result<u32>
     requires { sum < 134217689 }
     ensures below { IfOk result (λ m. m < 134217689) }
     ensures uncounted { OnErr result (tally.new ≡ tally.old) }
@@ -95,7 +107,8 @@ fn step(input: &mut impl Read, tally: &mut [u32; 141], sum: u32) -> io::Result<u
     let n = (len as usize).min(room.len());
     let r = &room[..n];
     let id = called(r);
-    count(tally, id, due(r) == 0, replayed(id, r));
+    let same = replayed(alloc, id, r)?;
+    count(tally, id, due(r) == 0, same);
     Ok(mixed(sum, r))
 }
 
@@ -105,7 +118,7 @@ fn main(rt: HostRuntime) -> io::Result<()> {
     let mut input = rt.reader();
     let n = ahead(&mut input)?;
     for _ in 0..n {
-        sum = step(&mut input, &mut tally, sum)?;
+        sum = step(rt.alloc(), &mut input, &mut tally, sum)?;
     }
     print_all(&rt, &tally)?;
     print_end(&rt, tally[0], sum)

@@ -1,44 +1,50 @@
-// Buffers that are no pixels: intermediates and taps, the same in both sets.
-ghost use Rattle.std.specs.Prelude.{◌≤◌, ◌≡◌, length, take};
+// Buffers, filled from a record and compared with it: pixels, intermediates and taps.
+use crate::list::{ROOM, Value, came, layout_of, left, mid, places, tap, value8, value16};
+use std::alloc::{AllocError, Global};
 
-use crate::list::{Layout, ROOM, came, layout_of, left, mid, tap};
-
-// How many places are filled: none of a buffer that is longer than the room.
-pub(crate) fn places(c: Layout, room: usize) -> u16
-    ensures { result ≤ room }
-{
-    if c.len as usize <= room { c.len } else { 0 }
+// What stands in a buffer's places, as the list writes it.
+pub(crate) trait Listed: Copy + PartialEq {
+    fn value(r: &[u8], v: Value) -> Self;
 }
 
-// Fills the first places with what buffer b comes with, and answers how many.
-pub(crate) fn fill_mids(r: &[u8], b: u8, d: &mut [i16]) -> usize
-    ensures { (result ≤ length d.new) × (result ≡ length (take result d.new)) }
-{
-    let c = layout_of(r, b);
-    let n = places(c, d.len());
-    for i in 0..n {
-        d[i as usize] = mid(r, came(c, i));
+impl Listed for u8 {
+    fn value(r: &[u8], v: Value) -> u8 {
+        value8(r, v)
     }
-    n as usize
 }
 
-pub(crate) fn fill_taps(r: &[u8], b: u8, d: &mut [i8]) -> usize
-    ensures { (result ≤ length d.new) × (result ≡ length (take result d.new)) }
-{
-    let c = layout_of(r, b);
-    let n = places(c, d.len());
-    for i in 0..n {
-        d[i as usize] = tap(r, came(c, i));
+impl Listed for u16 {
+    fn value(r: &[u8], v: Value) -> u16 {
+        value16(r, v)
     }
-    n as usize
 }
 
-// Whether each place is left as the record says.
-pub(crate) fn same_mids(r: &[u8], b: u8, d: &[i16; ROOM]) -> bool {
+impl Listed for i16 {
+    fn value(r: &[u8], v: Value) -> i16 {
+        mid(r, v)
+    }
+}
+
+impl Listed for i8 {
+    fn value(r: &[u8], v: Value) -> i8 {
+        tap(r, v)
+    }
+}
+
+// Buffer b as the record says that it comes.
+pub(crate) fn filled<T: Listed>(alloc: Global, r: &[u8], b: u8) -> Result<Vec<T>, AllocError> {
     let c = layout_of(r, b);
-    let mut same = true;
+    let mut room = Vec::new(alloc);
     for i in 0..places(c, ROOM) {
-        same = same & (d[i as usize] == mid(r, left(c, i)));
+        room.push(T::value(r, came(c, i)))?;
     }
-    same
+    Ok(room)
+}
+
+// Whether each place of buffer b is left as the record says.
+pub(crate) fn same<T: Listed>(r: &[u8], b: u8, room: &[T]) -> bool {
+    let c = layout_of(r, b);
+    (0..places(c, ROOM))
+        .zip(room)
+        .all(|(i, v)| *v == T::value(r, left(c, i)))
 }

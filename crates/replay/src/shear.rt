@@ -1,9 +1,10 @@
 // Replays calls of resolve_divisor_32, get_shear_params and set_affine_mv2d.
 ghost use Rattle.std.specs.Prelude.{◌≤◌};
 
-use crate::list::{ROOM, UNSET, int, short, told, word};
-use crate::words::rooms::fill;
+use crate::list::{UNSET, int, short, told, word};
+use crate::rooms::filled;
 use blocks::shear::{hv_get_shear_params, hv_resolve_divisor_32, hv_set_affine_mv2d};
+use std::alloc::{AllocError, Global};
 
 // A matrix whose first entry is number k.
 fn matrix_at(r: &[u8], k: u8) -> [i32; 6]
@@ -19,41 +20,23 @@ fn matrix_at(r: &[u8], k: u8) -> [i32; 6]
     ]
 }
 
-fn same_matrix(m: &[i32; 6], n: [i32; 6]) -> bool {
-    let mut same = true;
-    for i in 0..6 {
-        same = same & (m[i] == n[i]);
-    }
-    same
-}
-
-fn same_shears(s: &[i16; 4], t: [i16; 4]) -> bool {
-    let mut same = true;
-    for i in 0..4 {
-        same = same & (s[i] == t[i]);
-    }
-    same
-}
-
-pub(crate) fn resolve_divisor_32(r: &[u8]) -> bool {
-    let mut recip = [0; ROOM];
+pub(crate) fn resolve_divisor_32(alloc: Global, r: &[u8]) -> Result<bool, AllocError> {
+    let recip: Vec<u16> = filled(alloc, r, 0)?;
     let mut y = UNSET;
     let mut shift = UNSET;
-    let n0 = fill(r, 0, &mut recip);
-    let number = hv_resolve_divisor_32(word(r, 0), &recip[..n0], &mut y, &mut shift);
-    told(r, number) & (y == int(r, 1)) & (shift == int(r, 2))
+    let number = hv_resolve_divisor_32(word(r, 0), &recip, &mut y, &mut shift);
+    Ok(told(r, number) & (y == int(r, 1)) & (shift == int(r, 2)))
 }
 
-pub(crate) fn get_shear_params(r: &[u8]) -> bool {
+pub(crate) fn get_shear_params(alloc: Global, r: &[u8]) -> Result<bool, AllocError> {
     let mut matrix = matrix_at(r, 0);
     let mut abcd = [short(r, 6), short(r, 7), short(r, 8), short(r, 9)];
     let mut affine = int(r, 10);
-    let mut recip = [0; ROOM];
-    let n0 = fill(r, 0, &mut recip);
-    let number = hv_get_shear_params(&mut matrix, &mut abcd, &mut affine, &recip[..n0]);
+    let recip: Vec<u16> = filled(alloc, r, 0)?;
+    let number = hv_get_shear_params(&mut matrix, &mut abcd, &mut affine, &recip);
     let shears = [short(r, 17), short(r, 18), short(r, 19), short(r, 20)];
-    let record = same_matrix(&matrix, matrix_at(r, 11)) & same_shears(&abcd, shears);
-    told(r, number) & record & (affine == int(r, 21))
+    let record = (matrix == matrix_at(r, 11)) & (abcd == shears);
+    Ok(told(r, number) & record & (affine == int(r, 21)))
 }
 
 pub(crate) fn set_affine_mv2d(r: &[u8]) -> bool {
@@ -67,5 +50,5 @@ pub(crate) fn set_affine_mv2d(r: &[u8]) -> bool {
         int(r, 10),
         int(r, 11),
     );
-    told(r, number) & same_matrix(&matrix, matrix_at(r, 12))
+    told(r, number) & (matrix == matrix_at(r, 12))
 }

@@ -1,5 +1,5 @@
 -- E1, a reference of another size: where a pixel stands in it, and the pixel as one rule that looks up each row directly. Assumes nothing.
-use Rattle.std.specs.Prelude.{ℕ, zero, suc, ◌+◌, ◌-◌, ◌*◌, ◌/◌, ◌%◌, ◌^◌, ◌≤◌, ◌<◌, ℤ, pos, ◌+ℤ◌, List}
+use Rattle.std.specs.Prelude.{ℕ, zero, suc, ◌+◌, ◌-◌, ◌*◌, ◌/◌, ◌%◌, ◌^◌, ℤ, pos, ◌+ℤ◌, List}
 use Rattle.rows.specs.Numbers.{clip, half, low16, minus16, ◌>>◌}
 use Rattle.rows.specs.Subpel.{Axis, whole, by, filter, tapped}
 use Rattle.rows.specs.Bilinear.{bilin, R, bilin_mid}

@@ -20,10 +20,8 @@ pub fn is_near(f: &[i8; 8]) -> bool
     ensures { result ≡ leb (sum 8 (λ t. nat_abs (at f.now t))) 128 }
 {
     let mut s: u32 = 0;
-    let mut j = 0;
-    while j < 8 {
+    for j in 0..8 {
         s += tap_size(f[j]);
-        j += 1;
     }
     s <= 128
 }
@@ -74,10 +72,8 @@ pub fn near_highs_i16(src: &[i16], o: usize, step: usize, f: &[i8; 8]) -> i16
     ensures { (result ≡ S f.now (λ t. shr_z (at src.now (o + t * step)) 256)) × (nat_abs result ≤ 32640) }
 {
     let mut s: i16 = 0;
-    let mut j = 0;
-    while j < 8 {
+    for j in 0..8 {
         s = near_high_i16(s, f[j], src[o + j * step]);
-        j += 1;
     }
     s
 }
@@ -88,10 +84,8 @@ pub fn near_lows_i16(src: &[i16], o: usize, step: usize, f: &[i8; 8]) -> i16
     ensures { (result ≡ S f.now (λ t. pos (mod_z (at src.now (o + t * step)) 256))) × (nat_abs result ≤ 32640) }
 {
     let mut s: i16 = 0;
-    let mut j = 0;
-    while j < 8 {
+    for j in 0..8 {
         s = near_low_i16(s, f[j], src[o + j * step]);
-        j += 1;
     }
     s
 }

@@ -32,11 +32,9 @@ pub fn weight_row(m: &mut [u8], tmp1: &[i16], tmp2: &[i16], q: usize, depth: u32
     ensures { m.new ≡ row_of (length m.old) (both (weight_of depth bits) tmp1.now tmp2.now q) }
 {
     let n = m.len();
-    let mut i = 0;
-    while i < n {
+    for i in 0..n {
         let v = weight_px(tmp1[q + i], tmp2[q + i], depth, bits);
         m[i] = v;
-        i += 1;
     }
 }
 
@@ -55,11 +53,9 @@ pub fn pair_row(mask: &mut [u8], m: &[u8], sign: u32)
         ≡ row_of (length mask.old) (λ i. pair_of sign (get_or m.now (2 * i) 0) (get_or m.now (2 * i + 1) 0)) }
 {
     let n = mask.len();
-    let mut i = 0;
-    while i < n {
+    for i in 0..n {
         let v = pair_px(m[2 * i], m[2 * i + 1], sign);
         mask[i] = v;
-        i += 1;
     }
 }
 
@@ -80,10 +76,8 @@ pub fn four_row(mask: &mut [u8], m: &[u8], n: &[u8], sign: u32)
         (2 * i + 1) 0)) }
 {
     let l = mask.len();
-    let mut i = 0;
-    while i < l {
+    for i in 0..l {
         let v = four_px(m[2 * i], m[2 * i + 1], n[2 * i], n[2 * i + 1], sign);
         mask[i] = v;
-        i += 1;
     }
 }

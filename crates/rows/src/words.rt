@@ -1,15 +1,6 @@
-// 16-bit pixels: the half that is written.
+// What 16-bit pixels have of their own, for speed: the sums of their taps and of their pairs.
 pub mod between;
-pub mod bilinear;
-pub mod blend;
-pub mod combine;
-pub mod copy;
-pub mod edge;
 pub mod pairs;
 pub mod pixel;
-pub mod scaled;
-pub mod search;
-pub mod subpel;
 pub mod sums;
 pub mod taps;
-pub mod warp;

@@ -1,13 +1,12 @@
 // Runs the code on document 01's worked numbers, C1 to C10, through the functions that the decoder calls. Prints each name, then ok or bad.
 #![tactic(auto)]
 
-use blocks::bytes::calls::{
-    hv_avg_8bpc, hv_prep_8tap_8bpc, hv_put_8tap_8bpc, hv_put_bilin_8bpc, hv_w_avg_8bpc,
-    hv_w_mask_8bpc,
-};
-use blocks::bytes::edge::hv_emu_edge_8bpc;
+use blocks::bilinear::hv_put_bilin;
+use blocks::combine::{hv_avg, hv_w_avg};
+use blocks::edge::hv_emu_edge;
 use blocks::shear::hv_get_shear_params;
-use blocks::words::combine::hv_avg_16bpc;
+use blocks::subpel::{hv_prep_8tap, hv_put_8tap};
+use blocks::w_mask::hv_w_mask;
 use std::io;
 
 fn say(rt: &impl Print, n: u64, ok: bool) -> io::Result<()> {
@@ -22,21 +21,21 @@ fn say(rt: &impl Print, n: u64, ok: bool) -> io::Result<()> {
 // "avg of 3200 and 3200 is 200"
 fn c1() -> bool {
     let mut d = [0u8; 1];
-    let number = hv_avg_8bpc(&mut d, 1, &[3200i16; 1], &[3200i16; 1], 1, 1);
+    let number = hv_avg(8, &mut d, 1, &[3200i16; 1], &[3200i16; 1], 1, 1);
     (number == 0) & (d[0] == 200)
 }
 
 // "depth 10, 8176 twice gives 1023"
 fn c2() -> bool {
     let mut d = [0u16; 1];
-    let number = hv_avg_16bpc(10, &mut d, 1, &[8176i16; 1], &[8176i16; 1], 1, 1);
+    let number = hv_avg(10, &mut d, 1, &[8176i16; 1], &[8176i16; 1], 1, 1);
     (number == 0) & (d[0] == 1023)
 }
 
 // "3200 and 0 at weight 12 give 150"
 fn c3() -> bool {
     let mut d = [0u8; 1];
-    let number = hv_w_avg_8bpc(&mut d, 1, &[3200i16; 1], &[0i16; 1], 1, 1, 12);
+    let number = hv_w_avg(8, &mut d, 1, &[3200i16; 1], &[0i16; 1], 1, 1, 12);
     (number == 0) & (d[0] == 150)
 }
 
@@ -45,7 +44,9 @@ fn c4() -> bool {
     let mut d = [0u8; 4];
     let mut m = [0u8; 4];
     let a = [0i16, 3200, 6647, 6648];
-    let number = hv_w_mask_8bpc(&mut d, 4, &a, &[0i16; 4], 4, 1, &mut m, 4, 0, false, false);
+    let number = hv_w_mask(
+        8, &mut d, 4, &a, &[0i16; 4], 4, 1, &mut m, 4, 0, false, false,
+    );
     (number == 0) & (m[0] == 38) & (m[1] == 50) & (m[2] == 63) & (m[3] == 64)
 }
 
@@ -54,8 +55,8 @@ fn pair(sign: i32) -> u8 {
     let mut d = [0u8; 2];
     let mut m = [0u8; 1];
     let a = [3200i16, 256];
-    hv_w_mask_8bpc(
-        &mut d, 2, &a, &[0i16; 2], 2, 1, &mut m, 1, sign, true, false,
+    hv_w_mask(
+        8, &mut d, 2, &a, &[0i16; 2], 2, 1, &mut m, 1, sign, true, false,
     );
     m[0]
 }
@@ -68,7 +69,7 @@ fn c5() -> bool {
 // "bilinear put of 10, 21 at horizontal 5 is 13"
 fn c6() -> bool {
     let mut d = [0u8; 1];
-    let number = hv_put_bilin_8bpc(&mut d, 1, &[10u8, 21], 2, 1, 1, 5, 0);
+    let number = hv_put_bilin(8, &mut d, 1, &[10u8, 21], 2, 1, 1, 5, 0);
     (number == 0) & (d[0] == 13)
 }
 
@@ -83,7 +84,8 @@ fn table() -> [i8; 600] {
 // The pixel that 8-tap puts at the middle of a plane of ones; 255 where refused.
 fn put_ones(mx: i32, my: i32) -> u8 {
     let mut d = [255u8; 1];
-    hv_put_8tap_8bpc(
+    hv_put_8tap(
+        8,
         &mut d,
         1,
         &[1u8; 64],
@@ -109,7 +111,8 @@ fn c7() -> bool {
 fn c8() -> bool {
     let mut t = [0i16; 1];
     let mut d = [0u8; 1];
-    let first = hv_prep_8tap_8bpc(
+    let first = hv_prep_8tap(
+        8,
         &mut t,
         1,
         &[1u8; 64],
@@ -123,7 +126,7 @@ fn c8() -> bool {
         &table(),
         &[0i8; 0],
     );
-    let second = hv_avg_8bpc(&mut d, 1, &t, &t, 1, 1);
+    let second = hv_avg(8, &mut d, 1, &t, &t, 1, 1);
     (put_ones(1, 2) == 0) & (first == 0) & (t[0] == 8) & (second == 0) & (d[0] == 1)
 }
 
@@ -136,7 +139,7 @@ fn row_is(l: &[u8; 12], p: usize, row: [u8; 4]) -> bool {
 // "plane rows 1 2 3 / 4 5 6, block 4 x 3 at (-1, 0): 1 1 2 3 / 4 4 5 6 / 4 4 5 6"
 fn c9() -> bool {
     let mut d = [0u8; 12];
-    let number = hv_emu_edge_8bpc(4, 3, 3, 2, -1, 0, &mut d, 4, &[1u8, 2, 3, 4, 5, 6], 3);
+    let number = hv_emu_edge(4, 3, 3, 2, -1, 0, &mut d, 4, &[1u8, 2, 3, 4, 5, 6], 3);
     let low = [4u8, 4, 5, 6];
     (number == 0) & row_is(&d, 0, [1u8, 1, 2, 3]) & row_is(&d, 4, low) & row_is(&d, 8, low)
 }

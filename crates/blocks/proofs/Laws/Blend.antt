@@ -2,4 +2,5 @@
 pub mod Above
 pub mod Ready
 pub mod Answers
+pub mod Shown
 pub mod Places

@@ -2,4 +2,5 @@
 pub mod Ready
 pub mod Answers
 pub mod Calls
+pub mod Numbers
 pub mod Places

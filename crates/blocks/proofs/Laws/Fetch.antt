@@ -2,5 +2,4 @@
 pub mod Calls
 pub mod Kernels
 pub mod CFunctions
-pub mod Told
 pub mod Witness

@@ -4,3 +4,4 @@ pub mod Ready
 pub mod Run
 pub mod Answers
 pub mod Places
+pub mod Called

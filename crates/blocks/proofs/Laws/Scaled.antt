@@ -4,6 +4,7 @@ pub mod Places
 pub mod Rows
 pub mod Lines
 pub mod Pairs
+pub mod Turns
 pub mod Rule
 pub mod Answers
 pub mod Stands

@@ -2,6 +2,7 @@
 pub mod Corners
 pub mod Ready
 pub mod Passes
+pub mod Shown
 pub mod Answers
 pub mod Shears
 pub mod Places

@@ -160,10 +160,8 @@ fn in_memory(f: [i8; 8], back: usize) -> [i8; 8]
         return f;
     }
     let mut r = [0i8; 8];
-    let mut t = 0;
-    while t < 8 {
+    for t in 0..8 {
         r[t] = f[7 - t];
-        t += 1;
     }
     r
 }

@@ -1,10 +1,11 @@
-// What C calls of blocks' bytes::bilinear. Made from crates/blocks by tools/exports: change that.
+// What C calls of blocks' bilinear of u8. Made from crates/blocks by tools/exports: change that.
 ghost use Rattle.std.specs.Prelude.{true};
 ghost use Rattle.blocks.specs.Bilinear.{PutBilinAnswer, PrepBilinAnswer};
 
-use blocks::bytes::calls;
+use blocks::bilinear;
 
 #[unsafe(no_mangle)]
+#[tactic(auto, unfolding(blocks::specs::bytes::Depth::depth_ok))]
 pub extern "C" fn hv_put_bilin_8bpc(
     dst: &mut [u8],
     dst_stride: usize,
@@ -17,10 +18,11 @@ pub extern "C" fn hv_put_bilin_8bpc(
 ) -> u32
     ensures { PutBilinAnswer true 8 dst.old dst_stride src.now src_stride w h mx my result dst.new }
 {
-    calls::hv_put_bilin_8bpc(dst, dst_stride, src, src_stride, w, h, mx, my)
+    bilinear::hv_put_bilin(8, dst, dst_stride, src, src_stride, w, h, mx, my)
 }
 
 #[unsafe(no_mangle)]
+#[tactic(auto, unfolding(blocks::specs::bytes::Depth::depth_ok))]
 pub extern "C" fn hv_prep_bilin_8bpc(
     tmp: &mut [i16],
     tmp_stride: usize,
@@ -34,5 +36,5 @@ pub extern "C" fn hv_prep_bilin_8bpc(
     ensures { PrepBilinAnswer true 8 tmp.old tmp_stride src.now src_stride w h mx my result
         tmp.new }
 {
-    calls::hv_prep_bilin_8bpc(tmp, tmp_stride, src, src_stride, w, h, mx, my)
+    bilinear::hv_prep_bilin(8, tmp, tmp_stride, src, src_stride, w, h, mx, my)
 }

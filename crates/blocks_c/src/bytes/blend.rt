@@ -1,8 +1,8 @@
-// What C calls of blocks' bytes::blend. Made from crates/blocks by tools/exports: change that.
+// What C calls of blocks' blend of u8. Made from crates/blocks by tools/exports: change that.
 ghost use Rattle.std.specs.Prelude.{true};
 ghost use Rattle.blocks.specs.Blend.{BlendAnswer, MorphAnswer};
 
-use blocks::bytes::{blend, calls};
+use blocks::blend;
 
 #[unsafe(no_mangle)]
 pub extern "C" fn hv_blend_8bpc(
@@ -18,10 +18,11 @@ pub extern "C" fn hv_blend_8bpc(
     ensures { BlendAnswer dst.old dst_stride tmp.now w h mask.now result dst.new row.new
         col.new }
 {
-    blend::hv_blend_8bpc(dst, dst_stride, tmp, w, h, mask, row, col)
+    blend::hv_blend(dst, dst_stride, tmp, w, h, mask, row, col)
 }
 
 #[unsafe(no_mangle)]
+#[tactic(auto, unfolding(blocks::specs::bytes::Depth::depth_ok))]
 pub extern "C" fn hv_morph_8bpc(
     dst: &mut [u8],
     dst_stride: usize,
@@ -32,5 +33,5 @@ pub extern "C" fn hv_morph_8bpc(
 ) -> u32
     ensures { MorphAnswer true 8 dst.old dst_stride alpha beta w h result dst.new }
 {
-    calls::hv_morph_8bpc(dst, dst_stride, alpha, beta, w, h)
+    blend::hv_morph(8, dst, dst_stride, alpha, beta, w, h)
 }

@@ -1,10 +1,11 @@
-// What C calls of blocks' bytes::combine. Made from crates/blocks by tools/exports: change that.
+// What C calls of blocks' combine of u8. Made from crates/blocks by tools/exports: change that.
 ghost use Rattle.std.specs.Prelude.{true};
 ghost use Rattle.blocks.specs.Combine.{AvgAnswer, WAvgAnswer, MaskAnswer};
 
-use blocks::bytes::calls;
+use blocks::combine;
 
 #[unsafe(no_mangle)]
+#[tactic(auto, unfolding(blocks::specs::bytes::Depth::depth_ok))]
 pub extern "C" fn hv_avg_8bpc(
     dst: &mut [u8],
     dst_stride: usize,
@@ -15,10 +16,11 @@ pub extern "C" fn hv_avg_8bpc(
 ) -> u32
     ensures { AvgAnswer true 8 dst.old dst_stride tmp1.now tmp2.now w h result dst.new }
 {
-    calls::hv_avg_8bpc(dst, dst_stride, tmp1, tmp2, w, h)
+    combine::hv_avg(8, dst, dst_stride, tmp1, tmp2, w, h)
 }
 
 #[unsafe(no_mangle)]
+#[tactic(auto, unfolding(blocks::specs::bytes::Depth::depth_ok))]
 pub extern "C" fn hv_w_avg_8bpc(
     dst: &mut [u8],
     dst_stride: usize,
@@ -31,10 +33,11 @@ pub extern "C" fn hv_w_avg_8bpc(
     ensures { WAvgAnswer true 8 dst.old dst_stride tmp1.now tmp2.now w h weight result
         dst.new }
 {
-    calls::hv_w_avg_8bpc(dst, dst_stride, tmp1, tmp2, w, h, weight)
+    combine::hv_w_avg(8, dst, dst_stride, tmp1, tmp2, w, h, weight)
 }
 
 #[unsafe(no_mangle)]
+#[tactic(auto, unfolding(blocks::specs::bytes::Depth::depth_ok))]
 pub extern "C" fn hv_mask_8bpc(
     dst: &mut [u8],
     dst_stride: usize,
@@ -47,5 +50,5 @@ pub extern "C" fn hv_mask_8bpc(
     ensures { MaskAnswer true 8 dst.old dst_stride tmp1.now tmp2.now w h mask.now result
         dst.new }
 {
-    calls::hv_mask_8bpc(dst, dst_stride, tmp1, tmp2, w, h, mask)
+    combine::hv_mask(8, dst, dst_stride, tmp1, tmp2, w, h, mask)
 }

@@ -1,10 +1,11 @@
-// What C calls of blocks' bytes::order. Made from crates/blocks by tools/exports: change that.
+// What C calls of blocks' order of u8. Made from crates/blocks by tools/exports: change that.
 ghost use Rattle.std.specs.Prelude.{true, leb};
 ghost use Rattle.blocks.specs.Order.{kind_of, OrderPutAnswer, OrderPrepAnswer};
 
-use blocks::bytes::calls;
+use blocks::order;
 
 #[unsafe(no_mangle)]
+#[tactic(auto, unfolding(blocks::specs::bytes::Depth::depth_ok))]
 pub extern "C" fn hv_order_put_8bpc(
     luma_w: usize,
     luma_h: usize,
@@ -47,7 +48,8 @@ pub extern "C" fn hv_order_put_8bpc(
         (leb kind 3) (record { x = x; y = y; w = w; h = h; kind = kind_of kind mx my filter_type a b c d })
         scratch.old dst.old dst_stride result scratch.new dst.new }
 {
-    calls::hv_order_put_8bpc(
+    order::hv_order_put(
+        8,
         luma_w,
         luma_h,
         ss_hor,
@@ -77,6 +79,7 @@ pub extern "C" fn hv_order_put_8bpc(
 }
 
 #[unsafe(no_mangle)]
+#[tactic(auto, unfolding(blocks::specs::bytes::Depth::depth_ok))]
 pub extern "C" fn hv_order_prep_8bpc(
     luma_w: usize,
     luma_h: usize,
@@ -119,7 +122,8 @@ pub extern "C" fn hv_order_prep_8bpc(
         (leb kind 3) (record { x = x; y = y; w = w; h = h; kind = kind_of kind mx my filter_type a b c d })
         scratch.old tmp.old tmp_stride result scratch.new tmp.new }
 {
-    calls::hv_order_prep_8bpc(
+    order::hv_order_prep(
+        8,
         luma_w,
         luma_h,
         ss_hor,

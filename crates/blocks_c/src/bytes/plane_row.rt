@@ -1,7 +1,7 @@
-// What C calls of blocks' bytes::plane_row. Made from crates/blocks by tools/exports: change that.
+// What C calls of blocks' plane_row of u8. Made from crates/blocks by tools/exports: change that.
 ghost use Rattle.blocks.specs.Window.{row_at, PartAnswer};
 
-use blocks::bytes::plane_row;
+use blocks::plane_row;
 
 #[unsafe(no_mangle)]
 pub extern "C" fn hv_row_8bpc(
@@ -27,7 +27,7 @@ pub extern "C" fn hv_row_8bpc(
         }) row)
         result buffer.new place.new stride.new len.new }
 {
-    plane_row::hv_row_8bpc(
+    plane_row::hv_row(
         luma_w,
         luma_h,
         ss_hor,

@@ -1,10 +1,11 @@
-// What C calls of blocks' bytes::scaled. Made from crates/blocks by tools/exports: change that.
+// What C calls of blocks' scaled of u8. Made from crates/blocks by tools/exports: change that.
 ghost use Rattle.std.specs.Prelude.{true};
 ghost use Rattle.blocks.specs.Scaled.{Put8ScaledAnswer, Prep8ScaledAnswer, PutBilinScaledAnswer, PrepBilinScaledAnswer};
 
-use blocks::bytes::calls;
+use blocks::scaled::kernels;
 
 #[unsafe(no_mangle)]
+#[tactic(auto, unfolding(blocks::specs::bytes::Depth::depth_ok))]
 pub extern "C" fn hv_put_8tap_scaled_8bpc(
     dst: &mut [u8],
     dst_stride: usize,
@@ -23,7 +24,8 @@ pub extern "C" fn hv_put_8tap_scaled_8bpc(
     ensures { Put8ScaledAnswer true 8 dst.old dst_stride src.now src_off src_stride w h mx my dx dy
         filter_type subpel.now result dst.new }
 {
-    calls::hv_put_8tap_scaled_8bpc(
+    kernels::hv_put_8tap_scaled(
+        8,
         dst,
         dst_stride,
         src,
@@ -41,6 +43,7 @@ pub extern "C" fn hv_put_8tap_scaled_8bpc(
 }
 
 #[unsafe(no_mangle)]
+#[tactic(auto, unfolding(blocks::specs::bytes::Depth::depth_ok))]
 pub extern "C" fn hv_prep_8tap_scaled_8bpc(
     tmp: &mut [i16],
     tmp_stride: usize,
@@ -59,7 +62,8 @@ pub extern "C" fn hv_prep_8tap_scaled_8bpc(
     ensures { Prep8ScaledAnswer true 8 tmp.old tmp_stride src.now src_off src_stride w h mx my dx dy
         filter_type subpel.now result tmp.new }
 {
-    calls::hv_prep_8tap_scaled_8bpc(
+    kernels::hv_prep_8tap_scaled(
+        8,
         tmp,
         tmp_stride,
         src,
@@ -77,6 +81,7 @@ pub extern "C" fn hv_prep_8tap_scaled_8bpc(
 }
 
 #[unsafe(no_mangle)]
+#[tactic(auto, unfolding(blocks::specs::bytes::Depth::depth_ok))]
 pub extern "C" fn hv_put_bilin_scaled_8bpc(
     dst: &mut [u8],
     dst_stride: usize,
@@ -93,12 +98,13 @@ pub extern "C" fn hv_put_bilin_scaled_8bpc(
     ensures { PutBilinScaledAnswer true 8 dst.old dst_stride src.now src_off src_stride w h mx my dx dy result
         dst.new }
 {
-    calls::hv_put_bilin_scaled_8bpc(
-        dst, dst_stride, src, src_off, src_stride, w, h, mx, my, dx, dy,
+    kernels::hv_put_bilin_scaled(
+        8, dst, dst_stride, src, src_off, src_stride, w, h, mx, my, dx, dy,
     )
 }
 
 #[unsafe(no_mangle)]
+#[tactic(auto, unfolding(blocks::specs::bytes::Depth::depth_ok))]
 pub extern "C" fn hv_prep_bilin_scaled_8bpc(
     tmp: &mut [i16],
     tmp_stride: usize,
@@ -115,7 +121,7 @@ pub extern "C" fn hv_prep_bilin_scaled_8bpc(
     ensures { PrepBilinScaledAnswer true 8 tmp.old tmp_stride src.now src_off src_stride w h mx my dx dy
         result tmp.new }
 {
-    calls::hv_prep_bilin_scaled_8bpc(
-        tmp, tmp_stride, src, src_off, src_stride, w, h, mx, my, dx, dy,
+    kernels::hv_prep_bilin_scaled(
+        8, tmp, tmp_stride, src, src_off, src_stride, w, h, mx, my, dx, dy,
     )
 }

@@ -1,10 +1,11 @@
-// What C calls of blocks' bytes::subpel. Made from crates/blocks by tools/exports: change that.
+// What C calls of blocks' subpel of u8. Made from crates/blocks by tools/exports: change that.
 ghost use Rattle.std.specs.Prelude.{true};
 ghost use Rattle.blocks.specs.Subpel.{Put8Answer, Prep8Answer};
 
-use blocks::bytes::calls;
+use blocks::subpel;
 
 #[unsafe(no_mangle)]
+#[tactic(auto, unfolding(blocks::specs::bytes::Depth::depth_ok))]
 pub extern "C" fn hv_put_8tap_8bpc(
     dst: &mut [u8],
     dst_stride: usize,
@@ -22,7 +23,8 @@ pub extern "C" fn hv_put_8tap_8bpc(
     ensures { Put8Answer true 8 dst.old dst_stride src.now src_off src_stride w h mx my filter_type
         subpel.now ext.now result dst.new }
 {
-    calls::hv_put_8tap_8bpc(
+    subpel::hv_put_8tap(
+        8,
         dst,
         dst_stride,
         src,
@@ -39,6 +41,7 @@ pub extern "C" fn hv_put_8tap_8bpc(
 }
 
 #[unsafe(no_mangle)]
+#[tactic(auto, unfolding(blocks::specs::bytes::Depth::depth_ok))]
 pub extern "C" fn hv_prep_8tap_8bpc(
     tmp: &mut [i16],
     tmp_stride: usize,
@@ -56,7 +59,8 @@ pub extern "C" fn hv_prep_8tap_8bpc(
     ensures { Prep8Answer true 8 tmp.old tmp_stride src.now src_off src_stride w h mx my filter_type
         subpel.now ext.now result tmp.new }
 {
-    calls::hv_prep_8tap_8bpc(
+    subpel::hv_prep_8tap(
+        8,
         tmp,
         tmp_stride,
         src,

@@ -1,10 +1,11 @@
-// What C calls of blocks' bytes::w_mask. Made from crates/blocks by tools/exports: change that.
+// What C calls of blocks' w_mask of u8. Made from crates/blocks by tools/exports: change that.
 ghost use Rattle.std.specs.Prelude.{true};
 ghost use Rattle.blocks.specs.WMask.{WMaskAnswer};
 
-use blocks::bytes::calls;
+use blocks::w_mask;
 
 #[unsafe(no_mangle)]
+#[tactic(auto, unfolding(blocks::specs::bytes::Depth::depth_ok))]
 pub extern "C" fn hv_w_mask_8bpc(
     dst: &mut [u8],
     dst_stride: usize,
@@ -21,7 +22,8 @@ pub extern "C" fn hv_w_mask_8bpc(
     ensures { WMaskAnswer true 8 dst.old dst_stride tmp1.now tmp2.now w h mask.old
         mask_stride sign ss_hor ss_ver result dst.new mask.new }
 {
-    calls::hv_w_mask_8bpc(
+    w_mask::hv_w_mask(
+        8,
         dst,
         dst_stride,
         tmp1,

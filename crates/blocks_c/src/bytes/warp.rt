@@ -1,10 +1,11 @@
-// What C calls of blocks' bytes::warp. Made from crates/blocks by tools/exports: change that.
+// What C calls of blocks' warp of u8. Made from crates/blocks by tools/exports: change that.
 ghost use Rattle.std.specs.Prelude.{true};
 ghost use Rattle.blocks.specs.Warp.{WarpAnswer, WarpTAnswer};
 
-use blocks::bytes::calls;
+use blocks::warp;
 
 #[unsafe(no_mangle)]
+#[tactic(auto, unfolding(blocks::specs::bytes::Depth::depth_ok))]
 pub extern "C" fn hv_warp_affine_8x8_8bpc(
     dst: &mut [u8],
     dst_stride: usize,
@@ -22,12 +23,13 @@ pub extern "C" fn hv_warp_affine_8x8_8bpc(
     ensures { WarpAnswer true 8 dst.old dst_stride src.now src_stride src_off a b c d mx my
         warp.now result dst.new }
 {
-    calls::hv_warp_affine_8x8_8bpc(
-        dst, dst_stride, src, src_stride, src_off, a, b, c, d, mx, my, warp,
+    warp::hv_warp_affine_8x8(
+        8, dst, dst_stride, src, src_stride, src_off, a, b, c, d, mx, my, warp,
     )
 }
 
 #[unsafe(no_mangle)]
+#[tactic(auto, unfolding(blocks::specs::bytes::Depth::depth_ok))]
 pub extern "C" fn hv_warp_affine_8x8t_8bpc(
     tmp: &mut [i16],
     tmp_stride: usize,
@@ -45,7 +47,7 @@ pub extern "C" fn hv_warp_affine_8x8t_8bpc(
     ensures { WarpTAnswer true 8 tmp.old tmp_stride src.now src_stride src_off a b c d mx my
         warp.now result tmp.new }
 {
-    calls::hv_warp_affine_8x8t_8bpc(
-        tmp, tmp_stride, src, src_stride, src_off, a, b, c, d, mx, my, warp,
+    warp::hv_warp_affine_8x8t(
+        8, tmp, tmp_stride, src, src_stride, src_off, a, b, c, d, mx, my, warp,
     )
 }

@@ -1,9 +1,9 @@
-// What C calls of blocks' words::bilinear. Made from crates/blocks by tools/exports: change that.
+// What C calls of blocks' bilinear of u16. Made from crates/blocks by tools/exports: change that.
 ghost use Rattle.blocks.specs.Bilinear.{PutBilinAnswer, PrepBilinAnswer};
 ghost use Rattle.blocks.specs.words.Depth.{depth_ok};
 ghost use Rattle.rows.specs.Numbers.{up};
 
-use blocks::words::bilinear;
+use blocks::bilinear;
 
 #[unsafe(no_mangle)]
 pub extern "C" fn hv_put_bilin_16bpc(
@@ -19,7 +19,7 @@ pub extern "C" fn hv_put_bilin_16bpc(
 ) -> u32
     ensures { PutBilinAnswer (depth_ok depth) (up depth) dst.old dst_stride src.now src_stride w h mx my result dst.new }
 {
-    bilinear::hv_put_bilin_16bpc(depth, dst, dst_stride, src, src_stride, w, h, mx, my)
+    bilinear::hv_put_bilin(depth, dst, dst_stride, src, src_stride, w, h, mx, my)
 }
 
 #[unsafe(no_mangle)]
@@ -37,5 +37,5 @@ pub extern "C" fn hv_prep_bilin_16bpc(
     ensures { PrepBilinAnswer (depth_ok depth) (up depth) tmp.old tmp_stride src.now src_stride w h mx my result
         tmp.new }
 {
-    bilinear::hv_prep_bilin_16bpc(depth, tmp, tmp_stride, src, src_stride, w, h, mx, my)
+    bilinear::hv_prep_bilin(depth, tmp, tmp_stride, src, src_stride, w, h, mx, my)
 }

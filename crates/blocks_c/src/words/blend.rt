@@ -1,9 +1,9 @@
-// What C calls of blocks' words::blend. Made from crates/blocks by tools/exports: change that.
+// What C calls of blocks' blend of u16. Made from crates/blocks by tools/exports: change that.
 ghost use Rattle.blocks.specs.Blend.{BlendAnswer, MorphAnswer};
 ghost use Rattle.blocks.specs.words.Depth.{depth_ok};
 ghost use Rattle.rows.specs.Numbers.{up};
 
-use blocks::words::blend;
+use blocks::blend;
 
 #[unsafe(no_mangle)]
 pub extern "C" fn hv_blend_16bpc(
@@ -19,7 +19,7 @@ pub extern "C" fn hv_blend_16bpc(
     ensures { BlendAnswer dst.old dst_stride tmp.now w h mask.now result dst.new row.new
         col.new }
 {
-    blend::hv_blend_16bpc(dst, dst_stride, tmp, w, h, mask, row, col)
+    blend::hv_blend(dst, dst_stride, tmp, w, h, mask, row, col)
 }
 
 #[unsafe(no_mangle)]
@@ -34,5 +34,5 @@ pub extern "C" fn hv_morph_16bpc(
 ) -> u32
     ensures { MorphAnswer (depth_ok depth) (up depth) dst.old dst_stride alpha beta w h result dst.new }
 {
-    blend::hv_morph_16bpc(depth, dst, dst_stride, alpha, beta, w, h)
+    blend::hv_morph(depth, dst, dst_stride, alpha, beta, w, h)
 }

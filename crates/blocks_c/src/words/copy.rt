@@ -1,9 +1,9 @@
-// What C calls of blocks' words::copy. Made from crates/blocks by tools/exports: change that.
+// What C calls of blocks' copy of u16. Made from crates/blocks by tools/exports: change that.
 ghost use Rattle.blocks.specs.Copy.{PutAnswer, PrepAnswer};
 ghost use Rattle.blocks.specs.words.Depth.{depth_ok};
 ghost use Rattle.rows.specs.Numbers.{up};
 
-use blocks::words::copy;
+use blocks::copy;
 
 #[unsafe(no_mangle)]
 pub extern "C" fn hv_put_16bpc(
@@ -16,7 +16,7 @@ pub extern "C" fn hv_put_16bpc(
 ) -> u32
     ensures { PutAnswer dst.old dst_stride src.now src_stride w h result dst.new }
 {
-    copy::hv_put_16bpc(dst, dst_stride, src, src_stride, w, h)
+    copy::hv_put(dst, dst_stride, src, src_stride, w, h)
 }
 
 #[unsafe(no_mangle)]
@@ -31,5 +31,5 @@ pub extern "C" fn hv_prep_16bpc(
 ) -> u32
     ensures { PrepAnswer (depth_ok depth) (up depth) tmp.old tmp_stride src.now src_stride w h result tmp.new }
 {
-    copy::hv_prep_16bpc(depth, tmp, tmp_stride, src, src_stride, w, h)
+    copy::hv_prep(depth, tmp, tmp_stride, src, src_stride, w, h)
 }

@@ -1,7 +1,7 @@
-// What C calls of blocks' words::edge. Made from crates/blocks by tools/exports: change that.
+// What C calls of blocks' edge of u16. Made from crates/blocks by tools/exports: change that.
 ghost use Rattle.blocks.specs.Edge.{EdgeAnswer};
 
-use blocks::words::edge;
+use blocks::edge;
 
 #[unsafe(no_mangle)]
 pub extern "C" fn hv_emu_edge_16bpc(
@@ -18,5 +18,5 @@ pub extern "C" fn hv_emu_edge_16bpc(
 ) -> u32
     ensures { EdgeAnswer bw bh iw ih x y dst.old dst_stride plane.now plane_stride result dst.new }
 {
-    edge::hv_emu_edge_16bpc(bw, bh, iw, ih, x, y, dst, dst_stride, plane, plane_stride)
+    edge::hv_emu_edge(bw, bh, iw, ih, x, y, dst, dst_stride, plane, plane_stride)
 }

@@ -1,10 +1,10 @@
-// What C calls of blocks' words::order. Made from crates/blocks by tools/exports: change that.
+// What C calls of blocks' order of u16. Made from crates/blocks by tools/exports: change that.
 ghost use Rattle.std.specs.Prelude.{leb};
 ghost use Rattle.blocks.specs.Order.{kind_of, OrderPutAnswer, OrderPrepAnswer};
 ghost use Rattle.blocks.specs.words.Depth.{depth_ok};
 ghost use Rattle.rows.specs.Numbers.{up};
 
-use blocks::words::order;
+use blocks::order;
 
 #[unsafe(no_mangle)]
 pub extern "C" fn hv_order_put_16bpc(
@@ -50,7 +50,7 @@ pub extern "C" fn hv_order_put_16bpc(
         (leb kind 3) (record { x = x; y = y; w = w; h = h; kind = kind_of kind mx my filter_type a b c d })
         scratch.old dst.old dst_stride result scratch.new dst.new }
 {
-    order::hv_order_put_16bpc(
+    order::hv_order_put(
         depth,
         luma_w,
         luma_h,
@@ -124,7 +124,7 @@ pub extern "C" fn hv_order_prep_16bpc(
         (leb kind 3) (record { x = x; y = y; w = w; h = h; kind = kind_of kind mx my filter_type a b c d })
         scratch.old tmp.old tmp_stride result scratch.new tmp.new }
 {
-    order::hv_order_prep_16bpc(
+    order::hv_order_prep(
         depth,
         luma_w,
         luma_h,

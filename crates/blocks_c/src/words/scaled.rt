@@ -1,9 +1,9 @@
-// What C calls of blocks' words::scaled. Made from crates/blocks by tools/exports: change that.
+// What C calls of blocks' scaled of u16. Made from crates/blocks by tools/exports: change that.
 ghost use Rattle.blocks.specs.Scaled.{Put8ScaledAnswer, Prep8ScaledAnswer, PutBilinScaledAnswer, PrepBilinScaledAnswer};
 ghost use Rattle.blocks.specs.words.Depth.{depth_ok};
 ghost use Rattle.rows.specs.Numbers.{up};
 
-use blocks::words::scaled;
+use blocks::scaled::kernels;
 
 #[unsafe(no_mangle)]
 pub extern "C" fn hv_put_8tap_scaled_16bpc(
@@ -25,7 +25,7 @@ pub extern "C" fn hv_put_8tap_scaled_16bpc(
     ensures { Put8ScaledAnswer (depth_ok depth) (up depth) dst.old dst_stride src.now src_off src_stride w h mx my dx dy
         filter_type subpel.now result dst.new }
 {
-    scaled::hv_put_8tap_scaled_16bpc(
+    kernels::hv_put_8tap_scaled(
         depth,
         dst,
         dst_stride,
@@ -63,7 +63,7 @@ pub extern "C" fn hv_prep_8tap_scaled_16bpc(
     ensures { Prep8ScaledAnswer (depth_ok depth) (up depth) tmp.old tmp_stride src.now src_off src_stride w h mx my dx dy
         filter_type subpel.now result tmp.new }
 {
-    scaled::hv_prep_8tap_scaled_16bpc(
+    kernels::hv_prep_8tap_scaled(
         depth,
         tmp,
         tmp_stride,
@@ -99,7 +99,7 @@ pub extern "C" fn hv_put_bilin_scaled_16bpc(
     ensures { PutBilinScaledAnswer (depth_ok depth) (up depth) dst.old dst_stride src.now src_off src_stride w h mx my dx dy result
         dst.new }
 {
-    scaled::hv_put_bilin_scaled_16bpc(
+    kernels::hv_put_bilin_scaled(
         depth, dst, dst_stride, src, src_off, src_stride, w, h, mx, my, dx, dy,
     )
 }
@@ -122,7 +122,7 @@ pub extern "C" fn hv_prep_bilin_scaled_16bpc(
     ensures { PrepBilinScaledAnswer (depth_ok depth) (up depth) tmp.old tmp_stride src.now src_off src_stride w h mx my dx dy
         result tmp.new }
 {
-    scaled::hv_prep_bilin_scaled_16bpc(
+    kernels::hv_prep_bilin_scaled(
         depth, tmp, tmp_stride, src, src_off, src_stride, w, h, mx, my, dx, dy,
     )
 }

@@ -1,9 +1,9 @@
-// What C calls of blocks' words::search. Made from crates/blocks by tools/exports: change that.
+// What C calls of blocks' search of u16. Made from crates/blocks by tools/exports: change that.
 ghost use Rattle.blocks.specs.Search.{SadAnswer, RefineAnswer};
 ghost use Rattle.blocks.specs.words.Depth.{depth_ok};
 ghost use Rattle.rows.specs.Numbers.{up};
 
-use blocks::words::search;
+use blocks::search;
 
 #[unsafe(no_mangle)]
 pub extern "C" fn hv_sad_nxn_16bpc(
@@ -18,7 +18,7 @@ pub extern "C" fn hv_sad_nxn_16bpc(
 ) -> u32
     ensures { SadAnswer (depth_ok depth) (up depth) p0.now p0_stride p1.now p1_stride w h result sum.new }
 {
-    search::hv_sad_nxn_16bpc(depth, p0, p0_stride, p1, p1_stride, w, h, sum)
+    search::hv_sad_nxn(depth, p0, p0_stride, p1, p1_stride, w, h, sum)
 }
 
 #[unsafe(no_mangle)]
@@ -37,7 +37,7 @@ pub extern "C" fn hv_sad_refine_mv_16bpc(
     ensures { RefineAnswer (depth_ok depth) (up depth) p0.now p0_stride p1.now p1_stride w h is_implicit result dx.new
         dy.new }
 {
-    search::hv_sad_refine_mv_16bpc(
+    search::hv_sad_refine_mv(
         depth,
         p0,
         p0_stride,

@@ -1,9 +1,9 @@
-// What C calls of blocks' words::subpel. Made from crates/blocks by tools/exports: change that.
+// What C calls of blocks' subpel of u16. Made from crates/blocks by tools/exports: change that.
 ghost use Rattle.blocks.specs.Subpel.{Put8Answer, Prep8Answer};
 ghost use Rattle.blocks.specs.words.Depth.{depth_ok};
 ghost use Rattle.rows.specs.Numbers.{up};
 
-use blocks::words::subpel;
+use blocks::subpel;
 
 #[unsafe(no_mangle)]
 pub extern "C" fn hv_put_8tap_16bpc(
@@ -24,7 +24,7 @@ pub extern "C" fn hv_put_8tap_16bpc(
     ensures { Put8Answer (depth_ok depth) (up depth) dst.old dst_stride src.now src_off src_stride w h mx my filter_type
         subpel.now ext.now result dst.new }
 {
-    subpel::hv_put_8tap_16bpc(
+    subpel::hv_put_8tap(
         depth,
         dst,
         dst_stride,
@@ -60,7 +60,7 @@ pub extern "C" fn hv_prep_8tap_16bpc(
     ensures { Prep8Answer (depth_ok depth) (up depth) tmp.old tmp_stride src.now src_off src_stride w h mx my filter_type
         subpel.now ext.now result tmp.new }
 {
-    subpel::hv_prep_8tap_16bpc(
+    subpel::hv_prep_8tap(
         depth,
         tmp,
         tmp_stride,

@@ -1,9 +1,9 @@
-// What C calls of blocks' words::w_mask. Made from crates/blocks by tools/exports: change that.
+// What C calls of blocks' w_mask of u16. Made from crates/blocks by tools/exports: change that.
 ghost use Rattle.blocks.specs.WMask.{WMaskAnswer};
 ghost use Rattle.blocks.specs.words.Depth.{depth_ok};
 ghost use Rattle.rows.specs.Numbers.{up};
 
-use blocks::words::w_mask;
+use blocks::w_mask;
 
 #[unsafe(no_mangle)]
 pub extern "C" fn hv_w_mask_16bpc(
@@ -23,7 +23,7 @@ pub extern "C" fn hv_w_mask_16bpc(
     ensures { WMaskAnswer (depth_ok depth) (up depth) dst.old dst_stride tmp1.now tmp2.now w h mask.old
         mask_stride sign ss_hor ss_ver result dst.new mask.new }
 {
-    w_mask::hv_w_mask_16bpc(
+    w_mask::hv_w_mask(
         depth,
         dst,
         dst_stride,

@@ -1,9 +1,9 @@
-// What C calls of blocks' words::warp. Made from crates/blocks by tools/exports: change that.
+// What C calls of blocks' warp of u16. Made from crates/blocks by tools/exports: change that.
 ghost use Rattle.blocks.specs.Warp.{WarpAnswer, WarpTAnswer};
 ghost use Rattle.blocks.specs.words.Depth.{depth_ok};
 ghost use Rattle.rows.specs.Numbers.{up};
 
-use blocks::words::warp;
+use blocks::warp;
 
 #[unsafe(no_mangle)]
 pub extern "C" fn hv_warp_affine_8x8_16bpc(
@@ -24,7 +24,7 @@ pub extern "C" fn hv_warp_affine_8x8_16bpc(
     ensures { WarpAnswer (depth_ok depth) (up depth) dst.old dst_stride src.now src_stride src_off a b c d mx my
         warp.now result dst.new }
 {
-    warp::hv_warp_affine_8x8_16bpc(
+    warp::hv_warp_affine_8x8(
         depth, dst, dst_stride, src, src_stride, src_off, a, b, c, d, mx, my, warp,
     )
 }
@@ -48,7 +48,7 @@ pub extern "C" fn hv_warp_affine_8x8t_16bpc(
     ensures { WarpTAnswer (depth_ok depth) (up depth) tmp.old tmp_stride src.now src_stride src_off a b c d mx my
         warp.now result tmp.new }
 {
-    warp::hv_warp_affine_8x8t_16bpc(
+    warp::hv_warp_affine_8x8t(
         depth, tmp, tmp_stride, src, src_stride, src_off, a, b, c, d, mx, my, warp,
     )
 }

@@ -1,7 +1,7 @@
-// What C calls of blocks' words::window. Made from crates/blocks by tools/exports: change that.
+// What C calls of blocks' window of u16. Made from crates/blocks by tools/exports: change that.
 ghost use Rattle.blocks.specs.Window.{WindowAnswer};
 
-use blocks::words::window;
+use blocks::window;
 
 #[unsafe(no_mangle)]
 pub extern "C" fn hv_window_16bpc(
@@ -34,7 +34,7 @@ pub extern "C" fn hv_window_16bpc(
         (record { kind = kind; w = w; h = h; x = x; y = y; mode = mode })
         scratch.old result buffer.new place.new stride.new len.new scratch.new }
 {
-    window::hv_window_16bpc(
+    window::hv_window(
         luma_w,
         luma_h,
         ss_hor,

@@ -1,6 +1,6 @@
 // The first pass of bilinear from a reference of another size: eight columns at a time, since bytes are weighed in sixteen bits.
 // Each set writes this file by hand.
-ghost use Rattle.std.specs.Prelude.{◌≡◌, ◌+◌, ◌-◌, ◌/◌, ◌%◌, ◌<◌, ◌≤◌, length, get_or};
+ghost use Rattle.std.specs.Prelude.{◌≡◌, ◌+◌, ◌-◌, ◌/◌, ◌%◌, ◌<◌, ◌≤◌, min, length, get_or};
 ghost use Rattle.rows.specs.Numbers.{px, low16};
 ghost use Rattle.rows.specs.Places.{row_of, splice};
 ghost use Rattle.rows.specs.Bilinear.{R};
@@ -8,11 +8,10 @@ ghost use Rattle.rows.specs.inner.Bilinear.{bilin_at};
 ghost use Rattle.rows.specs.inner.Scaled.{PairsFetched, pair_mid};
 ghost use Rattle.rows.specs.inner.bytes.Pixel.{BitsOk};
 
-use super::pixel::Pixel;
 use crate::bilinear::bilin_bytes;
 
 // A byte and the next as one number: so they are fetched at once, and eight of them are weighed at once.
-fn pair_at(src: &[Pixel], c: usize) -> u16
+fn pair_at(src: &[u8], c: usize) -> u16
     requires { c + 1 < length src.now }
     ensures { (result % 256 ≡ get_or src.now c 0) × (result / 256 ≡ get_or src.now (c + 1) 0) }
 {
@@ -20,7 +19,7 @@ fn pair_at(src: &[Pixel], c: usize) -> u16
 }
 
 // Column i: the intermediate between its pixel and the next, at its fraction. It is 16 * 255 at most, so that nothing is cut.
-fn scaled_bilin_px(src: &[Pixel], pixels: &[u8; 64], fractions: &[u8; 64], i: usize) -> i16
+fn scaled_bilin_px(src: &[u8], pixels: &[u8; 64], fractions: &[u8; 64], i: usize) -> i16
     requires { (i < 64) × (get_or pixels.now i 0 + 1 < length src.now) × (get_or fractions.now i 0 ≤ 15) }
     ensures { result ≡ pair_mid src.now pixels.now fractions.now 0 i }
 {
@@ -31,7 +30,7 @@ fn scaled_bilin_px(src: &[Pixel], pixels: &[u8; 64], fractions: &[u8; 64], i: us
 // Eight columns from column i on, all read before the first is written.
 fn scaled_bilin_eight(
     mid: &mut [i16],
-    src: &[Pixel],
+    src: &[u8],
     pixels: &[u8; 64],
     fractions: &[u8; 64],
     i: usize,
@@ -58,48 +57,43 @@ fn scaled_bilin_eight(
     mid[i + 7] = v7;
 }
 
-// The eight columns to be made next, where the first i of w are: from column i on, or the last eight.
+// Where the eight columns begin that are made next: at column i, or at the last eight.
 fn eight_from(i: usize, w: usize) -> usize
     requires { (i < w) × (8 ≤ w) × (w ≤ 64) }
-    ensures { (result ≤ i) × (i < result + 8) × (result + 8 ≤ w) }
+    ensures { result ≡ min i (w - 8) }
 {
     if i + 8 <= w { i } else { w - 8 }
 }
 
 // A row of eight columns or more: the last eight may overlap those before.
-fn scaled_bilin_eights(mid: &mut [i16], src: &[Pixel], pixels: &[u8; 64], fractions: &[u8; 64])
+fn scaled_bilin_eights(mid: &mut [i16], src: &[u8], pixels: &[u8; 64], fractions: &[u8; 64])
     requires { (8 ≤ length mid.old) × (length mid.old ≤ 64) × PairsFetched (length src.now) 0 pixels.now fractions.now (length mid.old) }
     ensures { mid.new ≡ row_of (length mid.old)
         (pair_mid src.now pixels.now fractions.now 0) }
 {
     let w = mid.len();
-    let mut i = 0;
-    while i < w {
-        let at = eight_from(i, w);
-        scaled_bilin_eight(mid, src, pixels, fractions, at);
-        i = at + 8;
+    for k in 0..(w + 7) / 8 {
+        scaled_bilin_eight(mid, src, pixels, fractions, eight_from(8 * k, w));
     }
 }
 
 // A row of fewer.
-fn scaled_bilin_few(mid: &mut [i16], src: &[Pixel], pixels: &[u8; 64], fractions: &[u8; 64])
+fn scaled_bilin_few(mid: &mut [i16], src: &[u8], pixels: &[u8; 64], fractions: &[u8; 64])
     requires { (length mid.old ≤ 64) × PairsFetched (length src.now) 0 pixels.now fractions.now (length mid.old) }
     ensures { mid.new ≡ row_of (length mid.old)
         (pair_mid src.now pixels.now fractions.now 0) }
 {
     let w = mid.len();
-    let mut i = 0;
-    while i < w {
+    for i in 0..w {
         let v = scaled_bilin_px(src, pixels, fractions, i);
         mid[i] = v;
-        i += 1;
     }
 }
 
 // The first pass of bilinear: a row whose first pixel is at place o, by B, which is 2 or 4.
 pub fn scaled_bilin_row(
     mid: &mut [i16],
-    src: &[Pixel],
+    src: &[u8],
     o: usize,
     pixels: &[u8; 64],
     fractions: &[u8; 64],

@@ -5,22 +5,19 @@ ghost use Rattle.rows.specs.Subpel.{S, tapped};
 ghost use Rattle.rows.specs.inner.Subpel.{Near, Short, Rounds};
 ghost use Rattle.rows.specs.inner.bytes.Sums.{NearOk};
 
-use super::pixel::Pixel;
 use super::taps::taps;
 use crate::near::{near_rounded, near_tap_u8};
 use crate::numbers::{keep16, wrapping_sub16};
 use crate::subpel::{Way, rounded};
 
 // The filter sum S by near taps.
-fn near_sum(src: &[Pixel], o: usize, step: usize, f: &[i8; 8]) -> i16
+fn near_sum(src: &[u8], o: usize, step: usize, f: &[i8; 8]) -> i16
     requires { (o + 7 * step < length src.now) × Near f.now }
     ensures { (result ≡ S f.now (λ t. px src.now (o + t * step))) × (nat_abs result ≤ 32640) }
 {
     let mut s: i16 = 0;
-    let mut j = 0;
-    while j < 8 {
+    for j in 0..8 {
         s = near_tap_u8(s, f[j], src[o + j * step]);
-        j += 1;
     }
     s
 }
@@ -47,7 +44,7 @@ pub fn by_eight(n: usize) -> bool
 }
 
 // (S + r) >> n, the near way if near says so.
-pub fn rounded_taps(src: &[Pixel], o: usize, f: &[i8; 8], near: bool, by: Way) -> i32
+pub fn rounded_taps(src: &[u8], o: usize, f: &[i8; 8], near: bool, by: Way) -> i32
     requires { (o + 7 * by.step < length src.now) × Rounds by.r by.n × (near ≡ true → NearOk f.now by.r by.n) }
     ensures { result ≡ tapped f.now by.r by.n (λ t. px src.now (o + t * by.step)) }
 {
@@ -59,7 +56,7 @@ pub fn rounded_taps(src: &[Pixel], o: usize, f: &[i8; 8], near: bool, by: Way) -
 }
 
 // An intermediate from pixels, the near way if near says so.
-pub fn tap_mid_px(src: &[Pixel], o: usize, f: &[i8; 8], near: bool, by: Way, bias: i16) -> i16
+pub fn tap_mid_px(src: &[u8], o: usize, f: &[i8; 8], near: bool, by: Way, bias: i16) -> i16
     requires { (o + 7 * by.step < length src.now) × Rounds by.r by.n × (near ≡ true → Short f.now by.r by.n) }
     ensures { result ≡ minus16 (low16 (tapped f.now by.r by.n (λ t. px src.now (o + t * by.step)))) bias }
 {

@@ -6,19 +6,18 @@ ghost use Rattle.rows.specs.Bilinear.{R};
 ghost use Rattle.rows.specs.inner.Bilinear.{bilin_at};
 ghost use Rattle.rows.specs.inner.words.Pixel.{MaxOk};
 
-use super::pixel::Pixel;
 use crate::bilinear::bilin_bytes;
 use crate::near::near_kept;
 
 // The sum of two 16-bit pixels is 256 times that of their high bytes, plus that of their low ones.
-fn high_between(src: &[Pixel], p: usize, step: usize, f: u32) -> u16
+fn high_between(src: &[u16], p: usize, step: usize, f: u32) -> u16
     requires { (p + step < length src.now) × (f ≤ 15) }
     ensures { (pos result ≡ bilin_at (λ k. shr_z (px src.now k) 256) p step f) × (result ≤ 4080) }
 {
     bilin_bytes(src[p] / 256, src[p + step] / 256, f)
 }
 
-fn low_between(src: &[Pixel], p: usize, step: usize, f: u32) -> u16
+fn low_between(src: &[u16], p: usize, step: usize, f: u32) -> u16
     requires { (p + step < length src.now) × (f ≤ 15) }
     ensures { (pos result ≡ bilin_at (λ k. pos (mod_z (px src.now k) 256)) p step f) × (result ≤ 4080) }
 {
@@ -35,7 +34,7 @@ fn bilin_joined(high: u16, low: u16, c: u16, max: u16) -> u16
 }
 
 // The pixel of put: c is what both of its shifts add, which make one shift by 4.
-pub fn put_between(src: &[Pixel], p: usize, step: usize, f: u32, c: u16, max: u16) -> Pixel
+pub fn put_between(src: &[u16], p: usize, step: usize, f: u32, c: u16, max: u16) -> u16
     requires { (p + step < length src.now) × (f ≤ 15) × (c ≤ 15) × MaxOk max }
     ensures { result ≡ clip max (shr_z (bilin_at (px src.now) p step f +ℤ pos c) 16) }
 {
@@ -45,7 +44,7 @@ pub fn put_between(src: &[Pixel], p: usize, step: usize, f: u32, c: u16, max: u1
 }
 
 // The intermediate of prep: r is half of 2^n.
-pub fn prep_between(src: &[Pixel], p: usize, step: usize, f: u32, r: u32, n: u32, bias: i16) -> i16
+pub fn prep_between(src: &[u16], p: usize, step: usize, f: u32, r: u32, n: u32, bias: i16) -> i16
     requires { (p + step < length src.now) × (f ≤ 15) × (r ≡ half n) × (n ≤ 4) }
     ensures { result ≡ minus16 (low16 (R n (bilin_at (px src.now) p step f))) bias }
 {

@@ -7,12 +7,11 @@ ghost use Rattle.rows.specs.inner.Bilinear.{bilin_at};
 ghost use Rattle.rows.specs.inner.Scaled.{PairsFetched, pair_mid};
 ghost use Rattle.rows.specs.inner.words.Pixel.{BitsOk};
 
-use super::pixel::Pixel;
 use crate::bilinear::bilin_sum;
 use crate::subpel::kept;
 
 // The intermediate between pixel c and the next, at the fraction f.
-fn scaled_bilin_px(src: &[Pixel], c: usize, f: u8, r: u32, n: u32) -> i16
+fn scaled_bilin_px(src: &[u16], c: usize, f: u8, r: u32, n: u32) -> i16
     requires { (c + 1 < length src.now) × (f ≤ 15) × (r ≡ half n) × (n ≤ 4) }
     ensures { result ≡ low16 (R n (bilin_at (px src.now) c 1 f)) }
 {
@@ -27,7 +26,7 @@ fn scaled_bilin_px(src: &[Pixel], c: usize, f: u8, r: u32, n: u32) -> i16
 // A row of them, by the tables of its columns: r and n are passed as constants, so that the compiler makes a loop of each.
 fn scaled_bilin_by(
     mid: &mut [i16],
-    src: &[Pixel],
+    src: &[u16],
     pixels: &[u8; 64],
     fractions: &[u8; 64],
     r: u32,
@@ -38,18 +37,16 @@ fn scaled_bilin_by(
         (pair_mid src.now pixels.now fractions.now n) }
 {
     let w = mid.len();
-    let mut i = 0;
-    while i < w {
+    for i in 0..w {
         let v = scaled_bilin_px(src, pixels[i] as usize, fractions[i], r, n);
         mid[i] = v;
-        i += 1;
     }
 }
 
 // The first pass of bilinear: a row whose first pixel is at place o, by B, which is 2 or 4.
 pub fn scaled_bilin_row(
     mid: &mut [i16],
-    src: &[Pixel],
+    src: &[u16],
     o: usize,
     pixels: &[u8; 64],
     fractions: &[u8; 64],

@@ -6,12 +6,11 @@ ghost use Rattle.rows.specs.Subpel.{S, tapped};
 ghost use Rattle.rows.specs.inner.Subpel.{Near, Short, Rounds, byte_of};
 ghost use Rattle.rows.specs.inner.words.Sums.{NearOk};
 
-use super::pixel::Pixel;
 use crate::near::{near_kept, near_tap_u8, near_whole};
 use crate::subpel::{Way, kept, rounded, tap};
 
 // acc + f x of a byte of a pixel, in sixteen bits.
-fn near_byte(acc: i16, f: i8, x: Pixel, high: bool) -> i16
+fn near_byte(acc: i16, f: i8, x: u16, high: bool) -> i16
     requires { nat_abs acc + nat_abs f * 255 ≤ 32640 }
     ensures { (result ≡ acc +ℤ f *ℤ byte_of high (pos x)) × (nat_abs (f *ℤ byte_of high (pos x)) ≤ nat_abs f * 255) }
 {
@@ -23,21 +22,19 @@ fn near_byte(acc: i16, f: i8, x: Pixel, high: bool) -> i16
 }
 
 // The filter sum S of high bytes, or of low ones, by near taps.
-fn near_bytes(src: &[Pixel], o: usize, step: usize, f: &[i8; 8], high: bool) -> i16
+fn near_bytes(src: &[u16], o: usize, step: usize, f: &[i8; 8], high: bool) -> i16
     requires { (o + 7 * step < length src.now) × Near f.now }
     ensures { (result ≡ S f.now (λ t. byte_of high (px src.now (o + t * step)))) × (nat_abs result ≤ 32640) }
 {
     let mut s: i16 = 0;
-    let mut j = 0;
-    while j < 8 {
+    for j in 0..8 {
         s = near_byte(s, f[j], src[o + j * step], high);
-        j += 1;
     }
     s
 }
 
 // The filter sum S by near taps.
-fn near_sum(src: &[Pixel], o: usize, step: usize, f: &[i8; 8]) -> i32
+fn near_sum(src: &[u16], o: usize, step: usize, f: &[i8; 8]) -> i32
     requires { (o + 7 * step < length src.now) × Near f.now }
     ensures { (result ≡ S f.now (λ t. px src.now (o + t * step))) × (mag result < 2 ^ 30) }
 {
@@ -47,7 +44,7 @@ fn near_sum(src: &[Pixel], o: usize, step: usize, f: &[i8; 8]) -> i32
     )
 }
 
-fn tap_pixel(acc: i32, f: i8, x: Pixel) -> i32
+fn tap_pixel(acc: i32, f: i8, x: u16) -> i32
     requires { mag acc < 2 ^ 30 }
     ensures { (result ≡ acc +ℤ f *ℤ pos x) × (mag (f *ℤ pos x) < 2 ^ 24) }
 {
@@ -55,15 +52,13 @@ fn tap_pixel(acc: i32, f: i8, x: Pixel) -> i32
 }
 
 // The filter sum S by taps that aren't near: `taps`, as is faster where a row's loop takes several places at once.
-fn far_taps(src: &[Pixel], o: usize, step: usize, f: &[i8; 8]) -> i32
+fn far_taps(src: &[u16], o: usize, step: usize, f: &[i8; 8]) -> i32
     requires { o + 7 * step < length src.now }
     ensures { (result ≡ S f.now (λ t. px src.now (o + t * step))) × (mag result < 2 ^ 30) }
 {
     let mut s: i32 = 0;
-    let mut j = 0;
-    while j < 8 {
+    for j in 0..8 {
         s = tap_pixel(s, f[j], src[o + j * step]);
-        j += 1;
     }
     s
 }
@@ -90,7 +85,7 @@ pub fn by_eight(n: usize) -> bool
 }
 
 // (S + r) >> n, the near way if near says so.
-pub fn rounded_taps(src: &[Pixel], o: usize, f: &[i8; 8], near: bool, by: Way) -> i32
+pub fn rounded_taps(src: &[u16], o: usize, f: &[i8; 8], near: bool, by: Way) -> i32
     requires { (o + 7 * by.step < length src.now) × Rounds by.r by.n × (near ≡ true → NearOk f.now by.r by.n) }
     ensures { result ≡ tapped f.now by.r by.n (λ t. px src.now (o + t * by.step)) }
 {
@@ -102,7 +97,7 @@ pub fn rounded_taps(src: &[Pixel], o: usize, f: &[i8; 8], near: bool, by: Way) -
 }
 
 // An intermediate from pixels, the near way if near says so.
-pub fn tap_mid_px(src: &[Pixel], o: usize, f: &[i8; 8], near: bool, by: Way, bias: i16) -> i16
+pub fn tap_mid_px(src: &[u16], o: usize, f: &[i8; 8], near: bool, by: Way, bias: i16) -> i16
     requires { (o + 7 * by.step < length src.now) × Rounds by.r by.n × (near ≡ true → Short f.now by.r by.n) }
     ensures { result ≡ minus16 (low16 (tapped f.now by.r by.n (λ t. px src.now (o + t * by.step)))) bias }
 {

@@ -1,13 +1,11 @@
 -- Bilinear blocks: what the number tells, and what each case's rows rely on. Assumes nothing.
-use Rattle.blocks.proofs.Usual.{true, false, Bool, List, ◌≡◌, ◌∙◌, refl, sym, eqb, ℕ, ◌≤◌, ◌*◌, ◌+◌, ◌-◌, ◌<◌, ◌^◌, suc, zero, min, arith, le-leb, le-ltb, lt-leb, lt-ltb}
-use Rattle.blocks.proofs.Usual.{pos, ℤ, length, le_z, up, half, span, lowest, holds, reads, Rows, Block, and_true, by-lt, row_fits, one-part, le_yes}
+use Rattle.blocks.proofs.Usual.{true, Bool, List, ◌≡◌, ◌∙◌, refl, sym, ℕ, ◌≤◌, ◌*◌, ◌+◌, ◌-◌, ◌<◌, ◌^◌, suc, zero, min, arith, le-leb, le-ltb, lt-leb, lt-ltb}
+use Rattle.blocks.proofs.Usual.{pos, ℤ, length, le_z, up, half, span, lowest, holds, reads, Block, and_true, by-lt, row_fits, one-part, le_yes}
 use Rattle.blocks.proofs.Usual.{rows_met, block_met, all_met, holds_met, stride_met, Filled, row_in, filled_span}
 use Rattle.blocks.specs.Subpel.{on, sixteenth_ok}
 use Rattle.blocks.specs.Bilinear.{bilin_tests}
-use Rattle.rows.specs.Places.{pick}
 use Rattle.blocks.specs.inner.Ready.{Pairs, PairsIn, Bilin}
-use Rattle.blocks.specs.inner.Source.{top_down, lower_row, Stood}
-use Rattle.blocks.specs.inner.Bilinear.{column_pairs}
+use Rattle.blocks.specs.inner.Source.{top_down, Stood}
 use Rattle.blocks.proofs.Laws.Loops.Stands.{StoodRow, stood_row, stood_from}
 use Rattle.blocks.specs.declared.source.Stand.{Stand}
 
@@ -80,31 +78,9 @@ module _ {dl ds sl : ℕ} {s : Stand} {w h f g : ℕ} (p : Bilin dl ds sl s w h 
   pub stood_below : f ≡ 0 → 0 < g → Stood sl s w (h - 1 + 2)
   stood_below a b = let e : w + 0 ≡ w = omega arith in rw e at (stood_of 0 1 (h - 1 + 2) (omega arith) (omega arith) (omega (arith, p.block)))
 
-  pub copied : f ≡ 0 → g ≡ 0 → Block w h × Rows dl ds w h × Stood sl s w h
-  copied a b = let e : w + 0 ≡ w = omega arith in (p.block, p.dst, rw e at (stood_of 0 0 h (omega arith) (omega arith) (omega arith)))
-
-  pub lower : f ≡ 0 → 0 < g → s.back ≤ s.off
-  lower a b = omega (arith, stood_row 1 (stood_below a b) (omega arith))
-
   module _ (n : ℕ) (n8 : n ≤ 8) where
     pub across : 0 < f → g ≡ 0 → PairsIn dl ds sl s 1 w h f n
     across a b = record { w1 = p.block.w1; dst = p.dst; src = stood_of 1 0 h (omega arith) (omega arith) (omega arith); f15 = p.f15; n8 = n8 }
-
-    pub downward : f ≡ 0 → 0 < g → PairsIn dl ds sl (lower_row s) (column_pairs s g n).step w h (column_pairs s g n).f n
-    downward a b =
-        let r = stood_below a b in let e : h - 1 + 2 - 1 ≡ h - 1 + 1 = omega arith in
-        let above : (h - 1 + 1) * s.back ≤ s.off = rw e at r.before in
-        let below : s.off + (h - 1 + 1) * s.forth + w ≤ sl = rw e at r.after in
-        record {
-          w1 = p.block.w1;
-          dst = p.dst;
-          src = record { forth = r.forth; back = r.back; before = omega arith; after = omega arith };
-          f15 = weight (eqb s.back 0);
-          n8 = n8;
-        } where
-          weight : (t : Bool) → pick t g (16 - g) ≤ 15
-          weight true = p.g15
-          weight false = omega arith
 
 -- what put adds for its two shifts is below what they shift out, 2^(4-B) x 2^B
 pub halves_small : (B : ℕ) → B ≤ 4 → half (4 - B) + half B * 2 ^ (4 - B) ≤ 15

@@ -1,13 +1,15 @@
 -- The search for a mask's value above 64: where it ends, as a number of places and as a row and a column; it ends after all places exactly where the test
 -- of number 7 is met. Assumes nothing.
 use Rattle.blocks.proofs.Usual.{true, Bool, false, List, ◌≡◌, ◌∙◌, refl, sym, subst, ℕ, ◌≤◌, ◌*◌, ◌+◌, ◌-◌, ◌<◌, suc, zero, ◌/◌, ◌%◌, mul_comm}
-use Rattle.blocks.proofs.Usual.{arith, leb-true, le-leb, lt-leb, eqb-true, leb, eqb, get_or, pixel, by-lt}
-use borrow.Author.Tests.{eq-eqb}
+use Rattle.blocks.proofs.Usual.{arith, leb-true, le-leb, lt-leb, eqb-true, lt-ltb, le-ltb, ltb-true, leb, ltb, eqb, get_or, pixel, by-lt}
+use borrow.Author.Tests.{eq-eqb, ltb-false}
 use native.Mathlib.Nat.{add-zero, zero-add, zero-mul, not-suc-le-zero, le_of_suc-le-suc, mod-lt, div-add-mod', div-lt_iff_lt-mul}
+use Rattle.std.specs.Prelude.{Option, Some, None}
 use Rattle.rows.specs.Places.{pick}
 use Rattle.rows.specs.inner.Combine.{AtMost}
 use Rattle.rows.proofs.Laws.Blocks.Places.{row-le, col_of, row_of_lem}
 use Rattle.blocks.specs.Blend.{first_above, none_above, spot_at}
+use Rattle.blocks.specs.inner.Blend.{found_at}
 use Rattle.blocks.specs.declared.blend.Spot.{Spot}
 use Rattle.blocks.proofs.Laws.Warp.Corners.{every-at, all_every, same_test}
 
@@ -27,6 +29,15 @@ module _ (m : ℕ) (l : List ℕ) where
 
   pub at-most_join : (p n : ℕ) → AtMost m l 0 p → AtMost m l p n → AtMost m l 0 (p + n)
   at-most_join p n a b i c = by-lt i p (λ lt. a i lt) λ le. subst (λ (t : ℕ). get_or l t 0 ≤ m) (omega arith) (b (i - p) (omega arith))
+
+-- ---- an answer that is Some at a place below n, and None elsewhere
+some_here : (w p n : ℕ) {s : Spot} (t : Bool) → ltb p n ≡ t → Some s ≡ pick t (Some (spot_at w p)) None → (p < n) × (s ≡ spot_at w p)
+some_here w p n true b e = (ltb-true p n b, cc)
+some_here w p n false b e = cc
+
+none_here : (w p n : ℕ) (t : Bool) → ltb p n ≡ t → None ≡ pick t (Some (spot_at w p)) None → n ≤ p
+none_here w p n true b e = cc
+none_here w p n false b e = ltb-false p n b
 
 module _ (mask : List ℕ) where
   -- ---- where the search ends: after n places, or at the first above 64
@@ -63,21 +74,28 @@ module _ (mask : List ℕ) where
 
   -- ---- the same in a block of w columns and h rows
   module _ (w h : ℕ) where
-    abbrev ended : Spot
-    ended = spot_at w (first_above mask 0 (w * h))
+    abbrev ended : Option Spot
+    ended = found_at w h (first_above mask 0 (w * h))
 
     pub spot_found : (row col : ℕ) → AtMost 64 mask 0 (row * w + col) → row < h → col < w → 64 < get_or mask (row * w + col) 0
-        → record { row = row; col = col } ≡ ended
+        → Some (record { row = row; col = col }) ≡ ended
     spot_found row col m r c a =
         let b : row * w + col < w * h = omega (arith, row-le w r, mul_comm w h) in
         let z = zero-add (row * w + col) in
         let e : first_above mask 0 (w * h) ≡ row * w + col = first_found 0 (w * h) (row * w + col) m b (rw z a) ∙ z in
-        rw (e, col_of w col row c, row_of_lem w col row c) refl
+        rw (e, lt-ltb (row * w + col) (w * h) b, col_of w col row c, row_of_lem w col row c) refl
 
-    pub spot_none : AtMost 64 mask 0 (w * h) → 0 < w → record { row = h; col = 0 } ≡ ended
-    spot_none m p =
-        let e : first_above mask 0 (w * h) ≡ h * w + 0 = first-none 0 (w * h) m ∙ omega (arith, mul_comm w h) in
-        rw (e, col_of w 0 h p, row_of_lem w 0 h p) refl
+    pub spot_none : AtMost 64 mask 0 (w * h) → None ≡ ended
+    spot_none m = rw (first-none 0 (w * h) m ∙ zero-add (w * h), le-ltb (w * h) (w * h) (omega arith)) refl
+
+    -- and what the search's answer says of the place where it ends
+    pub found_spot : {s : Spot} → Some s ≡ ended → (first_above mask 0 (w * h) < w * h) × (s ≡ spot_at w (first_above mask 0 (w * h)))
+    found_spot e = some_here w (first_above mask 0 (w * h)) (w * h) (ltb (first_above mask 0 (w * h)) (w * h)) refl e
+
+    pub found_none : None ≡ ended → AtMost 64 mask 0 (w * h)
+    found_none e =
+        first_all 0 (w * h)
+        (omega (arith, none_here w (first_above mask 0 (w * h)) (w * h) (ltb (first_above mask 0 (w * h)) (w * h)) refl e))
 
     -- ---- "a mask value above 64": the test of number 7 is met exactly where the search ends after w x h places
     pub none-at-most : none_above mask w h ≡ true → AtMost 64 mask 0 (w * h)

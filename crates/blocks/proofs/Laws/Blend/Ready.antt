@@ -1,15 +1,15 @@
 -- blend and morph: what their rows rely on, and which answer each way out of blend is. Assumes nothing.
-use Rattle.blocks.proofs.Usual.{true, Bool, false, List, [], ◌∷◌, ◌++◌, ◌≡◌, ◌∙◌, refl, sym, ap, ℕ, ◌≤◌, ◌*◌, ◌<◌, ◌^◌, ◌/◌, mul_comm, arith, leb-true}
+use Rattle.blocks.proofs.Usual.{true, Bool, false, List, [], ◌∷◌, ◌++◌, ◌≡◌, ◌∙◌, refl, sym, ℕ, ◌≤◌, ◌*◌, ◌<◌, ◌^◌, arith, leb-true}
 use Rattle.blocks.proofs.Usual.{ne_eqb, ℤ, nat_abs, length, pixel, fill, lowest, Test, ◌asks◌, block_side, holds, stride_ok, size_ok, need}
 use Rattle.blocks.proofs.Usual.{or_same, Rows, Block, rows_met, block_met, refused, all_met, later, sooner}
-use native.Mathlib.Nat.{le-div_iff_mul-le, div-lt_iff_lt-mul}
+use Rattle.std.specs.Prelude.{Option, Some, None}
 use Rattle.rows.specs.Combine.{blend}
-use Rattle.rows.specs.inner.Combine.{AtMost}
 use Rattle.blocks.specs.Refuse.{above64}
-use Rattle.blocks.specs.Blend.{first_above, none_above, blend_shape, spot_at, spot_of, BlendAnswer, morph_tests}
+use Rattle.blocks.specs.Blend.{first_above, none_above, blend_shape, spot_of, BlendAnswer, morph_tests}
+use Rattle.blocks.specs.inner.Blend.{found_at}
 use Rattle.blocks.specs.declared.blend.Spot.{Spot}
 use Rattle.blocks.proofs.Laws.Loops.Gapless.{gapless_met}
-use Rattle.blocks.proofs.Laws.Blend.Above.{first_all, at-most_met, none_is}
+use Rattle.blocks.proofs.Laws.Blend.Above.{found_spot, found_none, at-most_met, none_is}
 
 -- ---- blend
 pub blend_ready : {dl ds tl w h ml : ℕ} → lowest (blend_shape dl ds tl w h ml) ≡ 0 → Block w h × Rows dl ds w h × Rows tl w w h × Rows ml w w h
@@ -48,40 +48,29 @@ blend-refused dst ds tmp w h mask r e f =
     let g : r < 7 = omega (arith, shape_lt (length dst) ds (length tmp) w h (length mask)) in
     (e ∙ sooner (shape_of dst ds tmp w h mask) (lowest (last_of w h mask)) (λ z. f (e ∙ z)), sym (refused r _ dst f), rw (ne_eqb r 7 (λ z. omega arith)) refl)
 
--- a call whose shape passed, and whose search ended at s
-pub record Searched (dst : List ℕ) (ds : ℕ) (tmp : List ℕ) (w h : ℕ) (mask : List ℕ) (s : Spot) : Type 0 where
+-- a call whose shape passed, and what its search answered
+pub record Searched (dst : List ℕ) (ds : ℕ) (tmp : List ℕ) (w h : ℕ) (mask : List ℕ) (o : Option Spot) : Type 0 where
   pub shape : lowest (shape_of dst ds tmp w h mask) ≡ 0
-  pub ends : s ≡ spot_at w (first_above mask 0 (w * h))
+  pub ends : o ≡ found_at w h (first_above mask 0 (w * h))
 
-module _ {dst : List ℕ} {ds : ℕ} {tmp : List ℕ} {w h : ℕ} {mask : List ℕ} {s : Spot} (p : Searched dst ds tmp w h mask s) where
-  ready : Block w h × Rows (length dst) ds w h × Rows (length tmp) w w h × Rows (length mask) w w h
-  ready = blend_ready p.shape
+then_mask : (dst : List ℕ) (ds : ℕ) (tmp : List ℕ) (w h : ℕ) (mask : List ℕ) → lowest (shape_of dst ds tmp w h mask) ≡ 0
+    → lowest (shape_of dst ds tmp w h mask ++ last_of w h mask) ≡ need (none_above mask w h) 7 0
+then_mask dst ds tmp w h mask e = sym (later (shape_of dst ds tmp w h mask) (lowest (last_of w h mask)) e)
 
-  then_mask : lowest (shape_of dst ds tmp w h mask ++ last_of w h mask) ≡ need (none_above mask w h) 7 0
-  then_mask = sym (later (shape_of dst ds tmp w h mask) (lowest (last_of w h mask)) p.shape)
-
-  -- by a value above 64
-  pub blend_above : s.row < h → BlendAnswer dst ds tmp w h mask 7 dst s.row s.col
+module _ {dst : List ℕ} {ds : ℕ} {tmp : List ℕ} {w h : ℕ} {mask : List ℕ} where
+  -- a value above 64 was found
+  pub blend_above : {s : Spot} → Searched dst ds tmp w h mask (Some s) → BlendAnswer dst ds tmp w h mask 7 dst s.row s.col
   unfolding need spot_of or_same
-  blend_above lt =
-      let k : first_above mask 0 (w * h) / w < h = rw (ap (λ (t : Spot). t.row) p.ends) at lt in
-      let m : first_above mask 0 (w * h) < w * h = omega (arith, (div-lt_iff_lt-mul ready.0.w1).0 k, mul_comm w h) in
-      let n = none_is mask w h ∙ ne_eqb (first_above mask 0 (w * h)) (w * h) (λ e. omega arith) in
-      (sym (then_mask ∙ rw n refl), refl, p.ends)
+  blend_above p =
+      let f = found_spot mask w h p.ends in
+      let n = none_is mask w h ∙ ne_eqb (first_above mask 0 (w * h)) (w * h) (λ e. omega (arith, f.0)) in
+      (sym (then_mask dst ds tmp w h mask p.shape ∙ rw n refl), refl, f.1)
 
-  -- by neither: the rows get what they rely on
-  none_above_lem : h ≤ s.row → AtMost 64 mask 0 (w * h)
-  none_above_lem le =
-      let k : h ≤ first_above mask 0 (w * h) / w = rw (ap (λ (t : Spot). t.row) p.ends) at le in
-      first_all mask 0 (w * h) (omega (arith, (le-div_iff_mul-le ready.0.w1).0 k, mul_comm w h))
-
-  pub blend-rows : h ≤ s.row → Block w h × Rows (length dst) ds w h × Rows (length tmp) w w h × Rows (length mask) w w h × AtMost 64 mask 0 (w * h)
-  blend-rows le = (ready.0, ready.1, ready.2, ready.3, none_above_lem le)
-
-  pub blend-done : h ≤ s.row → (d : List ℕ) → d ≡ fill dst ds w h (λ i j. blend (pixel mask w i j) (pixel dst ds i j) (pixel tmp w i j))
-      → BlendAnswer dst ds tmp w h mask 0 d 0 0
+  -- none was
+  pub blend-done : Searched dst ds tmp w h mask None → (d : List ℕ)
+      → d ≡ fill dst ds w h (λ i j. blend (pixel mask w i j) (pixel dst ds i j) (pixel tmp w i j)) → BlendAnswer dst ds tmp w h mask 0 d 0 0
   unfolding need spot_of or_same
-  blend-done le d e = (sym (then_mask ∙ rw (at-most_met mask w h (none_above_lem le)) refl), e, refl)
+  blend-done p d e = (sym (then_mask dst ds tmp w h mask p.shape ∙ rw (at-most_met mask w h (found_none mask w h p.ends)) refl), e, refl)
 
 -- ---- morph
 pub morph_ready : (deep : Bool) (dl ds : ℕ) (alpha beta : ℤ) (w h : ℕ) → lowest (morph_tests deep dl ds alpha beta w h) ≡ 0

@@ -1,7 +1,7 @@
 -- A block by two passes, eight rows at a time: where the loop over groups of rows stands in the destination, and what the array of intermediates holds. c is
 -- the number of rows that are carried over. Assumes nothing.
-use Rattle.blocks.proofs.Usual.{List, ◌≡◌, ◌∙◌, refl, sym, ap, ℕ, ◌≤◌, ◌*◌, ◌+◌, ◌-◌, ◌<◌, arith, pos, ℤ, length, get_or, at, span, splice, fill, Rows}
-use Rattle.blocks.proofs.Usual.{Bool, true, false, Filled, by-lt, row_fits, fill_in_lem, add-mul, mul-le-mul_right, lt-ltb, le-ltb, length-fill, inr, min}
+use Rattle.blocks.proofs.Usual.{List, ◌≡◌, ◌∙◌, sym, ap, ℕ, ◌≤◌, ◌*◌, ◌+◌, ◌-◌, ◌<◌, arith, pos, ℤ, length, get_or, at, span, splice, fill, Rows}
+use Rattle.blocks.proofs.Usual.{Filled, by-lt, row_fits, fill_in_lem, add-mul, mul-le-mul_right, lt-ltb, le-ltb, length-fill, inr, min}
 use mathlib.Core.Logic.{◌⊎◌, inl}
 use Rattle.rows.specs.Places.{pick, in_block}
 use Rattle.rows.proofs.Laws.Blocks.Places.{row-le, span-length, span-at, splice-length, splice-before, splice_in, splice-after, get_d_row_of, length-row_of, row_done}

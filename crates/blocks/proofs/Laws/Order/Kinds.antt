@@ -1,6 +1,6 @@
 -- A block of a kind from its window: what the kind's rows rely on, its numbers as a call passes them, its first place and its pixels where no margin stands
 -- before it. Assumes nothing.
-use Rattle.blocks.proofs.Usual.{◌&&◌, List, ◌≡◌, ◌∙◌, ap, ℕ, ◌≤◌, ◌*◌, ◌+◌, ◌-◌, ◌<◌, suc, zero, ◌/◌, arith, eqb-true, eqb, get_or, w32, w16, up, pixel, around}
+use Rattle.blocks.proofs.Usual.{◌&&◌, List, ◌≡◌, ◌∙◌, ap, ℕ, ◌≤◌, ◌*◌, ◌+◌, ◌-◌, ◌<◌, suc, zero, ◌/◌, arith, eqb-true, eqb, get_or, w32, w16, up, around}
 use Rattle.blocks.proofs.Usual.{kind_size_ok, motion_ok, filters_ok, before, after, Rows, Block, and_true, told_back}
 use mathlib.Core.Path.{fun_ext}
 use Rattle.blocks.specs.Subpel.{type_ok, sixteenth_ok, fraction_ok, filter_in, on}

@@ -1,6 +1,6 @@
 -- An accepted order: its window is fetched and picked, its kind's rows run on it, and their picture is the order's on the endless plane. Assumes nothing.
 use Rattle.blocks.proofs.Usual.{true, Bool, List, ◌≡◌, ◌∙◌, refl, sym, ap, ℕ, ◌≤◌, arith, pos, ℤ, length, bits_of, max_of, bias_of, fill, row_of, Setting}
-use Rattle.blocks.proofs.Usual.{Tables, put_rule, order_dst, kind_of, or_same, LentPlane, area_of, window_of, part_of, scratch_of, Rows, fill_same, length-row_of}
+use Rattle.blocks.proofs.Usual.{Tables, put_rule, order_dst, or_same, LentPlane, area_of, window_of, part_of, scratch_of, Rows, fill_same, length-row_of}
 use Rattle.blocks.proofs.Usual.{done, refused}
 use Rattle.blocks.specs.inner.Ready.{Windowed, PartIn}
 use Rattle.blocks.specs.Window.{no_part, around_part}
@@ -20,11 +20,11 @@ use Rattle.blocks.specs.declared.order.TableLengths.{TableLengths}
 use Rattle.blocks.specs.declared.order.Kind.{Kind}
 
 -- what a kind's rows make of a source
-abbrev put_on : (depth : ℕ) → Tables → Order → (src : List ℕ) (s : ℕ) → (i j : ℕ) → ℕ
+abbrev pub put_on : (depth : ℕ) → Tables → Order → (src : List ℕ) (s : ℕ) → (i j : ℕ) → ℕ
 put_on depth t o src s i j =
     put_rule (max_of depth) (bits_of depth) t.subpel t.ext t.warp o.kind o.w o.h i j (around_part (kind_number o.kind) src s i j)
 
-abbrev prep_on : (depth : ℕ) → Tables → Order → (src : List ℕ) (s : ℕ) → (i j : ℕ) → ℤ
+abbrev pub prep_on : (depth : ℕ) → Tables → Order → (src : List ℕ) (s : ℕ) → (i j : ℕ) → ℤ
 prep_on depth t o src s i j =
     prep_rule (bits_of depth) (bias_of depth) t.subpel t.ext t.warp o.kind o.w o.h i j (around_part (kind_number o.kind) src s i j)
 
@@ -167,10 +167,6 @@ module _ (s : Setting) (named : Bool) (o : Order) (scratch : List ℕ) where
 pub order_passed : {x x' y y' : ℤ} (w h : ℕ) {k k' : Kind} → x ≡ x' → y ≡ y' → k ≡ k'
     → ◌≡◌ {A = Order} (record { x = x; y = y; w = w; h = h; kind = k }) (record { x = x'; y = y'; w = w; h = h; kind = k' })
 order_passed w h a b c = rw (a, b, c) refl
-
-pub kind_passed : (n : ℕ) {mx mx' my my' t t' a a' b b' c c' d d' : ℤ} → mx ≡ mx' → my ≡ my' → t ≡ t' → a ≡ a' → b ≡ b' → c ≡ c' → d ≡ d'
-    → kind_of n mx my t a b c d ≡ kind_of n mx' my' t' a' b' c' d'
-kind_passed n x y t a b c d = rw (x, y, t, a, b, c, d) refl
 
 pub setting_passed : {deep deep' : Bool} {depth depth' : ℕ} (p : LentPlane) (t : Tables) → deep ≡ deep' → depth ≡ depth'
     → ◌≡◌ {A = Setting} (record { deep = deep; depth = depth; lent = p; tables = t }) (record { deep = deep'; depth = depth'; lent = p; tables = t })

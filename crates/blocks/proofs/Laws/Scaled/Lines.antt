@@ -1,5 +1,5 @@
 -- Scaled blocks: a row of the block from the last eight filtered rows, and from two; what the plan's rows are on the pixels around a place. Assumes nothing.
-use Rattle.blocks.proofs.Usual.{List, ◌≡◌, ◌∙◌, refl, sym, ap, ℕ, ◌≤◌, ◌*◌, ◌+◌, ◌-◌, ◌<◌, ◌^◌, suc, zero, ◌/◌, ◌%◌, mul-le-mul_right, arith, pos, ℤ}
+use Rattle.blocks.proofs.Usual.{List, ◌≡◌, ◌∙◌, refl, sym, ap, ℕ, ◌≤◌, ◌*◌, ◌+◌, ◌-◌, ◌<◌, ◌^◌, suc, zero, ◌/◌, ◌%◌, arith, pos, ℤ}
 use Rattle.blocks.proofs.Usual.{negsuc, ◌+ℤ◌, ◌-ℤ◌, ◌*ℤ◌, get_or, w16, to_z, up, at, clip, minus16, half, dn, low16, row_of, row_same, add_parts, eq_of}
 use Rattle.blocks.proofs.Usual.{sub_parts}
 use native.Mathlib.Nat.{mul-div-mul_left, div-div-eq-div-mul}
@@ -8,14 +8,12 @@ use Rattle.rows.specs.Numbers.{mod_z, ◌>>◌}
 use Rattle.rows.specs.Subpel.{Axis, whole, by, filter, tapped}
 use Rattle.rows.specs.Bilinear.{bilin, R}
 use Rattle.rows.specs.inner.Bilinear.{bilin_at}
-use Rattle.rows.specs.Scaled.{position, pixel_of, in_family, put_down, prep_down}
+use Rattle.rows.specs.Scaled.{in_family, put_down, prep_down}
 use Rattle.rows.proofs.Laws.Numbers.Low.{to_z_ind}
 use Rattle.rows.proofs.Laws.Blocks.Places.{get_d_row_of}
 use Rattle.rows.proofs.Laws.Numbers.Signed.{times_up, times_dn}
 use Rattle.rows.proofs.Laws.Filters.Taps.{tapped_same}
-use Rattle.blocks.specs.inner.Scaled.{Turned, Filtered}
-use Rattle.blocks.specs.declared.scaled.ScaledPlan.{ScaledPlan}
-use Rattle.blocks.proofs.Laws.Loops.Stands.{stood_less}
+use Rattle.blocks.specs.inner.Scaled.{Turned}
 use Rattle.blocks.proofs.Laws.Scaled.Rows.{taps_round}
 
 -- ---- at fraction 0 a row is between itself and itself
@@ -178,7 +176,7 @@ module _ (rows : List ℤ) (order : List ℕ) (subpel : List ℤ) (w k f : ℕ) 
 pub turned_lt : {order : List ℕ} → Turned order → (t : ℕ) → t < 8 → get_or order t 0 < 8
 turned_lt o t b = omega (arith, ap (λ (l : List ℕ). get_or l t 0) o.1 ∙ get_d_row_of 0 8 _ t b)
 
--- ---- the turns of the loops over the rows of a block
+-- ---- the last step takes no more than the eight rows
 
 pub put-down_same : (M B : ℕ) (x : Axis) (m m' : ℕ → ℤ) → ((b : ℕ) → b < 8 → m b ≡ m' b) → put_down M B x m ≡ put_down M B x m'
 unfolding put_down
@@ -189,25 +187,3 @@ pub prep-down_same : (P : ℕ) (x : Axis) (m m' : ℕ → ℤ) → ((b : ℕ) �
 unfolding prep_down
 prep-down_same P whole m m' e = ap (λ (z : ℤ). minus16 z (pos P)) (e 3 (omega arith))
 prep-down_same P (by g) m m' e = ap (λ (z : ℤ). minus16 (low16 z) (pos P)) (tapped_same g (half 6) 6 m m' e)
-
--- positions don't fall, so no row is asked for that is past
-pub row_on : (start step y : ℕ) → pixel_of (position start step y) ≤ pixel_of (position start step (y + 1))
-row_on start step y = omega (arith, mul-le-mul_right {m = y} {n = y + 1} step (omega arith))
-
-pub row_last : (start step y h : ℕ) → y < h → pixel_of (position start step y) ≤ pixel_of (position start step (h - 1))
-row_last start step y h b = omega (arith, mul-le-mul_right {m = y} {n = h - 1} step (omega arith))
-
--- what some of the rows rely on
-pub filtered_less : {sl tl w m n : ℕ} {p : ScaledPlan} → Filtered sl tl p w n → m ≤ n → Filtered sl tl p w m
-filtered_less f h =
-    record {
-      w1 = f.w1;
-      w64 = f.w64;
-      across = f.across;
-      down = f.down;
-      wide = f.wide;
-      high = f.high;
-      table = f.table;
-      rows = stood_less f.rows h;
-      fetched = λ k i a b. f.fetched k i (omega arith) b;
-    }

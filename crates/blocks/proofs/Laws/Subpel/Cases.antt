@@ -1,6 +1,6 @@
 -- 8-tap: what the rows of a plan read and compute is the pixel rule on the pixels around a place, in each of the four cases. Assumes nothing.
 use Rattle.blocks.proofs.Usual.{true, Bool, false, List, ◌≡◌, ◌∙◌, refl, sym, ap, ap₂, ℕ, ◌≤◌, ◌*◌, ◌+◌, ◌-◌, ◌<◌, suc, zero, min, arith, pos, ℤ}
-use Rattle.blocks.proofs.Usual.{negsuc, length, get_or, up, clip, minus16, half, px, low16, fill, Rows, Block, fill_same, mul-le-mul_right, add-mul}
+use Rattle.blocks.proofs.Usual.{negsuc, get_or, up, clip, minus16, half, px, low16, fill, Rows, Block, fill_same, mul-le-mul_right, add-mul}
 use mathlib.Core.Bool.{true≢false}
 use Rattle.rows.specs.Copy.{put, prep}
 use Rattle.rows.specs.Subpel.{Axis, whole, by, axis, filter_bits, tapped, mid, put8, prep8}

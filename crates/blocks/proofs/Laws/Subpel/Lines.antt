@@ -1,13 +1,17 @@
 -- 8-tap: the rows of a block by one filter at most, and the turns of the loops over them. Assumes nothing.
-use Rattle.blocks.proofs.Usual.{List, ◌≡◌, refl, ap, ℕ, ◌≤◌, ◌*◌, ◌+◌, ◌-◌, ◌<◌, ◌^◌, suc, zero, arith, pos, ℤ, length, get_or, clip, minus16, half, low16}
-use Rattle.blocks.proofs.Usual.{span, row_of, row_same, Filled, row_in, filled_span}
+use Rattle.blocks.proofs.Usual.{Bool, true, List, ◌≡◌, ◌∙◌, refl, sym, ap, ℕ, ◌≤◌, ◌*◌, ◌+◌, ◌<◌, ◌^◌, suc, zero, arith, leb, leb-true, pos, ℤ, nat_abs}
+use Rattle.blocks.proofs.Usual.{length, get_or, at, clip, minus16, half, low16, row_of, row_same, Filled, Turn, turn}
+use mathlib.Core.List.{map}
 use native.Mathlib.Nat.{pow-le-pow_right}
+use Rattle.rows.specs.Numbers.{sum}
 use Rattle.rows.specs.Copy.{put, prep}
 use Rattle.rows.specs.Subpel.{tapped}
+use Rattle.rows.specs.inner.Subpel.{Near}
 use Rattle.blocks.specs.inner.Ready.{Lines}
 use Rattle.blocks.specs.inner.Subpel.{put_line, prep_line}
 use Rattle.blocks.specs.declared.source.Stand.{Stand}
 use Rattle.blocks.proofs.Laws.Loops.Stands.{StoodRow, stood_row}
+use Rattle.blocks.proofs.Laws.Loops.Shown.{shown_turn}
 
 -- ---- the rounding of a shift by n
 pub half_le : (n k : ℕ) → n ≤ k → 2 * half n ≤ 2 ^ k
@@ -17,20 +21,22 @@ pub half-short : {r n : ℕ} → r ≡ half n → n ≤ 7 → r ≤ 127
 half-short {r} {n} e h = omega (arith, half_le n 7 h)
 
 -- ---- in a turn at row y of a loop, the row is within both buffers, and the part lent is as long as the row
-module _ {A : Type 0} where
-  pub record Turn (d : List A) (ds sl : ℕ) (s : Stand) (step w y : ℕ) : Type 0 where
-    pub dst : y * ds + w ≤ length d
-    pub src : StoodRow sl s (w + 7 * step) y
-    pub long : length (span d (y * ds) (y * ds + w)) ≡ w
+abbrev pub Line : {A : Type 0} (d : List A) (ds sl : ℕ) (s : Stand) (step w y : ℕ) → Type 0
+Line d ds sl s step w y = Turn ds w y d × StoodRow sl s (w + 7 * step) y
 
-  pub turn : (z : A) {ds sl : ℕ} {s : Stand} {step w h y : ℕ} {f : ℕ → ℕ → A} {d₀ d : List A} → Lines (length d₀) ds sl s step w h → Filled ds w f d₀ h y d
-      → y < h → Turn d ds sl s step w y
-  turn z {ds} {sl} {s} {step} {w} {h} {y} {f} {d₀} {d} p g lt =
-      record {
-        dst = omega (arith, row_in y p.dst lt, g);
-        src = stood_row y p.src lt;
-        long = filled_span z g p.dst lt;
-      }
+pub line : {A : Type 0} (z : A) {ds sl : ℕ} {s : Stand} {step w h y : ℕ} {f : ℕ → ℕ → A} {d₀ d : List A} → Lines (length d₀) ds sl s step w h
+    → Filled ds w f d₀ h y d → y < h → Line d ds sl s step w y
+line z {y = y} p g lt = (turn z g p.dst lt, stood_row y p.src lt)
+
+-- of pixels
+pub shown_line : {P : Type 0} {value : P → ℕ} {values : List P → List ℕ} (each : (l : List P) → values l ≡ map value l) {ds sl : ℕ} {s : Stand}
+    {step w h y : ℕ} {f : ℕ → ℕ → ℕ} {d₀ d : List P} → Lines (length d₀) ds sl s step w h → Filled ds w f (values d₀) h y (values d) → y < h
+    → Line d ds sl s step w y
+shown_line each {y = y} p g lt = (shown_turn each g p.dst lt, stood_row y p.src lt)
+
+-- where a filter's taps are said to be near, they are
+pub told_near : (f : List ℤ) {said : Bool} → said ≡ leb (sum 8 (λ t. nat_abs (at f t))) 128 → said ≡ true → Near f
+told_near f is e = leb-true _ _ (sym is ∙ e)
 
 -- ---- a row, with a filter and without
 module _ (n : ℕ) (src : List ℕ) (o step : ℕ) (f : List ℤ) where

@@ -3,9 +3,8 @@ use Rattle.blocks.proofs.Usual.{List, ◌≡◌, ◌∙◌, sym, ap, ℕ, ◌≤
 use Rattle.blocks.proofs.Usual.{fill, row_of, mul-le-mul_right, Rows, fill_same, fill_in_lem, Filled, filled_more, Turn, turn, filled_span}
 use Rattle.rows.specs.Warp.{warped, warp_mid, warp_put, warp_prep}
 use Rattle.rows.proofs.Laws.Filters.Taps.{tapped_same}
-use Rattle.rows.specs.Copy.{put}
 use Rattle.blocks.specs.inner.Ready.{Margins}
-use Rattle.blocks.specs.inner.Source.{row_first, corner_of, pixel_in, around_in, Stood}
+use Rattle.blocks.specs.inner.Source.{row_first, corner_of, pixel_in, around_in}
 use Rattle.blocks.specs.inner.Warp.{first_in}
 use Rattle.blocks.specs.declared.source.Stand.{Stand}
 
@@ -35,16 +34,14 @@ unfolding warped
 warped_same table m a b n r c x y e = tapped_same _ _ n x y e
 
 -- ---- the first pass, wherever the rows stand
-module _ {l : ℕ} {s : Stand} (p : Margins l s) where
-  pub corner_fits : (3 * s.forth + 3 ≤ s.off + 3 * s.back) × (s.off + 3 * s.back + 11 < l)
-  corner_fits = (omega (arith, p), omega (arith, p))
+-- the fifteen rows of a copy in the picture's order
+pub fifteen_rows : {l : ℕ} → l ≡ 225 → Rows l 15 15 15
+fifteen_rows e = record { wide = omega arith; most = omega arith; fits = omega arith }
 
-  -- the first tap of a block with its margins, and the rows from there on
+module _ {l : ℕ} {s : Stand} (p : Margins l s) where
+  -- from the first tap of a block with its margins on
   pub taps_in : s.back ≡ 0 → (corner_of s).off + 14 * s.forth + 15 ≤ l
   taps_in none = omega (arith, p)
-
-  pub corner_stood : Stood l (corner_of s) 15 15
-  corner_stood = record { forth = p.forth; back = p.back; before = omega (arith, p); after = omega (arith, p) }
 
   -- as the pixels around the block
   corner_at : (src : List ℕ) (i r u : ℕ) → r < 15 → pixel_in src (corner_of s) (i + u) r ≡ around_in 3 src s i 0 u r
@@ -61,7 +58,7 @@ module _ (B : ℕ) (table : List ℤ) (m a b : ℤ) (src : List ℕ) (s : Stand)
       ap low16 (warped_same table m a b (7 - B) r i _ _ λ u hu.
       ap (λ (k : ℕ). pos (get_or src k 0)) (omega (arith, ap (λ (k : ℕ). r * k) none)) ∙ ap pos (corner_at p src i r u hr))
 
-  pub first_turned : (rows₀ rows : List ℕ) → length rows₀ ≡ 225 → rows ≡ fill rows₀ 15 15 15 (λ i j. put (pixel_in src (corner_of s) i j))
+  pub first_turned : (rows₀ rows : List ℕ) → length rows₀ ≡ 225 → rows ≡ fill rows₀ 15 15 15 (pixel_in src (corner_of s))
       → fill mid 15 15 8 (first B table m a b rows 0 15) ≡ fill mid 15 15 8 (first_in B table m a b src s)
   first_turned rows₀ rows long is =
       fill_same (pos 0) 15 (omega arith) mid 15 8 _ _ λ r i hr hi.

@@ -1,4 +1,4 @@
-use Rattle.blocks.proofs.Usual.{◌∙◌, sym, arith, rules, Block, back}
+use Rattle.blocks.proofs.Usual.{◌∙◌, sym, arith, Block, back}
 use Rattle.blocks.proofs.Laws.Bilinear.Ready.{reads-holds}
 use Rattle.blocks.proofs.Laws.Calls.Ready.{sizes_stop, sizes_pass, sizes_block}
 use Rattle.blocks.proofs.bilinear.check_bilin.Goals as goal

@@ -1,7 +1,4 @@
-use Rattle.blocks.proofs.Usual.{◌*◌, ◌+◌, ◌-◌, arith, rules, pos, length, w16, to_z, at, minus16, low16, back, Filled, filled_none, block-loop}
-use Rattle.blocks.proofs.Usual.{filled_all}
-use Rattle.rows.specs.Bilinear.{R}
-use Rattle.rows.specs.inner.Bilinear.{bilin_at}
+use Rattle.blocks.proofs.Usual.{arith, pos, length, back, filled_none, filled_all, block-loop}
 use Rattle.blocks.proofs.Laws.Bilinear.Ready.{Turn, turn}
 use Rattle.blocks.proofs.bilinear.mid_bilin_prep_rows.Goals as goal
 use Rattle.blocks.proofs.bilinear.mid_bilin_prep_rows.Goals.{In-loop-y}
@@ -13,35 +10,11 @@ row c = turn (pos 0) c.requires c.loop-y.invariant c.loop-y-test.true
 pub loop-y-init : goal.loop-y-init
 loop-y-init c = filled_none (pos 0) _ _ _ _ _ (omega (arith, c.requires))
 
-pub overflow_mul-d : goal.overflow_mul-d
-overflow_mul-d c = omega (arith, row c)
-
-pub overflow_add-d : goal.overflow_add-d
-overflow_add-d c = omega (arith, row c)
-
-pub offset_bounds-tmp-d : goal.offset_bounds-tmp-d
-offset_bounds-tmp-d c = omega (arith, row c)
-
-pub slice_bounds-mid_bilin_prep_row-count : goal.slice_bounds-mid_bilin_prep_row-count
-slice_bounds-mid_bilin_prep_row-count c = omega (arith, row c)
-
-pub slice_bounds-mid_bilin_prep_row-start : goal.slice_bounds-mid_bilin_prep_row-start
-slice_bounds-mid_bilin_prep_row-start c = omega (arith, row c)
-
-pub slice_bounds-mid_bilin_prep_row-end : goal.slice_bounds-mid_bilin_prep_row-end
-slice_bounds-mid_bilin_prep_row-end c = omega (arith, row c)
-
-pub overflow_mul-y : goal.overflow_mul-y
-overflow_mul-y c = omega (arith, row (goal.at.overflow_mul-y c).In-loop-y)
-
 pub mid_bilin_prep_row-requires : goal.mid_bilin_prep_row-requires
 mid_bilin_prep_row-requires c = omega (arith, row (goal.at.mid_bilin_prep_row-requires c).In-loop-y, c.requires)
 
 pub loop-y-preserved : goal.loop-y-preserved
 loop-y-preserved c = search block-loop
-
-pub shape_of-tmp : goal.shape_of-tmp
-shape_of-tmp c = search block-loop
 
 pub returns : goal.returns
 returns c = rw (← back c.ranges.bias) (filled_all c.loop-y.invariant c.loop-y-test.false)

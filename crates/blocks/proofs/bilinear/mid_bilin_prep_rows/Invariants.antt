@@ -1,12 +1,7 @@
-use Rattle.blocks.proofs.Usual.{◌*◌, ◌+◌, ◌-◌, arith, rules, pos, length, w16, to_z, at, minus16, low16, back, Filled, filled_none, block-loop}
-use Rattle.blocks.proofs.Usual.{filled_all}
+use Rattle.blocks.proofs.Usual.{◌*◌, ◌+◌, at, minus16, low16, Filled}
 use Rattle.rows.specs.Bilinear.{R}
 use Rattle.rows.specs.inner.Bilinear.{bilin_at}
-use Rattle.blocks.proofs.Laws.Bilinear.Ready.{Turn, turn}
 use Rattle.blocks.proofs.bilinear.mid_bilin_prep_rows.Given as goal
 
 abbrev pub invariant-loop-y : goal.invariant-loop-y
 invariant-loop-y l = Filled l.ts l.w (λ i j. minus16 (low16 (R l.n (bilin_at (at l.mid) (j * 64 + i) 64 l.f))) l.bias) l.initial.tmp l.h l.y l.tmp
-
-abbrev pub decreases-loop-y : goal.decreases-loop-y
-decreases-loop-y l = l.h - l.y

@@ -1,4 +1,4 @@
-use Rattle.blocks.proofs.Usual.{rules, back}
+use Rattle.blocks.proofs.Usual.{back}
 use Rattle.blocks.proofs.blend.check_morph.Goals as goal
 
 pub returns : goal.returns
@@ -9,8 +9,8 @@ returns c =
       c.needed-numbers.ensures,
       c.needed-2.ensures,
       c.needed.ensures,
-      c.absolute.ensures,
-      c.absolute-2.ensures,
+      c.within.ensures,
+      c.within-2.ensures,
       c.held-buffers.ensures,
       back c.ranges.alpha,
       back c.ranges.beta,

@@ -1,4 +1,3 @@
-use Rattle.blocks.proofs.Usual.{rules}
 use Rattle.blocks.proofs.combine.check_combine.Goals as goal
 
 pub returns : goal.returns

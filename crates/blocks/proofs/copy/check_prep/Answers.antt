@@ -1,4 +1,3 @@
-use Rattle.blocks.proofs.Usual.{rules}
 use Rattle.blocks.proofs.copy.check_prep.Goals as goal
 
 pub returns : goal.returns

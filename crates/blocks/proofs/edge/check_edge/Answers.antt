@@ -1,4 +1,3 @@
-use Rattle.blocks.proofs.Usual.{rules}
 use Rattle.blocks.proofs.Laws.Calls.Told.{left_passed, top_passed}
 use Rattle.blocks.proofs.edge.check_edge.Goals as goal
 

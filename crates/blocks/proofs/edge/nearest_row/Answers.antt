@@ -1,4 +1,4 @@
-use Rattle.blocks.proofs.Usual.{◌∙◌, ap, ◌-◌, arith, rules, pos, ◌+ℤ◌, w64, clip, fit}
+use Rattle.blocks.proofs.Usual.{◌∙◌, ap, ◌-◌, arith, pos, ◌+ℤ◌, w64, clip, fit}
 use Rattle.blocks.proofs.Laws.Edge.Ready.{Below, below, clip_below}
 use Rattle.blocks.proofs.edge.nearest_row.Goals as goal
 use Rattle.blocks.proofs.edge.nearest_row.Goals.{Start}

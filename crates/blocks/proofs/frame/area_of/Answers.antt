@@ -1,4 +1,4 @@
-use Rattle.blocks.proofs.Usual.{◌≡◌, refl, rules, w64, to_z, of_z, back}
+use Rattle.blocks.proofs.Usual.{◌≡◌, refl, w64, to_z, of_z, back}
 use Rattle.rows.proofs.Laws.Numbers.Signed.{backs}
 use Rattle.blocks.specs.Window.{window_start}
 use Rattle.blocks.proofs.Laws.Window.Ready.{start_fits}

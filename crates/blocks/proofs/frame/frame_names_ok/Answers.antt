@@ -1,4 +1,4 @@
-use Rattle.blocks.proofs.Usual.{Bool, ◌&&◌, ap, rules, leb, frame_names_ok}
+use Rattle.blocks.proofs.Usual.{Bool, ◌&&◌, ap, leb, frame_names_ok}
 use Rattle.blocks.proofs.frame.frame_names_ok.Goals as goal
 
 pub returns : goal.returns

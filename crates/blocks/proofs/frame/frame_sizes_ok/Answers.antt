@@ -1,4 +1,4 @@
-use Rattle.blocks.proofs.Usual.{sym, rules}
+use Rattle.blocks.proofs.Usual.{sym}
 use Rattle.blocks.proofs.Laws.Window.OddPictures.{chroma_never_empty}
 use Rattle.blocks.proofs.frame.frame_sizes_ok.Goals as goal
 

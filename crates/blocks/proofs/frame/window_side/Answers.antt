@@ -1,4 +1,4 @@
-use Rattle.blocks.proofs.Usual.{refl, arith, rules}
+use Rattle.blocks.proofs.Usual.{refl, arith}
 use Rattle.blocks.proofs.Laws.Window.Ready.{margins}
 use Rattle.blocks.proofs.frame.window_side.Goals as goal
 

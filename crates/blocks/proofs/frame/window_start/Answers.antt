@@ -1,4 +1,4 @@
-use Rattle.blocks.proofs.Usual.{◌≡◌, refl, arith, rules, ◌-ℤ◌, w64, SFits, to_z, of_z, before, back, fit, backn, fit_abs}
+use Rattle.blocks.proofs.Usual.{◌≡◌, refl, arith, ◌-ℤ◌, w64, SFits, to_z, of_z, before, back, fit, backn, fit_abs}
 use Rattle.blocks.specs.Window.{window_start}
 use Rattle.blocks.proofs.Laws.Window.Ready.{margins, start_near}
 use Rattle.blocks.proofs.frame.window_start.Goals as goal

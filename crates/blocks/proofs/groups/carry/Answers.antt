@@ -1,6 +1,6 @@
-use Rattle.blocks.proofs.Usual.{◌∙◌, ◌-◌, arith, w16, back, fit}
+use Rattle.blocks.proofs.Usual.{◌∙◌, arith, w16, back, fit}
 use Rattle.rows.proofs.Laws.Blocks.Over.{over_none, over_more}
-use Rattle.blocks.proofs.Laws.Loops.Groups.{Carrying, carried_all}
+use Rattle.blocks.proofs.Laws.Loops.Groups.{carried_all}
 use Rattle.blocks.proofs.groups.carry.Goals as goal
 
 -- the number that is read hasn't been written yet
@@ -29,9 +29,6 @@ offset_bounds-mid-i-in-loop-i c = omega (arith, c.requires)
 
 pub bounds-mid-i : goal.bounds-mid-i
 bounds-mid-i c = omega (arith, c.requires, c.loop-i.invariant.over.done)
-
-pub overflow_add-i : goal.overflow_add-i
-overflow_add-i c = omega (arith, c.requires)
 
 pub shape_of-mid : goal.shape_of-mid
 shape_of-mid c = c.loop-i.invariant.over.done.len

@@ -1,4 +1,4 @@
-use Rattle.blocks.proofs.Usual.{refl, rules, filters_ok}
+use Rattle.blocks.proofs.Usual.{refl, filters_ok}
 use Rattle.blocks.proofs.Laws.Order.Kinds.{subpel_passed}
 use Rattle.blocks.proofs.Laws.Order.Ready.{warp_near}
 use Rattle.blocks.proofs.order.filters_ok.Goals as goal

@@ -1,4 +1,4 @@
-use Rattle.blocks.proofs.Usual.{refl, rules, kind_size_ok}
+use Rattle.blocks.proofs.Usual.{refl, kind_size_ok}
 use Rattle.blocks.proofs.order.kind_size_ok.Goals as goal
 
 pub returns-in-Copy : goal.returns-in-Copy

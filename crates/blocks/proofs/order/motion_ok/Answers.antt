@@ -1,4 +1,4 @@
-use Rattle.blocks.proofs.Usual.{refl, rules, motion_ok}
+use Rattle.blocks.proofs.Usual.{refl, motion_ok}
 use Rattle.blocks.specs.Warp.{warp_place_ok}
 use Rattle.blocks.proofs.Laws.Order.Kinds.{subpel_passed, bilin_passed, warp_passed}
 use Rattle.blocks.proofs.order.motion_ok.Goals as goal

@@ -1,4 +1,4 @@
-use Rattle.blocks.proofs.Usual.{rules, back}
+use Rattle.blocks.proofs.Usual.{back}
 use Rattle.blocks.proofs.order.order_numbers.Goals as goal
 
 pub returns : goal.returns

@@ -1,4 +1,4 @@
-use Rattle.blocks.proofs.Usual.{rules, whole_filters}
+use Rattle.blocks.proofs.Usual.{whole_filters}
 use Rattle.blocks.specs.Subpel.{subpel_ok}
 use Rattle.blocks.proofs.order.order_tables.Goals as goal
 

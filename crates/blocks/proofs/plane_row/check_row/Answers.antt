@@ -1,4 +1,4 @@
-use Rattle.blocks.proofs.Usual.{refl, rules, back}
+use Rattle.blocks.proofs.Usual.{refl, back}
 use Rattle.blocks.proofs.plane_row.check_row.Goals as goal
 
 pub returns : goal.returns

@@ -1,4 +1,4 @@
-use Rattle.blocks.proofs.Usual.{◌≡◌, ◌∙◌, refl, sym, ℕ, ◌≤◌, ◌*◌, ◌+◌, ◌-◌, mul-le-mul_right, arith, rules, le-leb, le-ltb, lt-leb, lt-ltb, ltb, reads}
+use Rattle.blocks.proofs.Usual.{◌≡◌, ◌∙◌, refl, sym, ℕ, ◌≤◌, ◌*◌, ◌+◌, ◌-◌, mul-le-mul_right, arith, le-leb, le-ltb, lt-leb, lt-ltb, ltb, reads}
 use Rattle.blocks.proofs.Usual.{by-lt}
 use Rattle.blocks.proofs.Laws.Calls.Refuse.{reads_past}
 use Rattle.blocks.proofs.refuse.reads_around.Goals as goal

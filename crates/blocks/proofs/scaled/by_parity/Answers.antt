@@ -1,4 +1,4 @@
-use Rattle.blocks.proofs.Usual.{arith, rules}
+use Rattle.blocks.proofs.Usual.{arith}
 use Rattle.blocks.proofs.Laws.Scaled.Rows.{parity_even, parity_odd}
 use Rattle.blocks.proofs.scaled.by_parity.Goals as goal
 

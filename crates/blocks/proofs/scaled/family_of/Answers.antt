@@ -1,4 +1,4 @@
-use Rattle.blocks.proofs.Usual.{◌≡◌, ◌∙◌, ap, ℕ, ◌+◌, ◌%◌, arith, rules, up, rd}
+use Rattle.blocks.proofs.Usual.{◌≡◌, ◌∙◌, ap, ℕ, ◌+◌, ◌%◌, arith, up, rd}
 use Rattle.blocks.proofs.Laws.Subpel.Choice.{family-low, family-high}
 use Rattle.blocks.proofs.scaled.family_of.Goals as goal
 use Rattle.blocks.proofs.scaled.family_of.Goals.{After-up32-t}

@@ -1,4 +1,4 @@
-use Rattle.blocks.proofs.Usual.{refl, rules, row_of, row_from}
+use Rattle.blocks.proofs.Usual.{refl, row_of, row_from}
 use Rattle.blocks.proofs.scaled.turned.Goals as goal
 
 pub returns : goal.returns

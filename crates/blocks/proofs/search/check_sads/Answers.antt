@@ -1,4 +1,4 @@
-use Rattle.blocks.proofs.Usual.{◌∙◌, sym, arith, rules, size_ok, Block}
+use Rattle.blocks.proofs.Usual.{◌∙◌, sym, arith, size_ok, Block}
 use Rattle.blocks.proofs.Laws.Calls.Ready.{sizes_stop, sizes_pass, sizes_block}
 use Rattle.blocks.proofs.search.check_sads.Goals as goal
 use Rattle.blocks.proofs.search.check_sads.Goals.{Else-shape-ne0}

@@ -1,4 +1,4 @@
-use Rattle.blocks.proofs.Usual.{rules, back}
+use Rattle.blocks.proofs.Usual.{back}
 use Rattle.blocks.proofs.Laws.Search.Ready.{start_place}
 use Rattle.blocks.proofs.search.second_place.Goals as goal
 

@@ -1,4 +1,4 @@
-use Rattle.blocks.proofs.Usual.{true, Bool, false, ◌≡◌, refl, arith, rules, pos, nat_abs, w32, to_z, reading}
+use Rattle.blocks.proofs.Usual.{true, Bool, false, ◌≡◌, refl, arith, pos, nat_abs, w32, to_z}
 use mathlib.Core.Bool.{cond}
 use mir.Val.{bool_byte}
 use Rattle.rows.specs.Shear.{affine_of}

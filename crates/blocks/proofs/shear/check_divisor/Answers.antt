@@ -1,4 +1,3 @@
-use Rattle.blocks.proofs.Usual.{rules}
 use Rattle.blocks.specs.Shear.{recip_ok}
 use Rattle.blocks.proofs.shear.check_divisor.Goals as goal
 

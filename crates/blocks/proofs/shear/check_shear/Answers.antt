@@ -1,4 +1,4 @@
-use Rattle.blocks.proofs.Usual.{rules, w32, back, fit}
+use Rattle.blocks.proofs.Usual.{w32, back, fit}
 use Rattle.blocks.specs.Shear.{recip_ok}
 use Rattle.blocks.proofs.shear.check_shear.Goals as goal
 

@@ -1,4 +1,4 @@
-use Rattle.blocks.proofs.Usual.{rules, w32, back, fit}
+use Rattle.blocks.proofs.Usual.{w32, back, fit}
 use Rattle.blocks.specs.Shear.{entries_ok}
 use Rattle.blocks.proofs.shear.entries_ok.Goals as goal
 

@@ -1,4 +1,4 @@
-use Rattle.blocks.proofs.Usual.{◌∙◌, sym, rules, done, refused}
+use Rattle.blocks.proofs.Usual.{◌∙◌, sym, done, refused}
 use Rattle.blocks.proofs.Laws.Warp.Shears.{shear_ready}
 use Rattle.blocks.proofs.shear.get_shear_params.Goals as goal
 

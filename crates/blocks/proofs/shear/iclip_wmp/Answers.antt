@@ -1,4 +1,4 @@
-use Rattle.blocks.proofs.Usual.{arith, rules, pos, ℤ, ◌+ℤ◌, ◌-ℤ◌, shr_z, w32, w16, w64, SFits, back, reading, back32}
+use Rattle.blocks.proofs.Usual.{arith, pos, ℤ, ◌+ℤ◌, ◌-ℤ◌, shr_z, w32, w16, w64, SFits, back, back32}
 use Rattle.rows.specs.Shear.{is_neg, Q}
 use Rattle.rows.proofs.Laws.Numbers.Signed.{mag-add, mag-sub, mag_shr}
 use Rattle.blocks.proofs.Laws.Warp.Shears.{neg_bit, neg_small, down_fits}

@@ -1,4 +1,4 @@
-use Rattle.blocks.proofs.Usual.{◌≤◌, ◌^◌, arith, rules, pos, ℤ, nat_abs, ◌-ℤ◌, ◌*ℤ◌, w32, w64, SFits, back, fit_abs, reading, back32}
+use Rattle.blocks.proofs.Usual.{◌≤◌, ◌^◌, arith, pos, ℤ, nat_abs, ◌-ℤ◌, ◌*ℤ◌, w32, w64, SFits, back, fit_abs, back32}
 use Rattle.rows.specs.Shear.{offset_of}
 use Rattle.rows.proofs.Laws.Numbers.Signed.{abs-sub, abs-mul-le}
 use Rattle.blocks.proofs.shear.offset_of.Goals as goal

@@ -1,4 +1,4 @@
-use Rattle.blocks.proofs.Usual.{◌≤◌, ◌^◌, arith, rules, pos, ℤ, nat_abs, ◌*ℤ◌, w32, w16, w64, SFits, back, reading, back32}
+use Rattle.blocks.proofs.Usual.{◌≤◌, ◌^◌, arith, pos, ℤ, nat_abs, ◌*ℤ◌, w32, w16, w64, SFits, back, back32}
 use Rattle.rows.specs.Shear.{shear_c}
 use Rattle.rows.proofs.Laws.Numbers.Signed.{abs-mul-le, mag-abs}
 use Rattle.blocks.proofs.shear.shear_c.Goals as goal

@@ -1,4 +1,4 @@
-use Rattle.blocks.proofs.Usual.{◌≡◌, ◌∙◌, ℕ, ◌≤◌, arith, rules, pos, ℤ, nat_abs, ◌-ℤ◌, w32, SFits, to_z, of_z, at, back, fit, fit_abs}
+use Rattle.blocks.proofs.Usual.{◌≡◌, ◌∙◌, ℕ, ◌≤◌, arith, pos, ℤ, nat_abs, ◌-ℤ◌, w32, SFits, to_z, of_z, at, back, fit, fit_abs}
 use Rattle.rows.specs.Shear.{middle, entry0, entry1}
 use Rattle.rows.proofs.Laws.Numbers.Signed.{abs-sub}
 use Rattle.blocks.specs.Shear.{with_mv}

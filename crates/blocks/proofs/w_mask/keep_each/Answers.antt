@@ -1,5 +1,4 @@
-use Rattle.blocks.proofs.Usual.{◌≤◌, ◌*◌, ◌+◌, ◌-◌, arith, rules, length, Filled, filled_none, row_in, block-loop, Turn, turn}
-use Rattle.blocks.proofs.Laws.WMask.Weighed.{weigh}
+use Rattle.blocks.proofs.Usual.{◌≤◌, ◌*◌, ◌+◌, arith, length, row_in, block-loop, filled_none, Turn, turn}
 use Rattle.blocks.proofs.w_mask.keep_each.Goals as goal
 use Rattle.blocks.proofs.w_mask.keep_each.Goals.{In-loop-y}
 
@@ -12,32 +11,13 @@ row c =
 pub loop-y-init : goal.loop-y-init
 loop-y-init c = filled_none 0 _ _ _ _ _ (omega (arith, c.requires))
 
-pub overflow_mul-k : goal.overflow_mul-k
-overflow_mul-k c = omega (arith, row c)
-
-pub overflow_add-k : goal.overflow_add-k
-overflow_add-k c = omega (arith, row c)
-
-pub slice_bounds-weight_row-count : goal.slice_bounds-weight_row-count
-slice_bounds-weight_row-count c = omega (arith, row c)
-
-pub slice_bounds-weight_row-start : goal.slice_bounds-weight_row-start
-slice_bounds-weight_row-start c = omega (arith, row c)
-
-pub slice_bounds-weight_row-end : goal.slice_bounds-weight_row-end
-slice_bounds-weight_row-end c = omega (arith, row c)
-
-pub overflow_mul-y : goal.overflow_mul-y
-overflow_mul-y c = omega (arith, row (goal.at.overflow_mul-y c).In-loop-y)
-
-pub weight_row-requires : goal.weight_row-requires
-weight_row-requires c = omega (arith, row (goal.at.weight_row-requires c).In-loop-y, c.requires.1)
-
 pub loop-y-preserved : goal.loop-y-preserved
 loop-y-preserved c = search block-loop
 
-pub shape_of-mask : goal.shape_of-mask
-shape_of-mask c = search block-loop
+pub weight_row-requires : goal.weight_row-requires
+weight_row-requires c =
+    let r = row (goal.at.weight_row-requires c).In-loop-y in let d = c.requires.1 in
+    record { m_in_bounds = omega (arith, r); le_depth = omega (arith, d.deep, d) }
 
 pub returns : goal.returns
 returns c = search block-loop

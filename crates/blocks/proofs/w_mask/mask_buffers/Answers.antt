@@ -1,4 +1,3 @@
-use Rattle.blocks.proofs.Usual.{rules}
 use Rattle.blocks.proofs.w_mask.mask_buffers.Goals as goal
 
 pub returns : goal.returns

@@ -1,4 +1,4 @@
-use Rattle.blocks.proofs.Usual.{rules, whole_filters}
+use Rattle.blocks.proofs.Usual.{whole_filters}
 use Rattle.blocks.proofs.warp.check_buffers.Goals as goal
 
 pub returns : goal.returns

@@ -1,4 +1,4 @@
-use Rattle.blocks.proofs.Usual.{rules, back}
+use Rattle.blocks.proofs.Usual.{back}
 use Rattle.blocks.specs.Warp.{warp_place_ok}
 use Rattle.blocks.proofs.warp.check_numbers.Goals as goal
 

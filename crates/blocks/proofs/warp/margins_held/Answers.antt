@@ -1,4 +1,4 @@
-use Rattle.blocks.proofs.Usual.{sym, ◌*◌, ◌+◌, ◌-◌, arith, rules, le-ltb, leb, reads}
+use Rattle.blocks.proofs.Usual.{sym, ◌*◌, ◌+◌, ◌-◌, arith, le-ltb, leb, reads}
 use Rattle.rows.proofs.Laws.Blocks.Fill.{and_false}
 use Rattle.blocks.proofs.Laws.Warp.Corners.{same_lt}
 use Rattle.blocks.proofs.warp.margins_held.Goals as goal

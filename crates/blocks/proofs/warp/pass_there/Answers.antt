@@ -1,4 +1,4 @@
-use Rattle.blocks.proofs.Usual.{arith, rules, back}
+use Rattle.blocks.proofs.Usual.{arith, back}
 use Rattle.blocks.proofs.Laws.Warp.Corners.{four_all}
 use Rattle.blocks.proofs.warp.pass_there.Goals as goal
 

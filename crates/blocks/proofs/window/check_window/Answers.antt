@@ -1,4 +1,4 @@
-use Rattle.blocks.proofs.Usual.{[], ◌∙◌, sym, rules, Asked, lent_of, back}
+use Rattle.blocks.proofs.Usual.{[], ◌∙◌, sym, Asked, lent_of, back}
 use Rattle.blocks.specs.inner.Window.{asked}
 use Rattle.blocks.proofs.Laws.Window.Ready.{sizes_small, window_stop, window_go}
 use Rattle.blocks.proofs.window.check_window.Goals as goal

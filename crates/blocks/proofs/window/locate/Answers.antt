@@ -1,4 +1,4 @@
-use Rattle.blocks.proofs.Usual.{◌≡◌, ◌∙◌, refl, sym, ap, ◌≤◌, ◌*◌, ◌+◌, ◌^◌, mul-le-mul_right, arith, rules, up, window_at}
+use Rattle.blocks.proofs.Usual.{◌≡◌, ◌∙◌, refl, sym, ap, ◌≤◌, ◌*◌, ◌+◌, ◌^◌, mul-le-mul_right, arith, up, window_at}
 use Rattle.rows.proofs.Laws.Numbers.Signed.{abs_parts}
 use Rattle.blocks.proofs.Laws.Calls.Told.{left_passed, top_passed}
 use Rattle.blocks.proofs.Laws.Window.Ready.{own_at}

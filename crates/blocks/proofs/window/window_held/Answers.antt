@@ -1,4 +1,4 @@
-use Rattle.blocks.proofs.Usual.{refl, rules}
+use Rattle.blocks.proofs.Usual.{refl}
 use Rattle.blocks.proofs.window.window_held.Goals as goal
 
 pub returns : goal.returns

@@ -1,4 +1,4 @@
-use Rattle.blocks.proofs.Usual.{refl, rules, back}
+use Rattle.blocks.proofs.Usual.{refl, back}
 use Rattle.blocks.proofs.window.window_numbers.Goals as goal
 
 pub returns : goal.returns

@@ -67,22 +67,22 @@ loop-left-init : tie.Need-loop-left-init invariant-loop-left decreases-loop-left
 loop-left-init c = (upto_none _, refl, refl, tiled_none _ _ _ _ _ _ _ _ (λ i j q. omega (arith, q)))
 
 -- what a tile's call leaves in scratch and in dst, as long as they were
-abbrev scratch_after : tie.After-hv_order_put_16bpc-number invariant-loop-left decreases-loop-left invariant-loop-top decreases-loop-top → List ℕ
-scratch_after c = c.hv_order_put_16bpc-number.new.scratch
+abbrev scratch_after : tie.After-hv_order_put-number invariant-loop-left decreases-loop-left invariant-loop-top decreases-loop-top → List ℕ
+scratch_after c = c.hv_order_put-number.new.scratch
 
-abbrev part-after : tie.After-hv_order_put_16bpc-number invariant-loop-left decreases-loop-left invariant-loop-top decreases-loop-top → List ℕ
-part-after c = c.hv_order_put_16bpc-number.new.dst
+abbrev part-after : tie.After-hv_order_put-number invariant-loop-left decreases-loop-left invariant-loop-top decreases-loop-top → List ℕ
+part-after c = c.hv_order_put-number.new.dst
 
-abbrev dst-after : tie.After-hv_order_put_16bpc-number invariant-loop-left decreases-loop-left invariant-loop-top decreases-loop-top → List ℕ
+abbrev dst-after : tie.After-hv_order_put-number invariant-loop-left decreases-loop-left invariant-loop-top decreases-loop-top → List ℕ
 dst-after c =
     let d = c.loop-left.dst in
     take (begin c.before.before.before.before.before.before) d ++ (part-after c ++ drop (length d - begin c.before.before.before.before.before.before) (drop (begin c.before.before.before.before.before.before) d))
 
-long : (c : tie.After-hv_order_put_16bpc-number invariant-loop-left decreases-loop-left invariant-loop-top decreases-loop-top) → let t = c.loop-left in
+long : (c : tie.After-hv_order_put-number invariant-loop-left decreases-loop-left invariant-loop-top decreases-loop-top) → let t = c.loop-left in
     (length (scratch_after c) ≡ length t.scratch) × (length (dst-after c) ≡ length t.dst)
 long c =
     let d = c.loop-left.dst in
-    let kept = c.hv_order_put_16bpc-number.auto in
+    let kept = c.hv_order_put-number.auto in
     (kept.scratch, same_len_mid (begin c.before.before.before.before.before.before) (length d - begin c.before.before.before.before.before.before) d (part-after c) kept.dst)
 
 shape_of-scratch-then-number-ne0 : tie.Need-shape_of-scratch-then-number-ne0 invariant-loop-left decreases-loop-left invariant-loop-top decreases-loop-top
@@ -92,11 +92,11 @@ shape_of-dst-then-number-ne0 : tie.Need-shape_of-dst-then-number-ne0 invariant-l
 shape_of-dst-then-number-ne0 c = omega (arith, long c.before.before.before.before.before)
 
 -- a tile's rectangle, which is one of a cut
-abbrev rect : tie.After-hv_order_put_16bpc-number invariant-loop-left decreases-loop-left invariant-loop-top decreases-loop-top → Rect
+abbrev rect : tie.After-hv_order_put-number invariant-loop-left decreases-loop-left invariant-loop-top decreases-loop-top → Rect
 rect c =
     record { x = c.loop-left.left; y = c.loop-top.top; w = c.piece-columns.result; h = c.piece-rows.result }
 
-inside : (c : tie.After-hv_order_put_16bpc-number invariant-loop-left decreases-loop-left invariant-loop-top decreases-loop-top) → let a = c.args in
+inside : (c : tie.After-hv_order_put-number invariant-loop-left decreases-loop-left invariant-loop-top decreases-loop-top) → let a = c.args in
     Inside a.w a.h (rect c) × SameSide a.w a.h (rect c)
 inside c =
     let a = c.args in
@@ -109,7 +109,7 @@ inside c =
     )
 
 -- where the call stands, on the plane
-place : (c : tie.After-hv_order_put_16bpc-number invariant-loop-left decreases-loop-left invariant-loop-top decreases-loop-top) → let a = c.args in
+place : (c : tie.After-hv_order_put-number invariant-loop-left decreases-loop-left invariant-loop-top decreases-loop-top) → let a = c.args in
     (passed w64 c.moved.result ≡ passed w32 a.x +ℤ pos (rect c).x)
     × (passed w64 c.moved-in-loop-left.result ≡ passed w32 a.y +ℤ pos (rect c).y)
 place c =
@@ -134,8 +134,8 @@ returns-then-number-ne0 c =
     (passed w32 a.mx) (passed w32 a.my) (passed w32 a.filter_type) (pos 0) (pos 0) (pos 0) (pos 0) a.subpel.now a.ext.now a.warp.now
     (passed w32 a.x) (passed w32 a.y) a.w a.h a.dst_stride c.if-kind-gt2.false c.if-dst_stride-row.false
     (rect c.before.before.before.before.before) _ _ l.scratch (take (length l.dst - begin c.before.before.before.before.before.before.before.before.before.before.before) (drop (begin c.before.before.before.before.before.before.before.before.before.before.before) l.dst)) (scratch_after c.before.before.before.before.before) (part-after c.before.before.before.before.before)
-    (length a.scratch.now) (length a.dst.now) c.hv_order_put_16bpc-number.result (place c.before.before.before.before.before).0 (place c.before.before.before.before.before).1 (omega arith) lent
-    c.hv_order_put_16bpc-number.ensures in
+    (length a.scratch.now) (length a.dst.now) c.hv_order_put-number.result (place c.before.before.before.before.before).0 (place c.before.before.before.before.before).1 (omega arith) lent
+    c.hv_order_put-number.ensures in
     record {
       done = λ z. absurd (c.if-number-ne0.true z);
       refused =
@@ -152,9 +152,9 @@ loop-left-preserved c =
       omega (arith, long c.before.before.before.before.before),
       tiled_beside _ _ _ _ _ _ (rect c.before.before.before.before.before).y (rect c.before.before.before.before.before).x (rect c.before.before.before.before.before).w (rect c.before.before.before.before.before).h _ _ _ l.invariant.3
           (tiled_one _ _ _ _ _ _ (rect c.before.before.before.before.before) _ _ (inside c.before.before.before.before.before).0 (inside c.before.before.before.before.before).1
-          (one_call _ _ _ _ _ _ (rect c.before.before.before.before.before) c.hv_order_put_16bpc-number.result (length l.dst - begin c.before.before.before.before.before.before.before.before.before.before.before) l.dst l.scratch
+          (one_call _ _ _ _ _ _ (rect c.before.before.before.before.before) c.hv_order_put-number.result (length l.dst - begin c.before.before.before.before.before.before.before.before.before.before.before) l.dst l.scratch
           (scratch_after c.before.before.before.before.before) (part-after c.before.before.before.before.before)
-          (place c.before.before.before.before.before).0 (place c.before.before.before.before.before).1 c.if-number-ne0.false c.hv_order_put_16bpc-number.ensures)),
+          (place c.before.before.before.before.before).0 (place c.before.before.before.before.before).1 c.if-number-ne0.false c.hv_order_put-number.ensures)),
     )
 
 loop-top-preserved : tie.Need-loop-top-preserved invariant-loop-left decreases-loop-left invariant-loop-top decreases-loop-top
@@ -192,11 +192,11 @@ overflow_add-at c = omega (arith, begun c.before)
 offset_bounds-dst-at : tie.Need-offset_bounds-dst-at invariant-loop-left decreases-loop-left invariant-loop-top decreases-loop-top
 offset_bounds-dst-at c = omega (arith, begun (c.before.before.before.before))
 
-slice_bounds-hv_order_put_16bpc-count : tie.Need-slice_bounds-hv_order_put_16bpc-count invariant-loop-left decreases-loop-left invariant-loop-top decreases-loop-top
-slice_bounds-hv_order_put_16bpc-count c = (begun (c.before.before.before.before)).0
+slice_bounds-hv_order_put-count : tie.Need-slice_bounds-hv_order_put-count invariant-loop-left decreases-loop-left invariant-loop-top decreases-loop-top
+slice_bounds-hv_order_put-count c = (begun (c.before.before.before.before)).0
 
-slice_bounds-hv_order_put_16bpc-start : tie.Need-slice_bounds-hv_order_put_16bpc-start invariant-loop-left decreases-loop-left invariant-loop-top decreases-loop-top
-slice_bounds-hv_order_put_16bpc-start c = (begun (c.before.before.before.before)).0
+slice_bounds-hv_order_put-start : tie.Need-slice_bounds-hv_order_put-start invariant-loop-left decreases-loop-left invariant-loop-top decreases-loop-top
+slice_bounds-hv_order_put-start c = (begun (c.before.before.before.before)).0
 
 overflow_add-left : tie.Need-overflow_add-left invariant-loop-left decreases-loop-left invariant-loop-top decreases-loop-top
 overflow_add-left c = omega (arith, (inside (c.before.before.before.before.before)).0, c.ranges.w)
@@ -233,8 +233,8 @@ predict_in_tiles_spec =
     (λ c. omega arith)
     (λ c. omega arith)
     offset_bounds-dst-at
-    slice_bounds-hv_order_put_16bpc-count
-    slice_bounds-hv_order_put_16bpc-start
+    slice_bounds-hv_order_put-count
+    slice_bounds-hv_order_put-start
     (λ c. search rules)
     (λ c κs. search rules)
     shape_of-scratch-then-number-ne0

@@ -1,5 +1,5 @@
 -- Laws of `fill`, a block written into a buffer of rows, and of `fill_in`, the same over any set of places. Assumes nothing.
-use Rattle.rows.proofs.Usual.{true, Bool, false, List, ⊎_elim, ◌⊎◌, ◌≡◌, ◌∙◌, refl, ap, sym, subst, ◌-◌, ◌+◌, ◌*◌, ◌≤◌, ◌<◌, ℕ, ◌/◌, suc, zero, ◌%◌}
+use Rattle.rows.proofs.Usual.{true, Bool, false, List, ⊎_elim, ◌⊎◌, ◌≡◌, ◌∙◌, refl, ap, sym, subst, ◌+◌, ◌*◌, ◌≤◌, ◌<◌, ℕ, ◌/◌, suc, zero, ◌%◌}
 use Rattle.rows.proofs.Usual.{add-zero, arith, ltb-true, ltb, length, get_or, splice, by-lt}
 use mathlib.Core.Bool.{◌&&◌, ◌||◌, true≢false}
 use mathlib.Core.List.{[], ◌∷◌}

@@ -1,5 +1,5 @@
 -- What the filters' loops share: the end of a sum of eight taps, and one more intermediate of a row. Assumes nothing.
-use Rattle.rows.proofs.Usual.{List, ◌≡◌, ◌∙◌, ◌+◌, ◌≤◌, ◌<◌, ◌^◌, ℕ, arith, pos, ℤ, set, mag, w32, w16, SFits, to_z, of_z, sum_z, Upto, upto_more, back}
+use Rattle.rows.proofs.Usual.{List, ◌≡◌, ◌∙◌, ◌+◌, ◌≤◌, ◌<◌, ◌^◌, ℕ, arith, pos, ℤ, set, mag, w16, SFits, to_z, of_z, sum_z, Upto, upto_more, back}
 use Rattle.rows.proofs.Usual.{Summed, summed_mag}
 
 pub summed_eight : {g : ℕ → ℤ} {j : ℕ} {s : ℤ} → j ≤ 8 → 8 ≤ j → Summed g (2 ^ 24) j s → (s ≡ sum_z 8 g) × (mag s < 2 ^ 30)

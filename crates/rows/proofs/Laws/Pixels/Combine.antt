@@ -1,5 +1,5 @@
 -- The combining laws of demand 3, on pixels: for any largest pixel M, any B and any P, so at each depth. Assumes nothing.
-use Rattle.rows.proofs.Usual.{◌≡◌, ◌∙◌, ap, sym, ap₂, ◌-◌, ◌+◌, ◌*◌, ◌^◌, ℕ, ◌/◌, arith, pos, ℤ, ◌+ℤ◌, ◌*ℤ◌, ◌-ℤ◌, negsuc, clip, up, dn, eq_of, one-part}
+use Rattle.rows.proofs.Usual.{◌≡◌, ◌∙◌, ap, sym, ap₂, ◌+◌, ◌*◌, ◌^◌, ℕ, ◌/◌, arith, pos, ℤ, ◌+ℤ◌, ◌*ℤ◌, ◌-ℤ◌, negsuc, clip, up, dn, eq_of, one-part}
 use Rattle.rows.proofs.Usual.{sub_parts, add_parts}
 use native.Mathlib.Nat.{mul_assoc, mul-div-mul_left, div-div-eq-div-mul}
 use lib.IntN.{+ℤ_comm}

@@ -1,4 +1,4 @@
-use Rattle.rows.proofs.Usual.{refl, ◌^◌, arith, rules, pos, ℤ, ◌+ℤ◌, w32, SFits, back, mag-add, rd}
+use Rattle.rows.proofs.Usual.{refl, ◌^◌, arith, pos, ℤ, ◌+ℤ◌, w32, SFits, back, mag-add}
 use lib.Signed.{mag_shr}
 use Rattle.rows.specs.Numbers.{half}
 use Rattle.rows.specs.Bilinear.{R}
@@ -11,6 +11,3 @@ returns c =
     let fr : SFits w32 c.rounded.result = omega arith in
     rw (back fr, c.rounded.ensures, back c.ranges.s, c.half_power.ensures.0)
     (refl, omega (arith, mag_shr v (2 ^ c.args.n), mag-add c.args.s (pos (half c.args.n))))
-
-pub rounded-requires : goal.rounded-requires
-rounded-requires c = omega (arith, rd c.ranges.s)

@@ -1,4 +1,4 @@
-use Rattle.rows.proofs.Usual.{refl, ◌*◌, ◌≤◌, arith, rules, pos, ℤ, ◌+ℤ◌, ◌*ℤ◌, ◌-ℤ◌, nat_abs, mag, w32, SFits, back, backn, mag-add, mag-mul}
+use Rattle.rows.proofs.Usual.{refl, ◌*◌, ◌≤◌, arith, pos, ℤ, ◌+ℤ◌, ◌*ℤ◌, ◌-ℤ◌, nat_abs, mag, w32, SFits, back, backn, mag-add, mag-mul}
 use Rattle.rows.specs.Bilinear.{bilin}
 use Rattle.rows.proofs.Laws.Numbers.Signed.{mag-abs, abs-sub}
 use Rattle.rows.proofs.bilinear.bilin_sum.Goals as goal
@@ -35,9 +35,6 @@ module _ (c : Start) where
   all : SFits w32 (l +ℤ r)
   all = omega (arith, l_le, r-le, mag-add l r)
 
-pub overflow_mul-result-2 : goal.overflow_mul-result-2
-overflow_mul-result-2 c = simp (back c.ranges.a, back c.ranges.b, backn w32 c.args.f (omega arith), back (d-fits c)) (r-fits c)
-
 pub overflow_add-result : goal.overflow_add-result
 overflow_add-result c =
     let e = backn w32 c.args.f (omega arith) in
@@ -49,9 +46,3 @@ returns c =
     let e = backn w32 c.args.f (omega arith) in
     simp (back c.ranges.a, back c.ranges.b, e, back (d-fits c), back (l-fits c), back (r-fits c), back (all c))
     (refl, omega (arith, l_le c, r-le c, mag-add (l c) (r c)))
-
-pub overflow_mul-result : goal.overflow_mul-result
-overflow_mul-result c = simp (back c.ranges.a) (l-fits c)
-
-pub overflow_sub-result : goal.overflow_sub-result
-overflow_sub-result c = simp (back c.ranges.a, back c.ranges.b) (d-fits c)

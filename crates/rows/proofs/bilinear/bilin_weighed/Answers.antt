@@ -1,4 +1,4 @@
-use Rattle.rows.proofs.Usual.{◌-◌, ◌*◌, ◌≤◌, arith, rules, pos, ℤ, ◌+ℤ◌, ◌*ℤ◌, mag, w32, SFits, back, backn, mag-add, mag-mul}
+use Rattle.rows.proofs.Usual.{◌-◌, ◌*◌, ◌≤◌, arith, pos, ℤ, ◌+ℤ◌, ◌*ℤ◌, mag, w32, SFits, back, backn, mag-add, mag-mul}
 use Rattle.rows.proofs.Laws.Filters.Bilinear.{weighed}
 use Rattle.rows.proofs.bilinear.bilin_weighed.Goals as goal
 use Rattle.rows.proofs.bilinear.bilin_weighed.Goals.{Start}
@@ -24,17 +24,6 @@ module _ (c : Start) where
 
   all : SFits w32 (l +ℤ r)
   all = omega (arith, l_le, r-le, mag-add l r)
-
-pub overflow_mul-result : goal.overflow_mul-result
-overflow_mul-result c = simp (back c.ranges.a, backn w32 (16 - c.args.f) (omega arith)) (l-fits c)
-
-pub overflow_mul-result-2 : goal.overflow_mul-result-2
-overflow_mul-result-2 c = simp (back c.ranges.b, backn w32 c.args.f (omega arith)) (r-fits c)
-
-pub overflow_add-result : goal.overflow_add-result
-overflow_add-result c =
-    let e = backn w32 c.args.f (omega arith) in let e2 = backn w32 (16 - c.args.f) (omega arith) in
-    simp (back c.ranges.a, back c.ranges.b, e, e2, back (l-fits c), back (r-fits c)) (all c)
 
 pub returns : goal.returns
 returns c =

@@ -1,12 +1,8 @@
-use Rattle.rows.proofs.Usual.{◌-◌, ◌+◌, arith, rules, pos, length, w32, w16, SFits, to_z, at, minus16, low16, Upto, upto_all, upto_none, back}
+use Rattle.rows.proofs.Usual.{◌+◌, pos, length, at, minus16, low16, Upto}
 use Rattle.rows.specs.Bilinear.{R}
 use Rattle.rows.specs.inner.Bilinear.{bilin_at}
-use Rattle.rows.proofs.Laws.Filters.Loop.{upto_kept}
 use Rattle.rows.proofs.bilinear.mid_bilin_prep_row.Given as goal
 
 -- the first i are done
 abbrev pub invariant-loop-i : goal.invariant-loop-i
 invariant-loop-i l = Upto (pos 0) (λ x. minus16 (low16 (R l.n (bilin_at (at l.mid) (l.o + x) l.step l.f))) l.bias) (length l.initial.tmp) l.i l.tmp
-
-abbrev pub decreases-loop-i : goal.decreases-loop-i
-decreases-loop-i l = l.w - l.i

@@ -18,11 +18,5 @@ sum c = omega (arith, small c, mag-add (P c) c.args.beta, mag-abs c.args.beta)
 shifted : (c : Start) → SFits w32 (shr_z (P c +ℤ c.args.beta) 256)
 shifted c = omega (arith, sum c, mag_shr (P c +ℤ c.args.beta) 256)
 
-pub overflow_mul-result : goal.overflow_mul-result
-overflow_mul-result c = simp (back c.ranges.alpha, back c.ranges.d) (product c)
-
-pub overflow_add-result : goal.overflow_add-result
-overflow_add-result c = simp (back c.ranges.alpha, back c.ranges.beta, back c.ranges.d, back (product c)) (sum c)
-
 pub returns : goal.returns
 returns c = simp (back c.ranges.alpha, back c.ranges.beta, back c.ranges.d, back (product c), back (sum c), back (shifted c))

@@ -1,4 +1,4 @@
-use Rattle.rows.proofs.Usual.{◌*◌, ◌≤◌, ◌^◌, arith, rules, pos, ℤ, ◌+ℤ◌, ◌*ℤ◌, ◌-ℤ◌, shr_z, mag, w32, SFits, back, backn, reading, mag-add, back16}
+use Rattle.rows.proofs.Usual.{◌*◌, ◌≤◌, ◌^◌, arith, pos, ℤ, ◌+ℤ◌, ◌*ℤ◌, ◌-ℤ◌, shr_z, mag, w32, SFits, back, backn, mag-add, back16}
 use Rattle.rows.proofs.Usual.{abs_mag, mag-mul}
 use lib.Signed.{mag_shr}
 use Rattle.rows.proofs.Laws.Numbers.Signed.{mag-sub}
@@ -65,9 +65,3 @@ returns c =
     let e = backn w32 c.args.r (omega arith) in
     simp (back c.ranges.t, back c.ranges.k, e, back16 c.ranges.a, back16 c.ranges.b, back (diff c), back (ka-fits c), back (db-fits c), back (sum c))
     (simp (back (all c), back (shifted c)))
-
-pub overflow_mul-result : goal.overflow_mul-result
-overflow_mul-result c = simp (back c.ranges.k, back16 c.ranges.a) (ka-fits c)
-
-pub overflow_sub-result : goal.overflow_sub-result
-overflow_sub-result c = simp (back c.ranges.t, back c.ranges.k) (diff c)

@@ -1,5 +1,5 @@
-use Rattle.rows.proofs.Usual.{◌-◌, arith, rules, nat_abs, w8, at, back, fit}
-use Rattle.rows.proofs.Laws.Numbers.Added.{Added, added_none, added_more, added_all}
+use Rattle.rows.proofs.Usual.{arith, w8, at, back, fit}
+use Rattle.rows.proofs.Laws.Numbers.Added.{added_none, added_more}
 use Rattle.rows.proofs.near.is_near.Goals as goal
 
 pub loop-j-preserved : goal.loop-j-preserved
@@ -9,6 +9,3 @@ loop-j-preserved c =
 
 pub loop-j-init : goal.loop-j-init
 loop-j-init c = added_none _ _ _
-
-pub returns : goal.returns
-returns c = rw (added_all c.loop-j.invariant (omega arith)).0

@@ -10,6 +10,3 @@ pub returns : goal.returns
 returns c =
     let fr : SFits w16 c.near_tap.result = omega arith in
     rw (back fr) (rw (back c.ranges.acc, back c.ranges.f, back c.ranges.x, back (high (goal.at.returns c).Start)) at c.near_tap.ensures)
-
-pub near_tap-requires : goal.near_tap-requires
-near_tap-requires c = rw (back c.ranges.acc, back c.ranges.f, back c.ranges.x, back (high c)) (c.requires, omega (arith, high_byte c.args.x c.ranges.x))

@@ -1,4 +1,4 @@
-use Rattle.rows.proofs.Usual.{◌*◌, ◌≤◌, ◌^◌, ◌/◌, arith, rules, pos, ◌+ℤ◌, ◌*ℤ◌, nat_abs, w32, SFits, back, backn, reading, fit_abs, back16, abs_mag}
+use Rattle.rows.proofs.Usual.{◌*◌, ◌≤◌, ◌^◌, ◌/◌, arith, pos, ◌+ℤ◌, ◌*ℤ◌, nat_abs, w32, SFits, back, backn, fit_abs, back16, abs_mag}
 use Rattle.rows.proofs.Usual.{abs-add}
 use native.Mathlib.Nat.{div-le_self}
 use Rattle.rows.proofs.Laws.Numbers.Signed.{abs-mul-le}
@@ -18,9 +18,6 @@ sum : (s : Start) → SFits w32 (s.args.high *ℤ pos (256 / 2 ^ s.args.n) +ℤ 
 sum s =
     fit_abs w32 (s.args.high *ℤ pos (256 / 2 ^ s.args.n) +ℤ s.args.part)
     (omega (arith, small s, s.ranges.part, abs_mag s.args.part, abs-add (s.args.high *ℤ pos (256 / 2 ^ s.args.n)) s.args.part))
-
-pub overflow_cast-result-2 : goal.overflow_cast-result-2
-overflow_cast-result-2 c = omega (arith, less c)
 
 pub overflow_mul-result : goal.overflow_mul-result
 overflow_mul-result c = rw (back16 c.ranges.high, backn w32 (256 / 2 ^ c.args.n) (omega (arith, less c))) (product c)

@@ -1,4 +1,4 @@
-use Rattle.rows.proofs.Usual.{arith, rules, w32, w16, SFits, back}
+use Rattle.rows.proofs.Usual.{arith, w32, w16, SFits, back}
 use Rattle.rows.proofs.Laws.Filters.Near.{joined_shr}
 use Rattle.rows.proofs.near.near_kept.Goals as goal
 
@@ -22,9 +22,3 @@ returns c =
       back c.ranges.bias,
       ← joined_shr c.args.high c.args.low c.args.r c.args.n c.requires.3,
     )
-
-pub near_rounded-requires : goal.near_rounded-requires
-near_rounded-requires c = rw (back c.ranges.low) (c.requires.1, c.requires.2, omega arith)
-
-pub near_join-requires : goal.near_join-requires
-near_join-requires c = rw (back c.ranges.high) (c.requires.0, c.requires.3)

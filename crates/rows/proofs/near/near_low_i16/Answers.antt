@@ -18,12 +18,3 @@ returns c =
     let fr : SFits w16 c.near_tap.result = omega arith in
     rw (back fr)
     (rw (back c.ranges.acc, back c.ranges.f, back c.ranges.x, back (high s), back (up s), low-is c.args.x, back (low s)) at c.near_tap.ensures)
-
-pub overflow_mul-x : goal.overflow_mul-x
-overflow_mul-x c = rw (back c.ranges.x, back (high c)) (up c)
-
-pub overflow_sub-x : goal.overflow_sub-x
-overflow_sub-x c = rw (back c.ranges.x, back (high c), back (up c), low-is c.args.x) (low c)
-
-pub near_tap-requires : goal.near_tap-requires
-near_tap-requires c = rw (back c.ranges.acc, back c.ranges.f, back c.ranges.x, back (high c), back (up c), low-is c.args.x, back (low c)) (c.requires, low_byte c.args.x)

@@ -1,7 +1,7 @@
-use Rattle.rows.proofs.Usual.{◌*◌, ◌≤◌, arith, ◌+ℤ◌, ◌*ℤ◌, nat_abs, w16, SFits, back, reading, fit_abs, abs-add}
+use Rattle.rows.proofs.Usual.{◌*◌, ◌≤◌, arith, ◌+ℤ◌, ◌*ℤ◌, nat_abs, w16, SFits, back, fit_abs, abs-add}
 use native.Mathlib.Nat.{le_refl}
 use Rattle.rows.proofs.Laws.Numbers.Signed.{abs-mul-le}
-use Rattle.rows.proofs.Laws.Filters.Near.{back8_16, wide8_16}
+use Rattle.rows.proofs.Laws.Filters.Near.{back8_16}
 use Rattle.rows.proofs.near.near_tap.Goals as goal
 use Rattle.rows.proofs.near.near_tap.Goals.{Start}
 
@@ -16,12 +16,6 @@ sum c = fit_abs w16 (c.args.acc +ℤ c.args.f *ℤ c.args.x) (omega (arith, smal
 
 pub returns : goal.returns
 returns c = (simp (back8_16 c.ranges.f, back c.ranges.x, back c.ranges.acc, back (product c), back (sum c)), small c)
-
-pub overflow_cast-result : goal.overflow_cast-result
-overflow_cast-result c = search (reading, wide8_16)
-
-pub overflow_mul-result : goal.overflow_mul-result
-overflow_mul-result c = simp (back8_16 c.ranges.f, back c.ranges.x) (product c)
 
 pub overflow_add-result : goal.overflow_add-result
 overflow_add-result c = simp (back8_16 c.ranges.f, back c.ranges.x, back c.ranges.acc, back (product c)) (sum c)

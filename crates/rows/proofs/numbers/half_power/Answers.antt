@@ -1,4 +1,4 @@
-use Rattle.rows.proofs.Usual.{◌≤◌, ◌^◌, arith, rules}
+use Rattle.rows.proofs.Usual.{◌≤◌, ◌^◌, arith}
 use native.Mathlib.Nat.{pow-le-pow_right}
 use Rattle.rows.proofs.numbers.half_power.Goals as goal
 

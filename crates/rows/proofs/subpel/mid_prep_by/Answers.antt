@@ -1,16 +1,5 @@
-use Rattle.rows.proofs.Usual.{◌-◌, ◌+◌, ◌*◌, arith, pos, length, w16, to_z, at, minus16, low16, Upto, upto_all, upto_none, back}
-use Rattle.rows.specs.Subpel.{tapped}
-use Rattle.rows.proofs.Laws.Filters.Loop.{upto_kept}
+use Rattle.rows.proofs.Usual.{arith, upto_all, back}
 use Rattle.rows.proofs.subpel.mid_prep_by.Goals as goal
-
-pub loop-i-init : goal.loop-i-init
-loop-i-init c = upto_none _ _ _
-
-pub mid_prep_px-v-requires : goal.mid_prep_px-v-requires
-mid_prep_px-v-requires c = (omega arith, omega arith, c.requires.2)
-
-pub loop-i-preserved : goal.loop-i-preserved
-loop-i-preserved c = upto_kept c.loop-i.invariant (omega arith) (omega arith) c.mid_prep_px-v.ensures
 
 pub returns : goal.returns
 returns c = rw (← back c.ranges.bias) (upto_all c.loop-i.invariant (omega arith))

@@ -1,4 +1,4 @@
-use Rattle.rows.proofs.Usual.{◌<◌, ◌^◌, arith, ◌+ℤ◌, ◌*ℤ◌, mag, w32, SFits, back, reading, mag-add, abs_mag, mag-mul}
+use Rattle.rows.proofs.Usual.{◌<◌, ◌^◌, arith, ◌+ℤ◌, ◌*ℤ◌, mag, w32, SFits, back, mag-add, abs_mag, mag-mul}
 use Rattle.rows.proofs.Laws.Numbers.Signed.{back8}
 use Rattle.rows.proofs.subpel.tap.Goals as goal
 use Rattle.rows.proofs.subpel.tap.Goals.{Start}
@@ -14,9 +14,3 @@ sum c = omega (arith, small c, mag-add c.args.acc (c.args.f *ℤ c.args.x))
 
 pub returns : goal.returns
 returns c = (simp (back8 c.ranges.f, back c.ranges.x, back c.ranges.acc, back (product c), back (sum c)), small c)
-
-pub overflow_mul-result : goal.overflow_mul-result
-overflow_mul-result c = simp (back8 c.ranges.f, back c.ranges.x) (product c)
-
-pub overflow_add-result : goal.overflow_add-result
-overflow_add-result c = simp (back8 c.ranges.f, back c.ranges.x, back c.ranges.acc, back (product c)) (sum c)

@@ -1,4 +1,4 @@
-use Rattle.rows.proofs.Usual.{◌-◌, ◌+◌, ◌*◌, ◌≤◌, ◌^◌, arith, ◌*ℤ◌, w16, w32, w8, at, back, fit, steps-le, Summed, summed_mag, summed_none, summed_more}
+use Rattle.rows.proofs.Usual.{◌+◌, ◌*◌, ◌≤◌, arith, w16, w32, w8, at, back, fit, steps-le, summed_none, summed_more}
 use Rattle.rows.specs.Subpel.{S}
 use Rattle.rows.proofs.Laws.Filters.Loop.{summed_eight}
 use Rattle.rows.proofs.subpel.taps_i16.Goals as goal
@@ -21,18 +21,3 @@ returns c = let h = c.loop-j in summed_eight h.invariant.0 (omega arith) h.invar
 
 pub loop-j-init : goal.loop-j-init
 loop-j-init c = (omega arith, summed_none _ _)
-
-pub overflow_mul-j : goal.overflow_mul-j
-overflow_mul-j c = omega (arith, place (goal.at.overflow_mul-j c).In-loop-j)
-
-pub overflow_add-o : goal.overflow_add-o
-overflow_add-o c = omega (arith, place (goal.at.overflow_add-o c).In-loop-j)
-
-pub offset_bounds-src-o : goal.offset_bounds-src-o
-offset_bounds-src-o c = omega (arith, place (goal.at.offset_bounds-src-o c).In-loop-j)
-
-pub bounds-src-o : goal.bounds-src-o
-bounds-src-o c = omega (arith, place (goal.at.bounds-src-o c).In-loop-j)
-
-pub tap_i16-s-requires : goal.tap_i16-s-requires
-tap_i16-s-requires c = omega (arith, summed_mag c.loop-j.invariant.1)

@@ -1,9 +1,6 @@
-use Rattle.rows.proofs.Usual.{◌-◌, ◌+◌, ◌*◌, arith, rules, length, get_or, Upto, upto_all, upto_none, upto_more}
+use Rattle.rows.proofs.Usual.{◌+◌, ◌*◌, length, get_or, Upto}
 use Rattle.rows.specs.WMask.{pair_of}
 use Rattle.rows.proofs.w_mask.pair_row.Given as goal
 
 abbrev pub invariant-loop-i : goal.invariant-loop-i
 invariant-loop-i l = Upto 0 (λ k. pair_of l.sign (get_or l.m (2 * k) 0) (get_or l.m (2 * k + 1) 0)) (length l.initial.mask) l.i l.mask
-
-abbrev pub decreases-loop-i : goal.decreases-loop-i
-decreases-loop-i l = length l.initial.mask - l.i

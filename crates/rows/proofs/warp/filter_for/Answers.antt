@@ -22,23 +22,8 @@ module _ (c : After-filter_no) where
   inside : T (non_neg Z) × (nat_abs Z < length c.args.table.now / 8)
   inside = in_place _ Z c.requires.3
 
-pub filter_no-requires : goal.filter_no-requires
-filter_no-requires c = let p = c.requires in (rw (back (fit w32 c.struct_told-3-1.given.0.1)) p.0, p.1, p.2)
-
 pub overflow_cast-q : goal.overflow_cast-q
 overflow_cast-q c = rw (is c) ((inside c).0, omega (arith, (inside c).1))
-
-pub overflow_mul-q : goal.overflow_mul-q
-overflow_mul-q c = rw (is c) (omega (arith, (inside c).1))
-
-pub overflow_add-result : goal.overflow_add-result
-overflow_add-result c = rw (is c) (omega (arith, (inside c).1))
-
-pub slice_bounds-result-count : goal.slice_bounds-result-count
-slice_bounds-result-count c = rw (is c) (omega (arith, (inside c).1))
-
-pub slice_bounds-result-start : goal.slice_bounds-result-start
-slice_bounds-result-start c = rw (is c) (omega (arith, (inside c).1))
 
 pub slice_bounds-result-end : goal.slice_bounds-result-end
 slice_bounds-result-end c = rw (is c) (omega (arith, (inside c).1))

@@ -1,4 +1,4 @@
-use Rattle.rows.proofs.Usual.{◌≡◌, ◌*◌, ◌≤◌, ◌^◌, arith, rules, pos, ℤ, ◌+ℤ◌, ◌*ℤ◌, nat_abs, shr_z, w32, SFits, to_z, of_z, back, backn, reading, fit_abs}
+use Rattle.rows.proofs.Usual.{◌≡◌, ◌*◌, ◌≤◌, ◌^◌, arith, pos, ℤ, ◌+ℤ◌, ◌*ℤ◌, nat_abs, shr_z, w32, SFits, to_z, of_z, back, backn, fit_abs}
 use Rattle.rows.proofs.Usual.{mag-add, back16, abs_mag, abs-add}
 use Rattle.rows.specs.Warp.{filter_no}
 use Rattle.rows.proofs.Laws.Numbers.Signed.{abs-mul-le, mag-abs, mag_shr}
@@ -76,15 +76,6 @@ unfolding filter_no
 returns c =
     simp
     (rc c, rr c, back16 c.ranges.a, back16 c.ranges.b, fm c, back (a c), back (b c), back (f1 c), back (f2 c), back (f3 c), back (f4 c), back (f5 c))
-
-pub overflow_mul-result : goal.overflow_mul-result
-overflow_mul-result c = simp (rc c, back16 c.ranges.a) (a c)
-
-pub overflow_add-result : goal.overflow_add-result
-overflow_add-result c = simp (rc c, back16 c.ranges.a, fm c, back (a c)) (f1 c)
-
-pub overflow_mul-result-2 : goal.overflow_mul-result-2
-overflow_mul-result-2 c = simp (rr c, back16 c.ranges.b) (b c)
 
 pub overflow_add-result-2 : goal.overflow_add-result-2
 overflow_add-result-2 c = simp (rc c, rr c, back16 c.ranges.a, back16 c.ranges.b, fm c, back (a c), back (b c), back (f1 c)) (f2 c)

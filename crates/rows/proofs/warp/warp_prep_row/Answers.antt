@@ -1,12 +1,8 @@
-use Rattle.rows.proofs.Usual.{◌-◌, ◌+◌, ◌*◌, arith, rules, pos, w32, w16, SFits, to_z, at, minus16, low16, Upto, upto_all, back}
+use Rattle.rows.proofs.Usual.{arith, w32, w16, SFits, at, upto_all, back}
 use Rattle.rows.specs.Warp.{warped}
 use Rattle.rows.proofs.Laws.Filters.Loop.{upto_kept}
-use Rattle.rows.proofs.Laws.Filters.Warp.{upto_start, length-filter, warp_kept_is}
+use Rattle.rows.proofs.Laws.Filters.Warp.{length-filter, warp_kept_is}
 use Rattle.rows.proofs.warp.warp_prep_row.Goals as goal
-
-pub filter_for-f-requires : goal.filter_for-f-requires
-filter_for-f-requires c =
-    (omega arith, omega arith, omega arith, c.requires.row_there c.loop-c.c (omega arith))
 
 pub loop-c-preserved : goal.loop-c-preserved
 unfolding warped
@@ -20,9 +16,6 @@ loop-c-preserved c =
 
 pub returns : goal.returns
 returns c = rw (← back c.ranges.bias) (upto_all c.loop-c.invariant (omega arith))
-
-pub loop-c-init : goal.loop-c-init
-loop-c-init c = upto_start (omega arith)
 
 pub taps_i16-requires : goal.taps_i16-requires
 taps_i16-requires c = omega (arith, length-filter _ _ _ c.filter_for-f.ensures)

@@ -1,4 +1,4 @@
-use Rattle.blocks.proofs.Usual.{rules, back}
+use Rattle.blocks.proofs.Usual.{back}
 use Rattle.blocks.specs.bytes.Depth.{depth_ok}
 use Rattle.blocks.proofs.bytes.depth.depth_ok.Goals as goal
 

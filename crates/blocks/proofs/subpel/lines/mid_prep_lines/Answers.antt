@@ -1,51 +1,20 @@
-use Rattle.blocks.proofs.Usual.{◌*◌, ◌+◌, ◌-◌, arith, rules, pos, length, w16, at, minus16, half, low16, backn, Filled}
-use Rattle.blocks.proofs.Usual.{filled_none, block-loop, filled_more}
-use Rattle.rows.specs.Subpel.{tapped}
-use Rattle.blocks.specs.inner.Source.{top_down}
-use Rattle.blocks.proofs.Laws.Subpel.Lines.{Turn, turn, half-short}
+use Rattle.blocks.proofs.Usual.{arith, pos, w16, backn, filled_none, filled_more, filled_all}
+use Rattle.blocks.proofs.Laws.Subpel.Lines.{line, half-short}
 use Rattle.blocks.proofs.subpel.lines.mid_prep_lines.Goals as goal
-use Rattle.blocks.proofs.subpel.lines.mid_prep_lines.Goals.{In-loop-y}
 
-row : (c : In-loop-y) → let a = c.args in
-    Turn c.loop-y.tmp a.tmp_stride (length a.mid.now) (top_down 0 64) 64 a.w c.loop-y.y
-row c = turn (pos 0) c.requires.0 c.loop-y.invariant c.loop-y-test.true
+pub loop-y-init : goal.loop-y-init
+loop-y-init c = filled_none (pos 0) _ _ _ _ _ (omega (arith, c.requires.0.dst))
 
 pub loop-y-preserved : goal.loop-y-preserved
 loop-y-preserved c =
-    filled_more (pos 0) _ c.loop-y.invariant c.requires.0.w1 c.requires.0.dst c.loop-y-test.true
+    let p = c.requires.0 in
+    filled_more (pos 0) _ c.loop-y.invariant p.w1 p.dst c.loop-y-test.true
     (rw (c.half_power-r.ensures.0, backn w16 c.args.bias (omega (arith, c.requires))) at c.mid_prep_row.ensures)
 
 pub mid_prep_row-requires : goal.mid_prep_row-requires
 mid_prep_row-requires c =
     let p = c.requires in
-    (omega (arith, row (goal.at.mid_prep_row-requires c).In-loop-y), half-short c.half_power-r.ensures.0 p.2, omega (arith, p), p.1)
-
-pub loop-y-init : goal.loop-y-init
-loop-y-init c = filled_none (pos 0) _ _ _ _ _ (omega (arith, c.requires.0.dst))
-
-pub overflow_mul-d : goal.overflow_mul-d
-overflow_mul-d c = omega (arith, row c)
-
-pub overflow_add-d : goal.overflow_add-d
-overflow_add-d c = omega (arith, row c)
-
-pub offset_bounds-tmp-d : goal.offset_bounds-tmp-d
-offset_bounds-tmp-d c = omega (arith, row c)
-
-pub slice_bounds-mid_prep_row-count : goal.slice_bounds-mid_prep_row-count
-slice_bounds-mid_prep_row-count c = omega (arith, row c)
-
-pub slice_bounds-mid_prep_row-start : goal.slice_bounds-mid_prep_row-start
-slice_bounds-mid_prep_row-start c = omega (arith, row c)
-
-pub slice_bounds-mid_prep_row-end : goal.slice_bounds-mid_prep_row-end
-slice_bounds-mid_prep_row-end c = omega (arith, row c)
-
-pub overflow_mul-y : goal.overflow_mul-y
-overflow_mul-y c = omega (arith, row (goal.at.overflow_mul-y c).In-loop-y)
-
-pub shape_of-tmp : goal.shape_of-tmp
-shape_of-tmp c = search block-loop
+    (omega (arith, line (pos 0) p.0 c.loop-y.invariant c.loop-y-test.true), half-short c.half_power-r.ensures.0 p.2, omega (arith, p), p.1)
 
 pub returns : goal.returns
-returns c = search block-loop
+returns c = filled_all c.loop-y.invariant (omega arith)

@@ -1,4 +1,4 @@
-use Rattle.blocks.proofs.Usual.{arith, rules, back, rd}
+use Rattle.blocks.proofs.Usual.{arith, back, rd}
 use Rattle.blocks.specs.Subpel.{filter_in}
 use Rattle.blocks.proofs.subpel.plan.filter_in.Goals as goal
 

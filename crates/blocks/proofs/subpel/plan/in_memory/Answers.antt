@@ -1,6 +1,5 @@
-use Rattle.blocks.proofs.Usual.{◌∙◌, ◌-◌, arith, pos, at, back, fit}
-use mir.Syntax.{w8}
-use Rattle.rows.proofs.Laws.Blocks.Row.{Upto, upto_none, upto_more, upto_all}
+use Rattle.blocks.proofs.Usual.{◌∙◌, arith, rules, pos}
+use Rattle.rows.proofs.Laws.Blocks.Row.{upto_none, upto_more, upto_all}
 use Rattle.blocks.proofs.Laws.Subpel.Turned.{memory_same, memory_turned}
 use Rattle.blocks.proofs.subpel.plan.in_memory.Goals as goal
 
@@ -14,4 +13,4 @@ pub loop-t-init : goal.loop-t-init
 loop-t-init c = upto_none (pos 0) _ _
 
 pub loop-t-preserved : goal.loop-t-preserved
-loop-t-preserved c = upto_more c.loop-t.invariant (omega arith) (back (fit w8 c.r-1.given))
+loop-t-preserved c = upto_more c.loop-t.invariant (omega arith) (search rules)

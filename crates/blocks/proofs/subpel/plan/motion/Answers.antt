@@ -1,8 +1,11 @@
-use Rattle.blocks.proofs.Usual.{rules, w32, told_back}
+use Rattle.blocks.proofs.Usual.{◌≡◌, rules}
+use Rattle.blocks.specs.Subpel.{type_ok, fraction_ok}
 use Rattle.blocks.proofs.subpel.plan.motion.Goals as goal
 
 pub returns : goal.returns
 returns c =
-    let g = c.struct_told-3-1.given in
-    rw (c.needed-2.ensures, c.type_ok.ensures, c.needed-fractions.ensures, c.needed.ensures)
-    (rw (c.fraction_ok-2.ensures, c.fraction_ok.ensures, told_back w32 g.1.1, told_back w32 g, told_back w32 g.1))
+    let m = c.args.m in
+    let t : c.type_ok.result ≡ type_ok m.filter_type = search rules in
+    let x : c.fraction_ok.result ≡ fraction_ok m.filter_type m.mx = search rules in
+    let y : c.fraction_ok-2.result ≡ fraction_ok m.filter_type m.my = search rules in
+    rw (c.needed-2.ensures, t, c.needed-fractions.ensures, x, c.needed.ensures, y)

@@ -1,4 +1,4 @@
-use Rattle.blocks.proofs.Usual.{refl, rules}
+use Rattle.blocks.proofs.Usual.{refl}
 use Rattle.blocks.proofs.subpel.plan.plan_from.Goals as goal
 
 pub returns : goal.returns

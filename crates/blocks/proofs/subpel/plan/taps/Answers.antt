@@ -1,4 +1,4 @@
-use Rattle.blocks.proofs.Usual.{refl, rules, row_of, row_from}
+use Rattle.blocks.proofs.Usual.{refl, row_of, row_from}
 use Rattle.blocks.specs.inner.Subpel.{axis_of, taps_of}
 use Rattle.blocks.proofs.subpel.plan.taps.Goals as goal
 

@@ -1,4 +1,4 @@
-use Rattle.blocks.proofs.Usual.{◌≡◌, ◌∙◌, ap, rules, up, back}
+use Rattle.blocks.proofs.Usual.{◌≡◌, ◌∙◌, ap, up, back}
 use Rattle.blocks.proofs.Laws.words.Depth.{depth-high}
 use Rattle.blocks.proofs.words.depth.depth_numbers.Goals as goal
 use Rattle.blocks.proofs.words.depth.depth_numbers.Goals.{After-up32-d}

@@ -1,4 +1,4 @@
-use Rattle.blocks.proofs.Usual.{rules, back}
+use Rattle.blocks.proofs.Usual.{back}
 use Rattle.blocks.specs.words.Depth.{depth_ok}
 use Rattle.blocks.proofs.words.depth.depth_ok.Goals as goal
 

@@ -1,16 +1,14 @@
-use Rattle.rows.proofs.Usual.{◌-◌, arith, pos, length, Upto, upto_all, upto_none}
+use Rattle.rows.proofs.Usual.{◌≡◌, ◌+◌, ◌*◌, min, arith, subst, pos, length, Upto, upto_all}
 use Rattle.rows.specs.inner.Scaled.{pair_mid}
 use Rattle.rows.proofs.Laws.Blocks.Part.{upto_part}
 use Rattle.rows.proofs.bytes.pairs.scaled_bilin_eights.Goals as goal
 
-pub loop-i-init : goal.loop-i-init
-loop-i-init c = upto_none _ _ _
-
-pub scaled_bilin_eight-requires : goal.scaled_bilin_eight-requires
-scaled_bilin_eight-requires c = let i = c.loop-i.invariant in (omega arith, omega arith, rw i.len c.requires.2)
-
-pub loop-i-preserved : goal.loop-i-preserved
-loop-i-preserved c = upto_part _ 8 c.loop-i.invariant c.eight_from-at.ensures.0 (omega arith) c.scaled_bilin_eight.ensures
+pub loop-k-preserved : goal.loop-k-preserved
+loop-k-preserved c =
+    let a = c.args in
+    let next : c.eight_from.result + 8 ≡ min (8 * (c.loop-k.k + 1)) (length a.mid.now) = omega arith in
+    subst (λ i. Upto (pos 0) (pair_mid a.src.now a.pixels.now a.fractions.now 0) (length a.mid.now) i c.scaled_bilin_eight.new.mid) next
+    (upto_part _ 8 c.loop-k.invariant (omega arith) (omega arith) c.scaled_bilin_eight.ensures)
 
 pub returns : goal.returns
-returns c = upto_all c.loop-i.invariant (omega arith)
+returns c = upto_all c.loop-k.invariant (omega arith)

@@ -1,10 +1,6 @@
-use Rattle.rows.proofs.Usual.{◌-◌, arith, pos, length, Upto, upto_all, upto_none}
+use Rattle.rows.proofs.Usual.{◌*◌, min, pos, length, Upto}
 use Rattle.rows.specs.inner.Scaled.{pair_mid}
-use Rattle.rows.proofs.Laws.Blocks.Part.{upto_part}
 use Rattle.rows.proofs.bytes.pairs.scaled_bilin_eights.Given as goal
 
-abbrev pub invariant-loop-i : goal.invariant-loop-i
-invariant-loop-i l = Upto (pos 0) (pair_mid l.src l.pixels l.fractions 0) (length l.initial.mid) l.i l.mid
-
-abbrev pub decreases-loop-i : goal.decreases-loop-i
-decreases-loop-i l = l.w - l.i
+abbrev pub invariant-loop-k : goal.invariant-loop-k
+invariant-loop-k l = Upto (pos 0) (pair_mid l.src l.pixels l.fractions 0) (length l.initial.mid) (min (8 * l.k) l.w) l.mid

@@ -1,4 +1,4 @@
-use Rattle.rows.proofs.Usual.{◌∙◌, ◌-◌, arith, pos, length, w16, SFits, Upto, upto_all, upto_none, upto_more, back}
+use Rattle.rows.proofs.Usual.{◌-◌, pos, length, Upto}
 use Rattle.rows.specs.inner.Scaled.{pair_mid}
 use Rattle.rows.proofs.bytes.pairs.scaled_bilin_few.Given as goal
 

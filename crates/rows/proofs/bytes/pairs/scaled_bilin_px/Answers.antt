@@ -1,4 +1,4 @@
-use Rattle.rows.proofs.Usual.{◌∙◌, ap₂, ℕ, arith, rules, pos, get_or, w16, SFits, back}
+use Rattle.rows.proofs.Usual.{◌∙◌, ap₂, ℕ, arith, pos, get_or, w16, SFits, back}
 use Rattle.rows.specs.Bilinear.{bilin}
 use Rattle.rows.proofs.Laws.Filters.Scaled.{byte_mid}
 use Rattle.rows.proofs.bytes.pairs.scaled_bilin_px.Goals as goal

@@ -1,12 +1,7 @@
-use Rattle.rows.proofs.Usual.{arith, rules, w16, SFits, back, backn}
+use Rattle.rows.proofs.Usual.{arith, w16, SFits, back, backn}
 use Rattle.rows.specs.Bilinear.{R}
-use Rattle.rows.proofs.Laws.Filters.Bilinear.{sum_joined, half-small}
+use Rattle.rows.proofs.Laws.Filters.Bilinear.{sum_joined}
 use Rattle.rows.proofs.words.between.prep_between.Goals as goal
-
-pub near_kept-requires : goal.near_kept-requires
-near_kept-requires c =
-    let r = half-small c.requires.2 (omega arith) in
-    rw (backn w16 c.high_between-high.result (omega arith), backn w16 c.low_between-low.result (omega arith)) (omega (arith, r))
 
 pub returns : goal.returns
 unfolding R

@@ -1,4 +1,4 @@
-use Rattle.rows.proofs.Usual.{arith, rules}
+use Rattle.rows.proofs.Usual.{arith}
 use Rattle.rows.proofs.Laws.Filters.Bilinear.{sum_joined}
 use Rattle.rows.proofs.words.between.put_between.Goals as goal
 

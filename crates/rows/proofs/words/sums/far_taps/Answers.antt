@@ -1,4 +1,4 @@
-use Rattle.rows.proofs.Usual.{◌-◌, ◌+◌, ◌*◌, ◌≤◌, ◌^◌, arith, ◌*ℤ◌, w32, w8, at, px, back, fit, steps-le, Summed, summed_mag, summed_none, summed_more}
+use Rattle.rows.proofs.Usual.{◌*◌, ◌≤◌, arith, w32, w8, at, back, fit, steps-le, summed_none, summed_more}
 use Rattle.rows.specs.Subpel.{S}
 use Rattle.rows.proofs.Laws.Filters.Loop.{summed_eight}
 use Rattle.rows.proofs.words.sums.far_taps.Goals as goal
@@ -19,18 +19,3 @@ returns c = let h = c.loop-j in summed_eight h.invariant.0 (omega arith) h.invar
 
 pub loop-j-init : goal.loop-j-init
 loop-j-init c = (omega arith, summed_none _ _)
-
-pub overflow_mul-j : goal.overflow_mul-j
-overflow_mul-j c = omega (arith, place (goal.at.overflow_mul-j c).In-loop-j)
-
-pub overflow_add-o : goal.overflow_add-o
-overflow_add-o c = omega (arith, place (goal.at.overflow_add-o c).In-loop-j)
-
-pub offset_bounds-src-o : goal.offset_bounds-src-o  -- words
-offset_bounds-src-o c = omega (arith, place (goal.at.offset_bounds-src-o c).In-loop-j)  -- words
-
-pub bounds-src-o : goal.bounds-src-o
-bounds-src-o c = omega (arith, place (goal.at.bounds-src-o c).In-loop-j)
-
-pub tap_pixel-s-requires : goal.tap_pixel-s-requires
-tap_pixel-s-requires c = omega (arith, summed_mag c.loop-j.invariant.1)

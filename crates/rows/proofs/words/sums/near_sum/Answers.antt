@@ -1,11 +1,8 @@
-use Rattle.rows.proofs.Usual.{◌∙◌, arith, rules, w32, SFits, back}
-use Rattle.rows.proofs.Laws.Filters.Near.{parts_fit, whole_is}
+use Rattle.rows.proofs.Usual.{◌∙◌, arith, w32, SFits, back}
+use Rattle.rows.proofs.Laws.Filters.Near.{whole_is}
 use Rattle.rows.proofs.words.sums.near_sum.Goals as goal
 
 pub returns : goal.returns
 returns c =
     let fr : SFits w32 c.near_whole.result = omega arith in
     rw (back fr) (c.near_whole.ensures.0 ∙ whole_is _ _ c.near_bytes.ensures c.near_bytes-2.ensures, c.near_whole.ensures.1)
-
-pub near_whole-requires : goal.near_whole-requires
-near_whole-requires c = parts_fit c.near_bytes.ensures c.near_bytes-2.ensures

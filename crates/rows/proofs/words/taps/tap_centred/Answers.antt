@@ -1,4 +1,4 @@
-use Rattle.rows.proofs.Usual.{arith, rules, pos, ◌-ℤ◌, w32, w16, SFits, back, backn, reading}
+use Rattle.rows.proofs.Usual.{arith, pos, ◌-ℤ◌, w32, w16, SFits, back, backn}
 use Rattle.rows.proofs.Laws.Numbers.Signed.{wide16}
 use Rattle.rows.proofs.Laws.Filters.Centred.{centred_fits}
 use Rattle.rows.proofs.words.taps.tap_centred.Goals as goal
@@ -13,9 +13,3 @@ returns c =
     let fr : SFits w32 c.tap_i16.result = omega arith in
     rw (back fr)
     (rw (back c.ranges.acc, back c.ranges.f, backn w32 c.args.x (omega arith), back (wide16 (short s)), back (short s)) at c.tap_i16.ensures)
-
-pub overflow_sub-x : goal.overflow_sub-x
-overflow_sub-x c = rw (backn w32 c.args.x (omega arith)) (wide16 (short c))
-
-pub overflow_cast-x-2 : goal.overflow_cast-x-2
-overflow_cast-x-2 c = rw (backn w32 c.args.x (omega arith), back (wide16 (short c))) (short c)

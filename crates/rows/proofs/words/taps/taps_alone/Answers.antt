@@ -1,4 +1,4 @@
-use Rattle.rows.proofs.Usual.{◌≡◌, refl, ◌-◌, ◌≤◌, arith, ◌+ℤ◌, w32, w8, SFits, to_z, at, back, fit, reading, mag-add, Summed, summed_mag, summed_none, summed_more}
+use Rattle.rows.proofs.Usual.{refl, arith, ◌+ℤ◌, w32, w8, SFits, to_z, at, back, fit, mag-add, summed_mag, summed_none, summed_more}
 use Rattle.rows.proofs.Laws.Numbers.Signed.{back8}
 use Rattle.rows.proofs.words.taps.taps_alone.Goals as goal
 use Rattle.rows.proofs.words.taps.taps_alone.Goals.{After-s-1}
@@ -23,15 +23,5 @@ loop-j-preserved c =
     let h = c.loop-j in
     rw (back8 (fits c), back (sum-fits c)) (omega arith, summed_more h.invariant.1 (refl, omega (arith, c.s-1.given)))
 
-pub returns : goal.returns
-returns c =
-    let h = c.loop-j in
-    let e : h.j ≡ 8 = omega (arith, h.invariant.0) in
-    let p = rw e at h.invariant.1 in
-    (p.is, omega (arith, summed_mag p))
-
 pub loop-j-init : goal.loop-j-init
 loop-j-init c = (omega arith, summed_none _ _)
-
-pub overflow_add-s : goal.overflow_add-s
-overflow_add-s c = rw (back8 (fits c)) (sum-fits c)

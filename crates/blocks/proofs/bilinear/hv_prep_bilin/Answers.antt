@@ -1,0 +1,44 @@
+use Rattle.blocks.proofs.Usual.{◌≡◌, ◌∙◌, sym, length, lowest, numbers_of, up, back, done, refused}
+use Rattle.rows.proofs.Laws.Pixels.Values.{values-length}
+use Rattle.blocks.specs.Bilinear.{bilin_tests}
+use Rattle.blocks.proofs.Laws.Loops.Stands.{around-down}
+use Rattle.blocks.proofs.Laws.Bilinear.Ready.{bilin_ready}
+use Rattle.blocks.proofs.bilinear.hv_prep_bilin.Goals as goal
+use Rattle.blocks.proofs.bilinear.hv_prep_bilin.Goals.{After-check_bilin-number, After-depth_numbers-d}
+
+number : (g : _) (c : After-check_bilin-number g) → let a = c.args in
+    c.check_bilin-number.result
+    ≡ lowest (bilin_tests (g.P.Sample.depth_ok a.depth) (length a.tmp.now) a.tmp_stride (length a.src.now) a.src_stride a.w a.h a.mx a.my)
+number g c = rw (c.depth_ok.ensures.is, back c.ranges.depth, back c.ranges.mx, back c.ranges.my) at c.check_bilin-number.ensures
+
+depth : (g : _) (c : After-depth_numbers-d g) → c.depth_numbers-d.result ≡ numbers_of (up c.args.depth)
+depth g c = rw (back c.ranges.depth) at c.depth_numbers-d.ensures.is
+
+pub depth_numbers-d-requires : goal.depth_numbers-d-requires
+depth_numbers-d-requires g c =
+    let n = number g (goal.at.depth_numbers-d-requires g c).After-check_bilin-number in
+    rw (back c.ranges.depth) (bilin_ready _ _ (sym n ∙ c.if-number-eq0.true)).0
+
+pub prep_bilin_rows-requires : goal.prep_bilin_rows-requires
+prep_bilin_rows-requires g c =
+    let at = goal.at.prep_bilin_rows-requires g c in let f = c.ranges in
+    let p = (bilin_ready _ _ (sym (number g at.After-check_bilin-number) ∙ c.if-number-eq0.true)).1 in
+    let bits = rw (back f.depth) at c.depth_numbers-d.ensures.bits in
+    let bias = rw (back f.depth) at c.depth_numbers-d.ensures.bias in
+    rw (depth g at.After-depth_numbers-d, c.top_down-s.ensures, c.up32-f.ensures, c.up32-g.ensures, back f.mx, back f.my) (p, bits, bias)
+
+pub returns-then-number-eq0 : goal.returns-then-number-eq0
+returns-then-number-eq0 g c =
+    let a = c.args in let f = c.ranges in let src = g.P.Pixel.values a.src.now in
+    let at = goal.at.returns-then-number-eq0 g c in
+    let new =
+    rw (depth g at.After-depth_numbers-d, c.top_down-s.ensures, around-down 0 src 0 a.src_stride, c.up32-f.ensures, c.up32-g.ensures, back f.mx, back f.my)
+    at c.prep_bilin_rows.ensures in (
+      rw (values-length g.met.P.Pixel.each a.src.now) (number g at.After-check_bilin-number),
+      new ∙ sym (done _ _ _ c.if-number-eq0.true),
+    )
+
+pub returns-else-number-eq0 : goal.returns-else-number-eq0
+returns-else-number-eq0 g c =
+    let n = number g (goal.at.returns-else-number-eq0 g c).After-check_bilin-number in
+    (rw (values-length g.met.P.Pixel.each c.args.src.now) n, sym (refused _ _ _ c.if-number-eq0.false))

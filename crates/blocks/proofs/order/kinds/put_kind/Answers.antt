@@ -1,0 +1,52 @@
+use Rattle.blocks.proofs.Usual.{◌∙◌, ap, ◌*◌, ◌+◌, fill, put_rule, before}
+use Rattle.rows.specs.Copy.{put}
+use Rattle.blocks.proofs.Laws.Loops.Stands.{around-down}
+use Rattle.blocks.proofs.Laws.Order.Kinds.{copy_ready, subpel_ready, bilin_ready, warp_ready}
+use Rattle.blocks.proofs.Laws.Order.Kinds.{bilin_passed, warp-size, from_window, no_margin}
+use Rattle.blocks.proofs.order.kinds.put_kind.Goals as goal
+
+pub put_rows-requires : goal.put_rows-requires
+put_rows-requires g c =
+    let p = c.requires in
+    rw c.top_down-first.ensures (copy_ready p.0 p.1 c.in-Copy.is)
+
+pub put_8tap_rows-requires : goal.put_8tap_rows-requires
+put_8tap_rows-requires g c =
+    let p = c.requires in
+    let r = subpel_ready p.0 p.1 c.in-Subpel.is in
+    rw c.top_down-first-in-Subpel.ensures (r.0, r.1, r.2, p.2, p.3, p.4)
+
+pub put_bilin_rows-requires : goal.put_bilin_rows-requires
+put_bilin_rows-requires g c =
+    let p = c.requires in
+    rw (c.top_down-first-in-Bilinear.ensures, c.up32-f.ensures, c.up32-g.ensures) (bilin_ready p.0 p.1 (bilin_passed c.in-Bilinear.is c.struct_told-in-Bilinear-1.given), p.2, p.4)
+
+pub warp_put-requires : goal.warp_put-requires
+warp_put-requires g c =
+    let p = c.requires in
+    rw c.top_down-first-in-Warp.ensures (warp_ready p.0 p.1 c.in-Warp.is, p.2, p.4)
+
+pub returns-in-Copy : goal.returns-in-Copy
+unfolding put_rule
+returns-in-Copy g c =
+    rw c.in-Copy.is (rw c.top_down-first.ensures at c.put_rows.ensures ∙ ap (fill _ _ _ _) (from_window put _ _))
+
+pub returns-in-Subpel : goal.returns-in-Subpel
+unfolding put_rule before
+returns-in-Subpel g c =
+    rw (c.in-Subpel.is, ← around-down 3 _ _ _) (rw c.top_down-first-in-Subpel.ensures at c.put_8tap_rows.ensures)
+
+pub returns-in-Bilinear : goal.returns-in-Bilinear
+unfolding put_rule before
+returns-in-Bilinear g c =
+    let r = c.args in
+    let e = rw (c.top_down-first-in-Bilinear.ensures, around-down 0 (g.P.Pixel.values r.src.now) 0 r.l.src_stride, c.up32-f.ensures, c.up32-g.ensures) at c.put_bilin_rows.ensures in
+    rw (bilin_passed c.in-Bilinear.is c.struct_told-in-Bilinear-1.given, no_margin c.args.l.src_stride) e
+
+pub returns-in-Warp : goal.returns-in-Warp
+unfolding put_rule before
+returns-in-Warp g c =
+    let e = c.in-Warp.is in let a = c.args in
+    let z = warp-size c.requires.0 e in
+    rw (z.0, z.1, e) (rw (c.top_down-first-in-Warp.ensures, around-down 3 (g.P.Pixel.values a.src.now) (3 * a.l.src_stride + 3) a.l.src_stride)
+    at c.warp_put.ensures)

@@ -1,0 +1,56 @@
+use Rattle.blocks.proofs.Usual.{◌+◌, ◌*◌, ◌<◌, refl, ap, arith, rules, length, clip}
+use Rattle.blocks.proofs.Laws.Loops.Groups.{holds-first}
+use Rattle.blocks.proofs.Laws.Loops.ByEight.{group_at, grouped_first, grouped_here, grouped_more, grouped_end, shown_long, shown_group}
+use Rattle.blocks.proofs.Laws.Subpel.Both.{TurnBoth, turn_both, first-held, second-held, seven_lines, first_lines, second_lines}
+use Rattle.blocks.proofs.Laws.Subpel.Lines.{told_near}
+use Rattle.blocks.proofs.subpel.both.put_8tap_both.Goals as goal
+use Rattle.blocks.proofs.subpel.both.put_8tap_both.Goals.{After-eight_at_most-k, then-y-k, else-y-k}
+
+turn : (g : _) (c : After-eight_at_most-k g) → let a = c.args in
+    TurnBoth (length a.dst.now) a.dst_stride (length a.src.now) a.p.rows (a.w + 7 * a.p.step) a.w a.h (8 * c.loop-group.group) c.eight_at_most-k.result
+turn g c = turn_both c.requires.1 c.requires.2 c.loop-group-test.true c.eight_at_most-k.ensures
+
+pub prep_lines-requires : goal.prep_lines-requires
+prep_lines-requires g c = let p = c.requires in (seven_lines p.0 p.2, p.3, p.4, p.5, g.met.P.Pixel.no_bias)
+
+pub loop-group-init : goal.loop-group-init
+loop-group-init g c =
+    grouped_first 0 (omega (arith, c.requires)) c.prep_lines.auto.tmp (holds-first c.requires.0.w64 _ 7 (omega arith) c.prep_lines.ensures)
+
+pub prep_lines-requires-in-loop-group : goal.prep_lines-requires-in-loop-group
+prep_lines-requires-in-loop-group g c =
+    let p = c.requires in
+    let t = turn g (goal.at.prep_lines-requires-in-loop-group g c).After-eight_at_most-k in
+    rw c.plan_from-q.ensures (first_lines t p.0 _ c.loop-group.invariant.long, p.3, p.4, p.5, g.met.P.Pixel.no_bias)
+
+pub offset_bounds-dst-a : goal.offset_bounds-dst-a
+offset_bounds-dst-a g c =
+    let t = turn g (goal.at.offset_bounds-dst-a g c).After-eight_at_most-k in
+    let room : 8 * c.loop-group.group * c.args.dst_stride < length c.args.dst.now = omega (arith, t.to, c.requires.0) in
+    search rules
+
+pub slice_bounds-mid_lines-end : goal.slice_bounds-mid_lines-end
+slice_bounds-mid_lines-end g c =
+    let t = turn g (goal.at.slice_bounds-mid_lines-end g c).After-eight_at_most-k in
+    omega (arith, t.to, shown_long g.met.P.Pixel.each c.loop-group.invariant.dst)
+
+pub mid_lines-requires : goal.mid_lines-requires
+mid_lines-requires g c =
+    let p = c.requires in
+    let t = turn g (goal.at.mid_lines-requires g c).After-eight_at_most-k in
+    let long = shown_long g.met.P.Pixel.each c.loop-group.invariant.dst in
+    (second_lines t.to p.0 _ p.1 long refl (search rules), told_near _ c.is_near-near.ensures, omega arith, omega arith, p.6)
+
+pub loop-group-preserved : goal.loop-group-preserved
+loop-group-preserved g c =
+    let a = c.args in let p = c.requires in
+    let t = turn g (goal.at.loop-group-preserved g c).After-eight_at_most-k in
+    let at = group_at c.loop-group-test.true c.eight_at_most-k.ensures in
+    let i = grouped_here at c.loop-group.invariant in
+    let m = first-held _ _ t p.0.w64 c.plan_from-q.ensures i.long (i.rows at.within) c.prep_lines-in-loop-group.ensures in
+    let made = rw c.bits_of.ensures.is at c.mid_lines.ensures in
+    let d = shown_group g.met.P.Pixel.each i.dst p.1 p.0.w1 _ t.to.some t.to.left _ (λ i j u v. ap (clip a.d.max) (second-held m.1 a.p.second _ _ i j u v)) _ refl _ made in
+    elim c.if-y-k.branch [
+      | then-y-k w ↦ rw w.mid-is (grouped_more at w.if-y-k.true p.0.w64 (omega arith) d m w.carry.ensures)
+      | else-y-k w ↦ rw w.mid-is (grouped_end at w.if-y-k.false d m.0)
+    ]

@@ -1,0 +1,71 @@
+use Rattle.blocks.proofs.Usual.{◌++◌, refl, ◌≤◌, ◌*◌, ◌+◌, ◌<◌, ◌/◌, arith, length, drop, filled_none, row_in}
+use Rattle.blocks.proofs.Usual.{filled_more, Turn, turn, filled_all}
+use Rattle.rows.specs.WMask.{mask_at}
+use Rattle.blocks.proofs.Laws.WMask.Weighed.{weigh, Front, front, front_span, fours}
+use Rattle.blocks.proofs.w_mask.keep_fours.Goals as goal
+use Rattle.blocks.proofs.w_mask.keep_fours.Goals.{In-loop-y, After-weight_row, After-weight_row-in-loop-y}
+
+-- in a turn, rows 2y and 2y + 1 are within both intermediates, and row y within the mask
+below : (c : In-loop-y) → 2 * c.loop-y.y + 1 < c.args.h
+below c = omega (arith, c.loop-y-test.true)
+
+row : (c : In-loop-y) → let a = c.args in let y = c.loop-y.y in
+    Turn a.mask_stride (a.w / 2) y c.loop-y.mask
+    × (2 * y * a.w + a.w ≤ length a.tmp1.now) × (2 * y * a.w + a.w ≤ length a.tmp2.now)
+    × ((2 * y + 1) * a.w + a.w ≤ length a.tmp1.now) × ((2 * y + 1) * a.w + a.w ≤ length a.tmp2.now)
+row c =
+    let p = c.requires.0 in let y = c.loop-y.y in let lt = below c in (
+      turn 0 c.loop-y.invariant.0 p.mask c.loop-y-test.true,
+      row_in (2 * y) p.tmp1 (omega arith),
+      row_in (2 * y) p.tmp2 (omega arith),
+      row_in (2 * y + 1) p.tmp1 lt,
+      row_in (2 * y + 1) p.tmp2 lt,
+    )
+
+-- the weights of each row, as they stand in its array
+first : (c : After-weight_row) → let a = c.args in
+    Front a.w (λ i. weigh a.depth a.bits a.tmp1.now a.tmp2.now a.w i (2 * c.loop-y.y))
+    (c.weight_row.new.m ++ drop a.w c.loop-y.m)
+first c = front _ _ _ _ c.requires.0.block.w64 c.loop-y.invariant.1 c.weight_row.ensures
+
+second : (c : After-weight_row-in-loop-y) → let a = c.args in
+    Front a.w (λ i. weigh a.depth a.bits a.tmp1.now a.tmp2.now a.w i (2 * c.loop-y.y + 1))
+    (c.weight_row-in-loop-y.new.m ++ drop a.w c.loop-y.n)
+second c = front _ _ _ _ c.requires.0.block.w64 c.loop-y.invariant.2 c.weight_row-in-loop-y.ensures
+
+pub loop-y-init : goal.loop-y-init
+loop-y-init c = (filled_none 0 _ _ _ _ _ (omega (arith, c.requires)), refl, refl)
+
+pub loop-y-preserved : goal.loop-y-preserved
+unfolding mask_at
+loop-y-preserved c =
+    let p = c.requires.0 in let at = goal.at.loop-y-preserved c in
+    let m = first at.After-weight_row in let n = second at.After-weight_row-in-loop-y in (
+      filled_more 0 _ c.loop-y.invariant.0 p.mw1 p.mask c.loop-y-test.true
+          (fours _ _ _ m n (omega (arith, (row at.In-loop-y).0)) c.four_row.ensures),
+      m.len,
+      n.len,
+    )
+
+pub weight_row-requires : goal.weight_row-requires
+weight_row-requires c =
+    let p = c.requires in let d = p.2 in
+    let k = row (goal.at.weight_row-requires c).In-loop-y in
+    let n = front_span c.args.w c.loop-y.m p.0.block.w64 c.loop-y.invariant.1 in
+    record { m_in_bounds = omega (arith, k, n); le_depth = omega (arith, d.deep, d) }
+
+pub weight_row-requires-in-loop-y : goal.weight_row-requires-in-loop-y
+weight_row-requires-in-loop-y c =
+    let p = c.requires in let d = p.2 in
+    let k = row (goal.at.weight_row-requires-in-loop-y c).In-loop-y in
+    let n = front_span c.args.w c.loop-y.n p.0.block.w64 c.loop-y.invariant.2 in
+    record { m_in_bounds = omega (arith, k, n); le_depth = omega (arith, d.deep, d) }
+
+pub four_row-requires : goal.four_row-requires
+four_row-requires c =
+    let p = c.requires in let at = goal.at.four_row-requires c in
+    let k = (row at.In-loop-y).0 in let m = first at.After-weight_row in let n = second at.After-weight_row-in-loop-y in
+    (omega (arith, k, m.len, p.0.block), omega (arith, k, n.len, p.0.block), p.1)
+
+pub returns : goal.returns
+returns c = filled_all c.loop-y.invariant.0 (omega arith)

@@ -1,0 +1,2 @@
+-- What the contracts of the C functions tell their callers.
+pub mod Told
