@@ -1,17 +1,15 @@
 -- Rows from a reference of another size: how far their positions go, and the intermediate at a position, by its fraction. Assumes nothing.
-use Rattle.rows.proofs.Usual.{List, ◌≡◌, ◌∙◌, ap, sym, ap₂, ◌-◌, ◌+◌, ◌*◌, ◌≤◌, ◌<◌, ◌^◌, ℕ, suc, zero, add-zero, arith, pos, ℤ, length, get_or, px}
-use Rattle.rows.proofs.Usual.{minus16, low16, span, row_of}
+use Rattle.rows.proofs.Usual.{List, ◌≡◌, ◌∙◌, ap, sym, ◌-◌, ◌+◌, ◌*◌, ◌≤◌, ◌<◌, ◌^◌, ℕ, suc, zero, add-zero, arith, pos, ℤ, length, get_or, px}
+use Rattle.rows.proofs.Usual.{minus16, low16, span}
 use native.Mathlib.Nat.{mul-le-mul}
 use Rattle.rows.specs.Numbers.{half}
 use Rattle.rows.specs.Copy.{prep}
 use Rattle.rows.specs.Subpel.{filter, tapped}
-use Rattle.rows.specs.Bilinear.{bilin, R}
-use Rattle.rows.specs.inner.Bilinear.{bilin_at}
+use Rattle.rows.specs.Bilinear.{R}
 use Rattle.rows.specs.Scaled.{position, pixel_of, sixteenth, in_family, scaled_mid}
-use Rattle.rows.specs.inner.Scaled.{eight_at, Steps, PairsFetched, pair_mid}
+use Rattle.rows.specs.inner.Scaled.{eight_at, Steps}
 use Rattle.rows.proofs.Laws.Numbers.Low.{low16_again, low16_keeps}
 use Rattle.rows.proofs.Laws.Filters.Bilinear.{shr-none}
-use Rattle.rows.proofs.Laws.Blocks.Places.{span-at, row_same}
 use Rattle.rows.proofs.Laws.Filters.Taps.{tapped_same}
 use Rattle.rows.proofs.Laws.Filters.Warp.{lent-filter}
 
@@ -48,19 +46,6 @@ module _ (B : ℕ) (table : List ℤ) (k : ℕ) where
       → prep B 0 (get_or src (o + pixel_of p) 0) ≡ scaled_mid B (in_family table k (sixteenth p)) (eight_at (λ n. get_or src n 0) o p)
   unfolding prep scaled_mid in_family
   mid-whole src o p e = rw e (ap (λ (n : ℕ). low16 (pos n)) (add-zero _ ∙ ap (λ (n : ℕ). get_or src n 0 * 2 ^ B) (omega arith)))
-
-module _ (src : List ℕ) (o : ℕ) where
-  -- a sum in the part from place o on
-  part_at : (k f : ℕ) → o + k + 1 < length src → bilin_at (px (span src o (length src))) k 1 f ≡ bilin_at (px src) (o + k) 1 f
-  part_at k f h =
-      let at = span-at 0 src o (length src) (omega arith) in
-      ap₂ (λ (x y : ℕ). bilin (pos x) (pos y) f) (at k (omega arith)) (at (k + 1) (omega arith) ∙ ap (λ (n : ℕ). get_or src n 0) (omega arith))
-
-  -- a row of that part, by tables of the columns
-  pub part-row : (n w : ℕ) (pixels fractions : List ℕ) → PairsFetched (length src) o pixels fractions w
-      → row_of w (pair_mid (span src o (length src)) pixels fractions n)
-      ≡ row_of w (λ i. low16 (R n (bilin_at (px src) (o + get_or pixels i 0) 1 (get_or fractions i 0))))
-  part-row n w pixels fractions f = row_same (pos 0) w _ _ λ i h. ap (λ (z : ℤ). low16 (R n z)) (part_at _ _ (f.held i h))
 
 -- the sum of two bytes is kept as it is
 pub byte_mid : {r : ℕ} {s : ℤ} → pos r ≡ s → r ≤ 4080 → pos r ≡ low16 (R 0 s)
