@@ -3,7 +3,7 @@ use mathlib.Core.Path.{◌≡◌, refl, sym, ap, ◌∙◌, subst}
 use mathlib.Core.Logic.{◌⊎◌, inl, inr, ⊎_elim}
 use mathlib.Core.Bool.{Bool, true, false, ◌||◌, true≢false}
 use mathlib.Core.List.{List, [], ◌∷◌, ◌++◌}
-use Prim.Native.Nat.{ℕ, ◌+◌, ◌-◌, ◌*◌, ◌/◌, ◌%◌, ◌≤◌, ◌<◌}
+use Prim.Native.Nat.{ℕ, ◌+◌, ◌-◌, ◌/◌, ◌%◌, ◌≤◌, ◌<◌}
 use native.Mathlib.Nat.{div-add-mod'}
 use native.Mathlib.Omega.{arith}
 use lib.Dec.{ltb}
@@ -20,7 +20,7 @@ use Rattle.blocks.specs.Order.{endless_put}
 use Rattle.blocks.specs.Cut.{put_number}
 use Rattle.blocks.proofs.Laws.Cut.Places.{Predicted, PutSays, PutCalls}
 use Rattle.blocks.proofs.Laws.Cut.CFunctions as functions
-use Rattle.cut.specs.inner.Tiles.{least, Left, Piece}
+use Rattle.cut.specs.inner.Tiles.{least, Piece}
 
 -- ---- pieces of a side
 
@@ -48,9 +48,6 @@ pub record Upto (whole p : ℕ) : Type 0 where
 
 pub upto_none : (whole : ℕ) → Upto whole 0
 upto_none whole = record { within = omega arith; enough = λ some. omega (arith, least_side whole some) }
-
-pub upto_left : {whole p : ℕ} → Upto whole p → p < whole → Left whole (whole - p)
-upto_left u some = record { enough = u.enough some; most = omega arith }
 
 pub upto_more : {whole p n : ℕ} → Upto whole p → p < whole → Piece whole (whole - p) n → Upto whole (p + n)
 upto_more u some a = record { within = omega (arith, a); enough = λ more. omega (arith, a.rest (omega arith)) }
