@@ -1,5 +1,7 @@
 -- The refusals: reasons with their numbers, and the tests that the entries share. Assumes nothing.
-use Rattle.std.specs.Prelude.{ℕ, zero, suc, ◌+◌, ◌-◌, ◌*◌, ◌%◌, ltb, leb, eqb, Bool, true, false, ◌&&◌, List, [], ◌∷◌}
+use Rattle.std.specs.Prelude.{ℕ, zero, suc, ◌+◌, ◌-◌, ◌*◌, ◌%◌, ltb, leb, eqb, Bool, true, false, ◌&&◌, List, [], ◌∷◌, Result, Ok, Err}
+use Rattle.blocks.specs.declared.refuse.Refusal.{Refusal}
+use Rattle.blocks.specs.declared.refuse.Refusal.TheVariants.{Size, Stride, Number, Table, Read, Written, Above64, Matrix}
 
 infix 68 ◌asks◌
 -- the table's reasons
@@ -42,6 +44,22 @@ rank_of read = 5
 rank_of written = 6
 rank_of above64 = 7
 rank_of matrix = 8
+
+-- why a call is refused, as the code has it: the table's reason
+abbrev pub reason_of : Refusal → Reason
+reason_of Size = size
+reason_of Stride = stride
+reason_of Number = number
+reason_of Table = table
+reason_of Read = read
+reason_of Written = written
+reason_of Above64 = above64
+reason_of Matrix = matrix
+
+-- "0 is done": the number of an answer
+abbrev pub told : Result Unit Refusal → ℕ
+told (Ok u) = 0
+told (Err why) = number_of (reason_of why)
 
 -- what a call must meet, and the reason to refuse it if it doesn't
 pub record Test : Type 0 where

@@ -1,14 +1,13 @@
-// put_bilin and prep_bilin: their tests, and the pass that has no pixels.
 // put_bilin and prep_bilin: blocks between whole places, at fractions in sixteenths.
 ghost use Rattle.std.specs.Prelude.{◌≡◌, ◌+◌, ◌-◌, ◌*◌, ◌≤◌, eqb, length, ◌^◌, pos, ◌+ℤ◌};
 ghost use Rattle.rows.specs.Numbers.{at, low16, minus16, up, px, clip, half};
 ghost use Rattle.rows.specs.Places.{pick, fill};
 ghost use Rattle.rows.specs.Bilinear.{R, put_bilin, prep_bilin};
 ghost use Rattle.rows.specs.inner.Bilinear.{bilin_at};
-ghost use Rattle.blocks.specs.Refuse.{lowest};
+ghost use Rattle.blocks.specs.Refuse.{told, lowest, reads};
 ghost use Rattle.blocks.specs.Subpel.{sixteenth_ok};
 ghost use Rattle.blocks.specs.Bilinear.{bilin_tests, PutBilinAnswer, PrepBilinAnswer};
-ghost use Rattle.blocks.specs.inner.Ready.{Pairs, PairsIn, Bilin};
+ghost use Rattle.blocks.specs.inner.Ready.{Block, Pairs, PairsIn, Bilin};
 ghost use Rattle.blocks.specs.inner.Bilinear.{column_pairs};
 ghost use Rattle.std.specs.Int.Signed.{shr_z};
 ghost use Rattle.blocks.specs.inner.Source.{row_first, around_in};
@@ -16,7 +15,7 @@ ghost use Rattle.blocks.specs.inner.Source.{row_first, around_in};
 use crate::copy::{prep_rows, put_rows};
 use crate::groups::{carry, eight_at_most};
 use crate::numbers::{on_axis, up32};
-use crate::refuse::{DepthNumbers, held, needed, sizes, stride};
+use crate::refuse::{DepthNumbers, Refusal, holds_rows, needed, size_ok, stride_ok};
 use crate::sample::Sample;
 use crate::source::{Stand, lower_row, row_first, rows_from, top_down};
 use rows::bilinear::{mid_bilin_prep_row, mid_bilin_row, prep_bilin_row, put_bilin_row};
@@ -65,7 +64,16 @@ pub fn sixteenth_ok(f: i32) -> bool
     (0 <= f) & (f <= 15)
 }
 
+// sl places from the block's first on hold those of each pixel, with a fraction on an axis where x or y is 1.
+fn reads_pairs(sl: usize, s: usize, w: usize, h: usize, x: usize, y: usize) -> bool
+    requires { Block w h × (x ≤ 1) × (y ≤ 1) }
+    ensures { result ≡ reads sl 0 s w h 0 x 0 y }
+{
+    holds_rows(sl, s, w + x, h + y)
+}
+
 // deep is the outcome of the depth's test, true for bytes.
+#[tactic(auto, using(crate::proofs::Laws::Calls::Ready::block_met), unfolding(crate::specs::Refuse::need))]
 pub fn check_bilin(
     deep: bool,
     dl: usize,
@@ -76,21 +84,20 @@ pub fn check_bilin(
     h: usize,
     mx: i32,
     my: i32,
-) -> u32
-    ensures { result ≡ lowest (bilin_tests deep dl dst_stride sl src_stride w h mx my) }
+) -> Result<(), Refusal>
+    ensures { told result ≡ lowest (bilin_tests deep dl dst_stride sl src_stride w h mx my) }
 {
-    let size = sizes(w, h, 0);
-    if size != 0 {
-        return size;
-    }
-    let dst = held(dl, dst_stride, w, h, 6, 0);
-    let buffers = held(sl, src_stride, w + on_axis(mx), h + on_axis(my), 5, dst);
-    let fractions = needed(sixteenth_ok(mx), 3, needed(sixteenth_ok(my), 3, buffers));
-    stride(
-        w,
-        dst_stride,
-        stride(w, src_stride, needed(deep, 3, fractions)),
-    )
+    needed(size_ok(64, w), Refusal::Size)?;
+    needed(size_ok(64, h), Refusal::Size)?;
+    needed(stride_ok(w, dst_stride), Refusal::Stride)?;
+    needed(stride_ok(w, src_stride), Refusal::Stride)?;
+    needed(deep, Refusal::Number)?;
+    needed(sixteenth_ok(mx), Refusal::Number)?;
+    needed(sixteenth_ok(my), Refusal::Number)?;
+    let x = on_axis(mx);
+    let y = on_axis(my);
+    needed(reads_pairs(sl, src_stride, w, h, x, y), Refusal::Read)?;
+    needed(holds_rows(dl, dst_stride, w, h), Refusal::Written)
 }
 
 // Intermediates from those of a first pass, whose rows are 64 apart: prep, the second pass.
@@ -353,10 +360,10 @@ pub fn hv_put_bilin<P: Sample>(
     h: usize,
     mx: i32,
     my: i32,
-) -> u32
-    ensures { PutBilinAnswer (P.depth_ok depth) (up depth) (P.values dst.old) dst_stride (P.values src.now) src_stride w h mx my result (P.values dst.new) }
+) -> Result<(), Refusal>
+    ensures { PutBilinAnswer (P.depth_ok depth) (up depth) (P.values dst.old) dst_stride (P.values src.now) src_stride w h mx my (told result) (P.values dst.new) }
 {
-    let number = check_bilin(
+    check_bilin(
         P::depth_ok(depth),
         dst.len(),
         dst_stride,
@@ -366,15 +373,13 @@ pub fn hv_put_bilin<P: Sample>(
         h,
         mx,
         my,
-    );
-    if number == 0 {
-        let d = P::depth_numbers(depth);
-        let f = up32(mx);
-        let g = up32(my);
-        let s = top_down(0, src_stride);
-        put_bilin_rows(d, dst, dst_stride, src, s, w, h, f, g);
-    }
-    number
+    )?;
+    let d = P::depth_numbers(depth);
+    let f = up32(mx);
+    let g = up32(my);
+    let s = top_down(0, src_stride);
+    put_bilin_rows(d, dst, dst_stride, src, s, w, h, f, g);
+    Ok(())
 }
 
 pub fn hv_prep_bilin<P: Sample>(
@@ -387,11 +392,11 @@ pub fn hv_prep_bilin<P: Sample>(
     h: usize,
     mx: i32,
     my: i32,
-) -> u32
-    ensures { PrepBilinAnswer (P.depth_ok depth) (up depth) tmp.old tmp_stride (P.values src.now) src_stride w h mx my result
+) -> Result<(), Refusal>
+    ensures { PrepBilinAnswer (P.depth_ok depth) (up depth) tmp.old tmp_stride (P.values src.now) src_stride w h mx my (told result)
         tmp.new }
 {
-    let number = check_bilin(
+    check_bilin(
         P::depth_ok(depth),
         tmp.len(),
         tmp_stride,
@@ -401,13 +406,11 @@ pub fn hv_prep_bilin<P: Sample>(
         h,
         mx,
         my,
-    );
-    if number == 0 {
-        let d = P::depth_numbers(depth);
-        let f = up32(mx);
-        let g = up32(my);
-        let s = top_down(0, src_stride);
-        prep_bilin_rows(d, tmp, tmp_stride, src, s, w, h, f, g);
-    }
-    number
+    )?;
+    let d = P::depth_numbers(depth);
+    let f = up32(mx);
+    let g = up32(my);
+    let s = top_down(0, src_stride);
+    prep_bilin_rows(d, tmp, tmp_stride, src, s, w, h, f, g);
+    Ok(())
 }

@@ -1,8 +1,7 @@
-// The tests of blend and morph, and blend's search for a value above 64, for both sets of pixels.
 // blend and morph: pixels changed in place.
 ghost use Rattle.std.specs.Prelude.{◌≡◌, ◌+◌, ◌*◌, ◌≤◌, nat_abs, length, ◌^◌};
 ghost use Rattle.rows.specs.inner.Combine.{AtMost};
-ghost use Rattle.blocks.specs.Refuse.{lowest};
+ghost use Rattle.blocks.specs.Refuse.{told, lowest};
 ghost use Rattle.blocks.specs.inner.Ready.{Block, Rows};
 ghost use Rattle.blocks.specs.inner.Blend.{found_at};
 ghost use Rattle.blocks.specs.Blend.{blend_shape, first_above, morph_tests, BlendAnswer, MorphAnswer};
@@ -11,7 +10,7 @@ ghost use Rattle.rows.specs.Places.{fill, pixel};
 ghost use Rattle.rows.specs.Combine.{blend, morph};
 
 use crate::numbers::within;
-use crate::refuse::{held, needed, sizes, stride};
+use crate::refuse::{Refusal, holds_rows, needed, size_ok, stride_ok};
 use crate::sample::Sample;
 use rows::blend::{blend_row, morph_row};
 
@@ -23,18 +22,23 @@ pub struct Spot {
 }
 
 // The tests before the mask's values are looked at: numbers 1 to 6.
-pub fn check_blend(dl: usize, dst_stride: usize, tl: usize, w: usize, h: usize, ml: usize) -> u32
-    ensures { result ≡ lowest (blend_shape dl dst_stride tl w h ml) }
+#[tactic(auto, unfolding(crate::specs::Refuse::need))]
+pub fn check_blend(
+    dl: usize,
+    dst_stride: usize,
+    tl: usize,
+    w: usize,
+    h: usize,
+    ml: usize,
+) -> Result<(), Refusal>
+    ensures { told result ≡ lowest (blend_shape dl dst_stride tl w h ml) }
 {
-    let buffers = held(
-        tl,
-        w,
-        w,
-        h,
-        5,
-        held(ml, w, w, h, 5, held(dl, dst_stride, w, h, 6, 0)),
-    );
-    sizes(w, h, stride(w, dst_stride, buffers))
+    needed(size_ok(64, w), Refusal::Size)?;
+    needed(size_ok(64, h), Refusal::Size)?;
+    needed(stride_ok(w, dst_stride), Refusal::Stride)?;
+    needed(holds_rows(tl, w, w, h), Refusal::Read)?;
+    needed(holds_rows(ml, w, w, h), Refusal::Read)?;
+    needed(holds_rows(dl, dst_stride, w, h), Refusal::Written)
 }
 
 // The largest of the n values from place q on.
@@ -74,6 +78,7 @@ pub fn first_above(mask: &[u8], w: usize, h: usize) -> Option<Spot>
     None
 }
 
+#[tactic(auto, unfolding(crate::specs::Refuse::need))]
 pub fn check_morph(
     deep: bool,
     dl: usize,
@@ -82,20 +87,16 @@ pub fn check_morph(
     beta: i32,
     w: usize,
     h: usize,
-) -> u32
-    ensures { result ≡ lowest (morph_tests deep dl dst_stride alpha beta w h) }
+) -> Result<(), Refusal>
+    ensures { told result ≡ lowest (morph_tests deep dl dst_stride alpha beta w h) }
 {
-    let buffers = held(dl, dst_stride, w, h, 6, 0);
-    let numbers = needed(
-        deep,
-        3,
-        needed(
-            within(alpha, 16384),
-            3,
-            needed(within(beta, 4194304), 3, buffers),
-        ),
-    );
-    sizes(w, h, stride(w, dst_stride, numbers))
+    needed(size_ok(64, w), Refusal::Size)?;
+    needed(size_ok(64, h), Refusal::Size)?;
+    needed(stride_ok(w, dst_stride), Refusal::Stride)?;
+    needed(deep, Refusal::Number)?;
+    needed(within(alpha, 16384), Refusal::Number)?;
+    needed(within(beta, 4194304), Refusal::Number)?;
+    needed(holds_rows(dl, dst_stride, w, h), Refusal::Written)
 }
 
 fn blend_rows<P: Sample>(
@@ -127,23 +128,20 @@ pub fn hv_blend<P: Sample>(
     mask: &[u8],
     row: &mut usize,
     col: &mut usize,
-) -> u32
-    ensures { BlendAnswer (P.values dst.old) dst_stride (P.values tmp.now) w h mask.now result (P.values dst.new) row.new
+) -> Result<(), Refusal>
+    ensures { BlendAnswer (P.values dst.old) dst_stride (P.values tmp.now) w h mask.now (told result) (P.values dst.new) row.new
         col.new }
 {
     *row = 0;
     *col = 0;
-    let number = check_blend(dst.len(), dst_stride, tmp.len(), w, h, mask.len());
-    if number != 0 {
-        return number;
-    }
+    check_blend(dst.len(), dst_stride, tmp.len(), w, h, mask.len())?;
     if let Some(spot) = first_above(mask, w, h) {
         *row = spot.row;
         *col = spot.col;
-        return 7;
+        return Err(Refusal::Above64);
     }
     blend_rows(dst, dst_stride, tmp, w, h, mask);
-    0
+    Ok(())
 }
 
 fn morph_rows<P: Sample>(
@@ -172,13 +170,11 @@ pub fn hv_morph<P: Sample>(
     beta: i32,
     w: usize,
     h: usize,
-) -> u32
-    ensures { MorphAnswer (P.depth_ok depth) (up depth) (P.values dst.old) dst_stride alpha beta w h result (P.values dst.new) }
+) -> Result<(), Refusal>
+    ensures { MorphAnswer (P.depth_ok depth) (up depth) (P.values dst.old) dst_stride alpha beta w h (told result) (P.values dst.new) }
 {
-    let number = check_morph(P::depth_ok(depth), dst.len(), dst_stride, alpha, beta, w, h);
-    if number == 0 {
-        let d = P::depth_numbers(depth);
-        morph_rows(dst, dst_stride, alpha, beta, w, h, d.max);
-    }
-    number
+    check_morph(P::depth_ok(depth), dst.len(), dst_stride, alpha, beta, w, h)?;
+    let d = P::depth_numbers(depth);
+    morph_rows(dst, dst_stride, alpha, beta, w, h, d.max);
+    Ok(())
 }

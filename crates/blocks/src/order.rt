@@ -1,25 +1,25 @@
-// Prediction orders: what one is, and its number.
-// Prediction orders as C functions: put and prep differ in the last call.
+// Prediction orders: what one is, its number, and the functions for C, put and prep, which differ in the last call.
 ghost use Rattle.std.specs.Prelude.{◌≡◌, true, List, ℕ, length, leb};
-ghost use Rattle.blocks.specs.Refuse.{need, size_ok, block_side, stride_ok, whole_filters};
+ghost use Rattle.blocks.specs.Refuse.{told, size_ok, stride_ok};
 ghost use Rattle.blocks.specs.Edge.{place_ok};
-ghost use Rattle.blocks.specs.Subpel.{subpel_ok};
 ghost use Rattle.blocks.specs.Window.{plane_w, frame_sizes_ok, frame_names_ok};
 ghost use Rattle.blocks.specs.Order.{kind_number, mode_of, kind_of, kind_size_ok, motion_ok, filters_ok, Tables, order_number, OrderPutAnswer, OrderPrepAnswer};
 ghost use Rattle.blocks.specs.inner.Order.{setting_of, lengths_of};
 ghost use Rattle.rows.specs.Numbers.{up};
 
 use crate::bilinear::sixteenth_ok;
-use crate::edge::places;
-use crate::frame::{Frame, Reference, frame_names_ok, frame_sizes_ok, plane_w};
+use crate::edge::place_ok;
+use crate::frame::{
+    Frame, Reference, frame_names_ok, frame_sizes_ok, plane_h, plane_w, window_side,
+};
 use crate::numbers::within;
 use crate::order::kinds::{prep_kind, put_kind};
 use crate::order::run::order_window;
-use crate::refuse::{Layout, held, needed, sizes, stride};
+use crate::refuse::{Layout, Refusal, holds_rows, needed, size_ok, stride_ok};
 use crate::sample::Sample;
 use crate::subpel::plan::{SubpelMotion, filter_in, fraction_ok, type_ok};
 use crate::warp::{Shears, filters_there};
-use crate::window::{ALWAYS_SCRATCH, PLANE_IF_INSIDE, pick, window_held};
+use crate::window::{ALWAYS_SCRATCH, PLANE_IF_INSIDE, pick};
 
 pub mod kinds;
 pub mod run;
@@ -154,52 +154,7 @@ fn filters_ok(k: Kind, el: usize, wl: usize) -> bool
     }
 }
 
-// The tests of an order: sizes and strides first, then its numbers, since the filters and the window's sides are asked only of what these allow.
-fn order_shape(lent: Reference, k: Kind, w: usize, h: usize, dst_stride: usize) -> u32
-    ensures { result
-        ≡ need (frame_sizes_ok lent.frame lent.plane_no) 1 (need (size_ok block_side w) 1 (need (size_ok block_side h) 1 (need (kind_size_ok k w h) 1
-        (need (stride_ok (plane_w lent.frame lent.plane_no) lent.stride) 2 (need (stride_ok w dst_stride) 2 0))))) }
-{
-    let f = lent.frame;
-    let strides = stride(
-        plane_w(f, lent.plane_no),
-        lent.stride,
-        stride(w, dst_stride, 0),
-    );
-    let block = sizes(w, h, needed(kind_size_ok(k, w, h), 1, strides));
-    needed(frame_sizes_ok(f, lent.plane_no), 1, block)
-}
-
-fn order_numbers(deep: bool, named: bool, lent: Reference, k: Kind, x: i64, y: i64) -> u32
-    ensures { result ≡ need deep 3 (need (frame_names_ok lent.frame lent.plane_no) 3 (need named 3
-        (need (place_ok x) 3 (need (place_ok y) 3 (need (motion_ok k) 3 0))))) }
-{
-    let f = lent.frame;
-    let motion = places(x, y, needed(motion_ok(k), 3, 0));
-    needed(
-        deep,
-        3,
-        needed(
-            frame_names_ok(f, lent.plane_no),
-            3,
-            needed(named, 3, motion),
-        ),
-    )
-}
-
-fn order_tables(k: Kind, t: TableLengths, rest: u32) -> u32
-    requires { motion_ok k ≡ true }
-    ensures { result ≡ need (subpel_ok t.subpel) 4 (need (whole_filters t.ext) 4 (need (whole_filters t.warp) 4 (need (filters_ok k t.ext
-        t.warp) 4 rest))) }
-{
-    let there = needed(filters_ok(k, t.ext, t.warp), 4, rest);
-    needed(
-        t.subpel == 600,
-        4,
-        needed(t.ext % 8 == 0, 4, needed(t.warp % 8 == 0, 4, there)),
-    )
-}
-
+#[tactic(auto, using(crate::proofs::Laws::Calls::Refuse::size_met), unfolding(crate::specs::Refuse::need, crate::specs::Refuse::whole_filters, crate::specs::Subpel::subpel_ok))]
 pub fn check_order(
     deep: bool,
     named: bool,
@@ -210,23 +165,39 @@ pub fn check_order(
     sl: usize,
     dl: usize,
     dst_stride: usize,
-) -> u32
+) -> Result<(), Refusal>
     ensures { (depth : ℕ) (plane : List ℕ) (tables : Tables) → length plane ≡ pl → lengths_of tables ≡ t
-        → result ≡ order_number (setting_of deep depth lent plane tables) named o sl dl dst_stride }
+        → told result ≡ order_number (setting_of deep depth lent plane tables) named o sl dl dst_stride }
 {
+    let f = lent.frame;
+    let n = lent.plane_no;
     let k = o.kind;
-    let shape = order_shape(lent, k, o.w, o.h, dst_stride);
-    if shape != 0 {
-        return shape;
-    }
-    let numbers = order_numbers(deep, named, lent, k, o.x, o.y);
-    if numbers != 0 {
-        return numbers;
-    }
-    let written = held(dl, dst_stride, o.w, o.h, 6, 0);
-    let n = kind_number(k);
-    let buffers = window_held(lent, pl, n, o.w, o.h, sl, written);
-    order_tables(k, t, buffers)
+    let w = o.w;
+    let h = o.h;
+    needed(frame_sizes_ok(f, n), Refusal::Size)?;
+    needed(size_ok(64, w), Refusal::Size)?;
+    needed(size_ok(64, h), Refusal::Size)?;
+    needed(kind_size_ok(k, w, h), Refusal::Size)?;
+    needed(stride_ok(plane_w(f, n), lent.stride), Refusal::Stride)?;
+    needed(stride_ok(w, dst_stride), Refusal::Stride)?;
+    needed(deep, Refusal::Number)?;
+    needed(frame_names_ok(f, n), Refusal::Number)?;
+    needed(named, Refusal::Number)?;
+    needed(place_ok(o.x), Refusal::Number)?;
+    needed(place_ok(o.y), Refusal::Number)?;
+    needed(motion_ok(k), Refusal::Number)?;
+    needed(t.subpel == 600, Refusal::Table)?;
+    needed(t.ext % 8 == 0, Refusal::Table)?;
+    needed(t.warp % 8 == 0, Refusal::Table)?;
+    needed(filters_ok(k, t.ext, t.warp), Refusal::Table)?;
+    let ww = window_side(kind_number(k), w);
+    let wh = window_side(kind_number(k), h);
+    needed(
+        holds_rows(pl, lent.stride, plane_w(f, n), plane_h(f, n)),
+        Refusal::Read,
+    )?;
+    needed(holds_rows(sl, ww, ww, wh), Refusal::Written)?;
+    needed(holds_rows(dl, dst_stride, w, h), Refusal::Written)
 }
 
 pub fn hv_order_put<P: Sample>(

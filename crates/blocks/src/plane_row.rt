@@ -1,14 +1,13 @@
-// The row helper: where a row of a plane lies, for both sets of pixels.
 // The row helper: where a row of a plane lies, and the row itself.
 ghost use Rattle.std.specs.Prelude.{◌≡◌, List, ℕ, pos, length, ◌&&◌, []};
 ghost use Rattle.std.specs.Int.Signed.{le_z, lt_z};
-ghost use Rattle.blocks.specs.Refuse.{lowest};
+ghost use Rattle.blocks.specs.Refuse.{told, lowest};
 ghost use Rattle.blocks.specs.Window.{row_tests, row_at, part_of, PartAnswer};
 ghost use Rattle.blocks.specs.inner.Window.{lent_of};
 
 use crate::frame::{Frame, Reference, frame_names_ok, frame_sizes_ok, plane_h, plane_w};
 use crate::numbers::up64;
-use crate::refuse::{held, needed, stride};
+use crate::refuse::{Refusal, holds_rows, needed, stride_ok};
 use crate::sample::Sample;
 use crate::window::{Part, no_part, pick};
 
@@ -20,32 +19,27 @@ fn row_ok(row: i64, h: usize) -> bool
 }
 
 // The tests of a row's call.
-fn check_row(lent: Reference, pl: usize, row: i64) -> u32
-    ensures { (plane : List ℕ) → length plane ≡ pl → result ≡ lowest (row_tests (lent_of lent plane) row) }
+#[tactic(auto, unfolding(crate::specs::Refuse::need))]
+fn check_row(lent: Reference, pl: usize, row: i64) -> Result<(), Refusal>
+    ensures { (plane : List ℕ) → length plane ≡ pl → told result ≡ lowest (row_tests (lent_of lent plane) row) }
 {
     let f = lent.frame;
-    let iw = plane_w(f, lent.plane_no);
-    let ih = plane_h(f, lent.plane_no);
-    let plane = held(pl, lent.stride, iw, ih, 5, 0);
-    let numbers = needed(
-        frame_names_ok(f, lent.plane_no),
-        3,
-        needed(row_ok(row, ih), 3, plane),
-    );
-    needed(
-        frame_sizes_ok(f, lent.plane_no),
-        1,
-        stride(iw, lent.stride, numbers),
-    )
+    let n = lent.plane_no;
+    let iw = plane_w(f, n);
+    let ih = plane_h(f, n);
+    needed(frame_sizes_ok(f, n), Refusal::Size)?;
+    needed(stride_ok(iw, lent.stride), Refusal::Stride)?;
+    needed(frame_names_ok(f, n), Refusal::Number)?;
+    needed(row_ok(row, ih), Refusal::Number)?;
+    needed(holds_rows(pl, lent.stride, iw, ih), Refusal::Read)
 }
 
 // Where a row of a plane lies.
 pub fn row_at(lent: Reference, pl: usize, row: i64) -> Part
     ensures { (plane : List ℕ) → length plane ≡ pl → result ≡ row_at (lent_of lent plane) row }
 {
-    let number = check_row(lent, pl, row);
-    if number != 0 {
-        return no_part(number);
+    if let Err(why) = check_row(lent, pl, row) {
+        return no_part(why.number());
     }
     let f = lent.frame;
     let s = lent.stride;

@@ -1,15 +1,15 @@
 // Blocks from a reference of another size: their tests, and the last filtered rows. Positions are in 1/1024 of a pixel.
-ghost use Rattle.std.specs.Prelude.{◌≡◌, ℕ, ◌+◌, ◌-◌, ◌*◌, ◌%◌, ◌^◌, ◌≤◌, ◌<◌, length, get_or};
+ghost use Rattle.std.specs.Prelude.{◌≡◌, ◌+◌, ◌-◌, ◌*◌, ◌%◌, ◌^◌, ◌≤◌, ◌<◌, length, get_or};
 ghost use Rattle.rows.specs.Numbers.{up, at};
 ghost use Rattle.rows.specs.Places.{row_of};
 ghost use Rattle.rows.specs.Subpel.{family};
-ghost use Rattle.rows.specs.Scaled.{sixteenth, pixel_of, position, in_family, prep_down};
-ghost use Rattle.blocks.specs.Refuse.{need, lowest};
+ghost use Rattle.rows.specs.Scaled.{sixteenth, in_family, prep_down};
+ghost use Rattle.blocks.specs.Refuse.{told, lowest};
 ghost use Rattle.blocks.specs.Scaled.{start_ok, step_ok, scaled_type_ok, column_read, reads_scaled, scaled_tests};
 ghost use Rattle.blocks.specs.inner.Scaled.{scaled_plan, Turned, by_parity};
 
 use crate::numbers::up32;
-use crate::refuse::{held, needed, reads_around, sizes, stride};
+use crate::refuse::{Refusal, holds_rows, needed, reads_around, size_ok, stride_ok};
 use crate::source::Stand;
 use rows::bilinear::mid_bilin_prep_row;
 use rows::subpel::{Way, eight, mid_prep_by};
@@ -51,14 +51,6 @@ pub fn scaled_type_ok(filter_type: i32) -> bool
     ensures { result ≡ scaled_type_ok filter_type }
 {
     (0 <= filter_type) & (filter_type <= 2)
-}
-
-// The tests of the motion, as links of the chain.
-fn scaled_motion(m: ScaledMotion, rest: u32) -> u32
-    ensures { result ≡ need (start_ok m.mx) 3 (need (start_ok m.my) 3 (need (step_ok m.dx) 3 (need (step_ok m.dy) 3 rest))) }
-{
-    let steps = needed(step_ok(m.dx), 3, needed(step_ok(m.dy), 3, rest));
-    needed(start_ok(m.mx), 3, needed(start_ok(m.my), 3, steps))
 }
 
 // sl places hold what is fetched for the column at position p, in h rows and those around them.
@@ -110,6 +102,7 @@ fn reads_scaled(taps: bool, l: Lent, w: usize, h: usize, m: ScaledMotion) -> boo
 }
 
 // taps says that it is 8-tap; deep, typed and tabled are the outcomes of the tests of the depth, the type and the table.
+#[tactic(auto, unfolding(crate::specs::Refuse::need))]
 pub fn check_scaled(
     taps: bool,
     deep: bool,
@@ -119,19 +112,23 @@ pub fn check_scaled(
     w: usize,
     h: usize,
     m: ScaledMotion,
-) -> u32
-    ensures { result ≡ lowest (scaled_tests taps deep typed tabled l.dl l.dst_stride l.sl l.src_off l.src_stride w h
+) -> Result<(), Refusal>
+    ensures { told result ≡ lowest (scaled_tests taps deep typed tabled l.dl l.dst_stride l.sl l.src_off l.src_stride w h
         m.mx m.my m.dx m.dy) }
 {
-    let tables = needed(typed, 3, needed(tabled, 4, 0));
-    let numbers = needed(deep, 3, scaled_motion(m, tables));
-    let strides = stride(w, l.dst_stride, stride(w, l.src_stride, numbers));
-    let shape = sizes(w, h, strides);
-    if shape != 0 {
-        return shape;
-    }
-    let reads = reads_scaled(taps, l, w, h, m);
-    needed(reads, 5, held(l.dl, l.dst_stride, w, h, 6, 0))
+    needed(size_ok(64, w), Refusal::Size)?;
+    needed(size_ok(64, h), Refusal::Size)?;
+    needed(stride_ok(w, l.dst_stride), Refusal::Stride)?;
+    needed(stride_ok(w, l.src_stride), Refusal::Stride)?;
+    needed(deep, Refusal::Number)?;
+    needed(start_ok(m.mx), Refusal::Number)?;
+    needed(start_ok(m.my), Refusal::Number)?;
+    needed(step_ok(m.dx), Refusal::Number)?;
+    needed(step_ok(m.dy), Refusal::Number)?;
+    needed(typed, Refusal::Number)?;
+    needed(tabled, Refusal::Table)?;
+    needed(reads_scaled(taps, l, w, h, m), Refusal::Read)?;
+    needed(holds_rows(l.dl, l.dst_stride, w, h), Refusal::Written)
 }
 
 // How the rows of a scaled block are made: where those of the source stand, the positions of columns and rows, the families of their filters, and B.

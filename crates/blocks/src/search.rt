@@ -1,16 +1,15 @@
-// The tests and the offsets of the search by sums of absolute differences, for both sets of pixels.
 // sad_nxn and sad_refine_mv: sums of absolute differences, and the search by them.
 ghost use Rattle.std.specs.Prelude.{◌≡◌, ◌+◌, ◌*◌, ◌/◌, ◌^◌, ◌≤◌, ◌<◌, ltb, eqb, pos, nat_abs, ◌+ℤ◌, ◌-ℤ◌, true, length};
 ghost use Rattle.rows.specs.Numbers.{up};
 ghost use Rattle.rows.specs.Search.{better, answer, sad, sad_at, visit, through, steps, search, refine};
-ghost use Rattle.blocks.specs.Refuse.{lowest};
+ghost use Rattle.blocks.specs.Refuse.{told, lowest};
 ghost use Rattle.blocks.specs.inner.Ready.{Block, Blocks, Wider, DepthRange};
 ghost use Rattle.blocks.specs.Search.{sads_tests, SadAnswer, RefineAnswer};
 ghost use Rattle.blocks.specs.inner.Search.{best_of, stand_at};
 ghost use Rattle.blocks.specs.inner.Source.{pixel_in};
 
 use crate::numbers::up32;
-use crate::refuse::{held, needed, sizes, stride};
+use crate::refuse::{Refusal, holds_rows, needed, size_ok, stride_ok};
 use crate::sample::Sample;
 use crate::source::{Stand, row_first, top_down};
 use rows::search::sad_row;
@@ -18,7 +17,6 @@ use rows::search::sad_row;
 // The best sum so far and its offset, once one is found.
 #[derive(Clone, Copy)]
 pub struct Best {
-    pub found: bool,
     pub sum: u32,
     pub dx: i32,
     pub dy: i32,
@@ -42,6 +40,7 @@ pub struct Compared {
 }
 
 // m more columns and rows than the block are held, 0 or 8: so the sizes are tested before anything is added to them.
+#[tactic(auto, using(crate::proofs::Laws::Calls::Refuse::size_met), unfolding(crate::specs::Refuse::need))]
 pub fn check_sads(
     m: usize,
     deep: bool,
@@ -51,18 +50,19 @@ pub fn check_sads(
     s1: usize,
     w: usize,
     h: usize,
-) -> u32
+) -> Result<(), Refusal>
     requires { m ≤ 8 }
-    ensures { result ≡ lowest (sads_tests m deep l0 s0 l1 s1 w h) }
+    ensures { told result ≡ lowest (sads_tests m deep l0 s0 l1 s1 w h) }
 {
-    let shape = sizes(w, h, 0);
-    if shape != 0 {
-        return shape;
-    }
+    needed(size_ok(64, w), Refusal::Size)?;
+    needed(size_ok(64, h), Refusal::Size)?;
     let row = w + m;
     let rows = h + m;
-    let buffers = held(l0, s0, row, rows, 5, held(l1, s1, row, rows, 5, 0));
-    stride(row, s0, stride(row, s1, needed(deep, 3, buffers)))
+    needed(stride_ok(row, s0), Refusal::Stride)?;
+    needed(stride_ok(row, s1), Refusal::Stride)?;
+    needed(deep, Refusal::Number)?;
+    needed(holds_rows(l0, s0, row, rows), Refusal::Read)?;
+    needed(holds_rows(l1, s1, row, rows), Refusal::Read)
 }
 
 // Column or row 2 + d of the one buffer, and 2 - d of the other.
@@ -116,41 +116,27 @@ pub fn is_centre(dx: i32, dy: i32) -> bool
 }
 
 // The first strict minimum stays.
-pub fn take_better(b: Best, sum: u32, dx: i32, dy: i32) -> Best
+#[tactic(auto, unfolding(crate::specs::inner::Search::best_of, rows::specs::Search::better))]
+pub fn take_better(b: Option<Best>, sum: u32, dx: i32, dy: i32) -> Option<Best>
     ensures { best_of result ≡ better (best_of b) sum (record { dx = dx; dy = dy }) }
 {
-    let least = b.sum;
-    if b.found {
-        if sum < least {
-            Best {
-                found: true,
-                sum,
-                dx,
-                dy,
-            }
-        } else {
-            b
-        }
-    } else {
-        Best {
-            found: true,
-            sum,
-            dx,
-            dy,
-        }
+    match b {
+        Some(least) if least.sum <= sum => b,
+        _ => Some(Best { sum, dx, dy }),
     }
 }
 
 // The offset of the best; the centre where nothing was found.
-pub fn offset_of(b: Best) -> Offset
+#[tactic(auto, unfolding(crate::specs::inner::Search::best_of, rows::specs::Search::answer))]
+pub fn offset_of(b: Option<Best>) -> Offset
     ensures { record { dx = result.dx; dy = result.dy } ≡ answer (best_of b) }
 {
-    if b.found {
-        let dx = b.dx;
-        let dy = b.dy;
-        Offset { dx, dy }
-    } else {
-        Offset { dx: 0, dy: 0 }
+    match b {
+        Some(best) => Offset {
+            dx: best.dx,
+            dy: best.dy,
+        },
+        None => Offset { dx: 0, dy: 0 },
     }
 }
 
@@ -205,7 +191,14 @@ fn sad_at<P: Sample>(p0: &[P], p1: &[P], n: Compared, dx: i32, dy: i32) -> u32
 }
 
 // One offset more; the centre is skipped.
-fn visit<P: Sample>(p0: &[P], p1: &[P], n: Compared, dx: i32, dy: i32, b: Best) -> Best
+fn visit<P: Sample>(
+    p0: &[P],
+    p1: &[P],
+    n: Compared,
+    dx: i32,
+    dy: i32,
+    b: Option<Best>,
+) -> Option<Best>
     requires { Wider (length p0.now) n.s0 (length p1.now) n.s1 n.w n.h × (nat_abs dx ≤ 2) × (nat_abs dy ≤ 2) × DepthRange n.depth }
     ensures { best_of result ≡ visit (sad_at n.depth (pixel_in (P.values p0.now) n.s0) (pixel_in (P.values p1.now) n.s1) n.w n.h) dy dx (best_of b) }
 {
@@ -217,7 +210,7 @@ fn visit<P: Sample>(p0: &[P], p1: &[P], n: Compared, dx: i32, dy: i32, b: Best) 
 }
 
 // The offsets of one dy: dx from -2 to 2.
-fn visit_row<P: Sample>(p0: &[P], p1: &[P], n: Compared, dy: i32, b: Best) -> Best
+fn visit_row<P: Sample>(p0: &[P], p1: &[P], n: Compared, dy: i32, b: Option<Best>) -> Option<Best>
     requires { Wider (length p0.now) n.s0 (length p1.now) n.s1 n.w n.h × (nat_abs dy ≤ 2) × DepthRange n.depth }
     ensures { best_of result
         ≡ through steps (λ dx. visit (sad_at n.depth (pixel_in (P.values p0.now) n.s0) (pixel_in (P.values p1.now) n.s1) n.w n.h) dy dx) (best_of b) }
@@ -230,7 +223,7 @@ fn visit_row<P: Sample>(p0: &[P], p1: &[P], n: Compared, dy: i32, b: Best) -> Be
 }
 
 // All offsets: dy from -2 to 2.
-fn search<P: Sample>(p0: &[P], p1: &[P], n: Compared, b: Best) -> Best
+fn search<P: Sample>(p0: &[P], p1: &[P], n: Compared, b: Option<Best>) -> Option<Best>
     requires { Wider (length p0.now) n.s0 (length p1.now) n.s1 n.w n.h × DepthRange n.depth }
     ensures { best_of result ≡ search (sad_at n.depth (pixel_in (P.values p0.now) n.s0) (pixel_in (P.values p1.now) n.s1) n.w n.h) (best_of b) }
 {
@@ -242,17 +235,12 @@ fn search<P: Sample>(p0: &[P], p1: &[P], n: Compared, b: Best) -> Best
 }
 
 // Implicit mode: the centre at once where its sum is low enough, else the search from what is kept of it.
-fn implicit<P: Sample>(p0: &[P], p1: &[P], n: Compared) -> Best
+fn implicit<P: Sample>(p0: &[P], p1: &[P], n: Compared) -> Option<Best>
     requires { Wider (length p0.now) n.s0 (length p1.now) n.s1 n.w n.h × DepthRange n.depth }
     ensures { answer (best_of result) ≡ refine n.depth true (pixel_in (P.values p0.now) n.s0) (pixel_in (P.values p1.now) n.s1) n.w n.h }
 {
     let sum = kept_of(sad_at(p0, p1, n, 0, 0));
-    let b = Best {
-        found: true,
-        sum,
-        dx: 0,
-        dy: 0,
-    };
+    let b = Some(Best { sum, dx: 0, dy: 0 });
     if is_enough(sum, n.w, n.h) {
         return b;
     }
@@ -268,13 +256,7 @@ fn refine<P: Sample>(p0: &[P], p1: &[P], n: Compared, is_implicit: bool) -> Offs
     if is_implicit {
         return offset_of(implicit(p0, p1, n));
     }
-    let b = Best {
-        found: false,
-        sum: 0,
-        dx: 0,
-        dy: 0,
-    };
-    offset_of(search(p0, p1, n, b))
+    offset_of(search(p0, p1, n, None))
 }
 
 pub fn hv_sad_nxn<P: Sample>(
@@ -286,10 +268,11 @@ pub fn hv_sad_nxn<P: Sample>(
     w: usize,
     h: usize,
     sum: &mut i32,
-) -> u32
-    ensures { SadAnswer (P.depth_ok depth) (up depth) (P.values p0.now) p0_stride (P.values p1.now) p1_stride w h result sum.new }
+) -> Result<(), Refusal>
+    ensures { SadAnswer (P.depth_ok depth) (up depth) (P.values p0.now) p0_stride (P.values p1.now) p1_stride w h (told result) sum.new }
 {
-    let number = check_sads(
+    *sum = 0;
+    check_sads(
         0,
         P::depth_ok(depth),
         p0.len(),
@@ -298,15 +281,11 @@ pub fn hv_sad_nxn<P: Sample>(
         p1_stride,
         w,
         h,
-    );
-    if number == 0 {
-        let s0 = top_down(0, p0_stride);
-        let s1 = top_down(0, p1_stride);
-        *sum = sad_sum(up32(depth), p0, s0, p1, s1, w, h) as i32;
-    } else {
-        *sum = 0;
-    }
-    number
+    )?;
+    let s0 = top_down(0, p0_stride);
+    let s1 = top_down(0, p1_stride);
+    *sum = sad_sum(up32(depth), p0, s0, p1, s1, w, h) as i32;
+    Ok(())
 }
 
 pub fn hv_sad_refine_mv<P: Sample>(
@@ -320,11 +299,13 @@ pub fn hv_sad_refine_mv<P: Sample>(
     is_implicit: bool,
     dx: &mut i32,
     dy: &mut i32,
-) -> u32
-    ensures { RefineAnswer (P.depth_ok depth) (up depth) (P.values p0.now) p0_stride (P.values p1.now) p1_stride w h is_implicit result dx.new
+) -> Result<(), Refusal>
+    ensures { RefineAnswer (P.depth_ok depth) (up depth) (P.values p0.now) p0_stride (P.values p1.now) p1_stride w h is_implicit (told result) dx.new
         dy.new }
 {
-    let number = check_sads(
+    *dx = 0;
+    *dy = 0;
+    check_sads(
         8,
         P::depth_ok(depth),
         p0.len(),
@@ -333,25 +314,20 @@ pub fn hv_sad_refine_mv<P: Sample>(
         p1_stride,
         w,
         h,
-    );
-    if number == 0 {
-        let s0 = top_down(0, p0_stride);
-        let s1 = top_down(0, p1_stride);
-        let n = Compared {
-            depth: up32(depth),
-            s0,
-            s1,
-            w,
-            h,
-        };
-        let o = refine(p0, p1, n, is_implicit);
-        let x = o.dx;
-        let y = o.dy;
-        *dx = x;
-        *dy = y;
-    } else {
-        *dx = 0;
-        *dy = 0;
-    }
-    number
+    )?;
+    let s0 = top_down(0, p0_stride);
+    let s1 = top_down(0, p1_stride);
+    let n = Compared {
+        depth: up32(depth),
+        s0,
+        s1,
+        w,
+        h,
+    };
+    let o = refine(p0, p1, n, is_implicit);
+    let x = o.dx;
+    let y = o.dy;
+    *dx = x;
+    *dy = y;
+    Ok(())
 }

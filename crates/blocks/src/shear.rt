@@ -1,13 +1,13 @@
 // The warp model: a divisor's reciprocal, the four shears, and the offsets that a motion gives.
 ghost use Rattle.std.specs.Prelude.{◌≡◌, ◌^◌, ◌<◌, ◌≤◌, pos, negsuc, nat_abs, length};
-ghost use Rattle.rows.specs.Numbers.{at, between, clip_to, is_within};
+ghost use Rattle.rows.specs.Numbers.{at, between, clip_to};
 ghost use Rattle.rows.specs.Shear.{Q, top_bit, recip_place, g, shear_c, shear_d, affine_of, middle, offset_of};
-ghost use Rattle.blocks.specs.Refuse.{need, lowest};
+ghost use Rattle.blocks.specs.Refuse.{told, lowest};
 ghost use Rattle.blocks.specs.inner.Ready.{Divides, Entries, Moves};
-ghost use Rattle.blocks.specs.Shear.{divisor_tests, divisor_of, entries_ok, shear_tests, sheared, ShearAnswer, affine_mv_tests, with_mv, AffineMvAnswer};
+ghost use Rattle.blocks.specs.Shear.{recip_ok, divisor_tests, divisor_of, entries_ok, shear_tests, sheared, ShearAnswer, affine_mv_tests, with_mv, AffineMvAnswer};
 
 use crate::numbers::{abs32, abs64, within};
-use crate::refuse::needed;
+use crate::refuse::{Refusal, needed};
 use rows::numbers::{keep32, wrapping_neg32, wrapping_sub32};
 
 // A matrix of six entries, its four shears, and whether the model is affine.
@@ -74,19 +74,28 @@ fn recip_place(d: u32, t: u32) -> usize
     }
 }
 
-fn check_divisor(d: u32, rl: usize) -> u32
-    ensures { result ≡ lowest (divisor_tests d rl) }
+// The table of reciprocals has 129 numbers.
+#[tactic(auto, unfolding(crate::specs::Shear::recip_ok))]
+fn recip_ok(rl: usize) -> bool
+    ensures { result ≡ recip_ok rl }
 {
-    needed((1 <= d) & (d <= 2147483647), 3, needed(rl == 129, 4, 0))
+    rl == 129
+}
+
+#[tactic(auto, unfolding(crate::specs::Refuse::need))]
+fn check_divisor(d: u32, rl: usize) -> Result<(), Refusal>
+    ensures { told result ≡ lowest (divisor_tests d rl) }
+{
+    needed((1 <= d) & (d <= 2147483647), Refusal::Number)?;
+    needed(recip_ok(rl), Refusal::Table)
 }
 
 pub fn resolve_divisor_32(d: u32, recip: &[u16]) -> Divisor
     ensures { result ≡ divisor_of d recip.now }
 {
-    let number = check_divisor(d, recip.len());
-    if number != 0 {
+    if let Err(why) = check_divisor(d, recip.len()) {
         return Divisor {
-            number,
+            number: why.number(),
             y: 0,
             shift: 0,
         };
@@ -95,7 +104,11 @@ pub fn resolve_divisor_32(d: u32, recip: &[u16]) -> Divisor
     let f = recip_place(d, t);
     let y = recip[f] as i32;
     let shift = t as i32 + 9;
-    Divisor { number, y, shift }
+    Divisor {
+        number: 0,
+        y,
+        shift,
+    }
 }
 
 pub fn hv_resolve_divisor_32(d: u32, recip: &[u16], y: &mut i32, shift: &mut i32) -> u32
@@ -150,14 +163,13 @@ fn entries_ok(matrix: [i32; 6]) -> bool
         & within(matrix[5], 4194304)
 }
 
-fn check_shear(matrix: [i32; 6], rl: usize) -> u32
-    ensures { result ≡ lowest (shear_tests matrix rl) }
+#[tactic(auto, unfolding(crate::specs::Refuse::need))]
+fn check_shear(matrix: [i32; 6], rl: usize) -> Result<(), Refusal>
+    ensures { told result ≡ lowest (shear_tests matrix rl) }
 {
-    needed(
-        entries_ok(matrix),
-        3,
-        needed(rl == 129, 4, needed(matrix[2] > 0, 8, 0)),
-    )
+    needed(entries_ok(matrix), Refusal::Number)?;
+    needed(recip_ok(rl), Refusal::Table)?;
+    needed(matrix[2] > 0, Refusal::Matrix)
 }
 
 fn with_shears(wm: WarpParams, recip: &[u16]) -> WarpParams
@@ -188,13 +200,16 @@ fn with_shears(wm: WarpParams, recip: &[u16]) -> WarpParams
 pub fn get_shear_params(wm: WarpParams, recip: &[u16]) -> Answered
     ensures { ShearAnswer wm recip.now result.number result.warp }
 {
-    let matrix = wm.matrix;
-    let number = check_shear(matrix, recip.len());
-    if number != 0 {
-        return Answered { number, warp: wm };
+    match check_shear(wm.matrix, recip.len()) {
+        Err(why) => Answered {
+            number: why.number(),
+            warp: wm,
+        },
+        Ok(()) => Answered {
+            number: 0,
+            warp: with_shears(wm, recip),
+        },
     }
-    let warp = with_shears(wm, recip);
-    Answered { number, warp }
 }
 
 pub fn hv_get_shear_params(
@@ -261,26 +276,7 @@ fn lies(lo: i32, hi: i32, v: i32) -> bool
     (lo <= v) & (v <= hi)
 }
 
-// The place and the motion of a block, as links of a chain of tests.
-fn moves(mv_x: i32, mv_y: i32, bx4: i32, by4: i32, rest: u32) -> u32
-    ensures { result ≡ need (between (pos 0) (pos 16384) bx4) 3 (need (between (pos 0) (pos 16384) by4) 3
-        (need (is_within (2 ^ 20) mv_x) 3 (need (is_within (2 ^ 20) mv_y) 3 rest))) }
-{
-    needed(
-        lies(0, 16384, bx4),
-        3,
-        needed(
-            lies(0, 16384, by4),
-            3,
-            needed(
-                within(mv_x, 1048576),
-                3,
-                needed(within(mv_y, 1048576), 3, rest),
-            ),
-        ),
-    )
-}
-
+#[tactic(auto, unfolding(crate::specs::Refuse::need))]
 fn check_affine_mv(
     bw4: i32,
     bh4: i32,
@@ -289,18 +285,16 @@ fn check_affine_mv(
     matrix: [i32; 6],
     bx4: i32,
     by4: i32,
-) -> u32
-    ensures { result ≡ lowest (affine_mv_tests bw4 bh4 mv_x mv_y matrix bx4 by4) }
+) -> Result<(), Refusal>
+    ensures { told result ≡ lowest (affine_mv_tests bw4 bh4 mv_x mv_y matrix bx4 by4) }
 {
-    needed(
-        lies(1, 64, bw4),
-        1,
-        needed(
-            lies(1, 64, bh4),
-            1,
-            moves(mv_x, mv_y, bx4, by4, needed(entries_ok(matrix), 3, 0)),
-        ),
-    )
+    needed(lies(1, 64, bw4), Refusal::Size)?;
+    needed(lies(1, 64, bh4), Refusal::Size)?;
+    needed(lies(0, 16384, bx4), Refusal::Number)?;
+    needed(lies(0, 16384, by4), Refusal::Number)?;
+    needed(within(mv_x, 1048576), Refusal::Number)?;
+    needed(within(mv_y, 1048576), Refusal::Number)?;
+    needed(entries_ok(matrix), Refusal::Number)
 }
 
 fn with_mv(
@@ -347,13 +341,16 @@ pub fn set_affine_mv2d(
     ensures { AffineMvAnswer bw4 bh4 mv_x mv_y wm.matrix bx4 by4 result.number result.warp.matrix
         × (result.warp.abcd ≡ wm.abcd) × (result.warp.affine ≡ wm.affine) }
 {
-    let matrix = wm.matrix;
-    let number = check_affine_mv(bw4, bh4, mv_x, mv_y, matrix, bx4, by4);
-    if number != 0 {
-        return Answered { number, warp: wm };
+    match check_affine_mv(bw4, bh4, mv_x, mv_y, wm.matrix, bx4, by4) {
+        Err(why) => Answered {
+            number: why.number(),
+            warp: wm,
+        },
+        Ok(()) => Answered {
+            number: 0,
+            warp: with_mv(bw4, bh4, mv_x, mv_y, wm, bx4, by4),
+        },
     }
-    let warp = with_mv(bw4, bh4, mv_x, mv_y, wm, bx4, by4);
-    Answered { number, warp }
 }
 
 pub fn hv_set_affine_mv2d(

@@ -1,12 +1,13 @@
 // put_8tap and prep_8tap: blocks filtered by eight taps along the rows, down the columns, both ways or not at all.
-ghost use Rattle.std.specs.Prelude.{◌≡◌, ◌+◌, length};
+ghost use Rattle.std.specs.Prelude.{◌≡◌, length};
 ghost use Rattle.rows.specs.Numbers.{up};
 ghost use Rattle.rows.specs.Places.{fill};
+ghost use Rattle.blocks.specs.Refuse.{told};
 ghost use Rattle.blocks.specs.inner.Ready.{Block, Rows, Taps};
 ghost use Rattle.blocks.specs.inner.Source.{around_in};
 ghost use Rattle.blocks.specs.Subpel.{put8_rule, prep8_rule, Put8Answer, Prep8Answer};
 
-use crate::refuse::{DepthNumbers, Layout};
+use crate::refuse::{DepthNumbers, Layout, Refusal};
 use crate::sample::Sample;
 use crate::source::{Stand, top_down};
 use crate::subpel::both::{prep_8tap_both, put_8tap_both};
@@ -91,9 +92,9 @@ pub fn hv_put_8tap<P: Sample>(
     filter_type: i32,
     subpel: &[i8],
     ext: &[i8],
-) -> u32
+) -> Result<(), Refusal>
     ensures { Put8Answer (P.depth_ok depth) (up depth) (P.values dst.old) dst_stride (P.values src.now) src_off src_stride w h mx my filter_type
-        subpel.now ext.now result (P.values dst.new) }
+        subpel.now ext.now (told result) (P.values dst.new) }
 {
     let l = Layout {
         w,
@@ -106,7 +107,7 @@ pub fn hv_put_8tap<P: Sample>(
         my,
         filter_type,
     };
-    let number = check_8tap(
+    check_8tap(
         P::depth_ok(depth),
         dst.len(),
         src.len(),
@@ -115,13 +116,11 @@ pub fn hv_put_8tap<P: Sample>(
         m,
         subpel.len(),
         ext.len(),
-    );
-    if number == 0 {
-        let d = P::depth_numbers(depth);
-        let s = top_down(src_off, src_stride);
-        put_8tap_rows(d, dst, src, s, l, m, subpel, ext);
-    }
-    number
+    )?;
+    let d = P::depth_numbers(depth);
+    let s = top_down(src_off, src_stride);
+    put_8tap_rows(d, dst, src, s, l, m, subpel, ext);
+    Ok(())
 }
 
 pub fn hv_prep_8tap<P: Sample>(
@@ -138,9 +137,9 @@ pub fn hv_prep_8tap<P: Sample>(
     filter_type: i32,
     subpel: &[i8],
     ext: &[i8],
-) -> u32
+) -> Result<(), Refusal>
     ensures { Prep8Answer (P.depth_ok depth) (up depth) tmp.old tmp_stride (P.values src.now) src_off src_stride w h mx my filter_type
-        subpel.now ext.now result tmp.new }
+        subpel.now ext.now (told result) tmp.new }
 {
     let l = Layout {
         w,
@@ -153,7 +152,7 @@ pub fn hv_prep_8tap<P: Sample>(
         my,
         filter_type,
     };
-    let number = check_8tap(
+    check_8tap(
         P::depth_ok(depth),
         tmp.len(),
         src.len(),
@@ -162,11 +161,9 @@ pub fn hv_prep_8tap<P: Sample>(
         m,
         subpel.len(),
         ext.len(),
-    );
-    if number == 0 {
-        let d = P::depth_numbers(depth);
-        let s = top_down(src_off, src_stride);
-        prep_8tap_rows(d, tmp, src, s, l, m, subpel, ext);
-    }
-    number
+    )?;
+    let d = P::depth_numbers(depth);
+    let s = top_down(src_off, src_stride);
+    prep_8tap_rows(d, tmp, src, s, l, m, subpel, ext);
+    Ok(())
 }

@@ -1,10 +1,9 @@
-// w_mask's tests, and the mask of the weights that two blocks of intermediates give, for both sets of pixels.
 // w_mask: two blocks of intermediates combined by weights from their differences, and the mask of these weights.
 ghost use Rattle.std.specs.Prelude.{◌≡◌, true, false, ◌*◌, ◌/◌, ◌≤◌, length};
 ghost use Rattle.rows.specs.Places.{fill};
 ghost use Rattle.rows.specs.Combine.{both, masked};
 ghost use Rattle.rows.specs.WMask.{weight_of, mask_at};
-ghost use Rattle.blocks.specs.Refuse.{need, lowest, holds, holds_all};
+ghost use Rattle.blocks.specs.Refuse.{told, lowest};
 ghost use Rattle.blocks.specs.inner.Ready.{Depths, Weighing, Block, Rows, DepthRange};
 ghost use Rattle.blocks.specs.WMask.{even_ok, mask_side, flags_ok, sign_ok, w_mask_tests, WMaskAnswer};
 ghost use Rattle.rows.specs.Numbers.{up};
@@ -12,7 +11,7 @@ ghost use Rattle.rows.specs.Numbers.{up};
 use crate::combine::mask_rows;
 use crate::frame::flags_ok;
 use crate::numbers::up32;
-use crate::refuse::{DepthNumbers, held, needed, sizes, stride};
+use crate::refuse::{DepthNumbers, Refusal, holds_rows, needed, size_ok, stride_ok};
 use crate::sample::Sample;
 use rows::combine::mask_row;
 use rows::w_mask::{four_row, pair_row, weight_row};
@@ -63,27 +62,7 @@ fn sign_ok(sign: i32) -> bool
     (0 <= sign) & (sign <= 1)
 }
 
-// The links of the numbers, and those of the buffers, where the mask has mh rows of mw.
-fn mask_numbers(deep: bool, sign: i32, ss_hor: bool, ss_ver: bool, rest: u32) -> u32
-    ensures { result ≡ need deep 3 (need (sign_ok sign) 3 (need (flags_ok ss_hor ss_ver) 3 rest)) }
-{
-    needed(
-        deep,
-        3,
-        needed(sign_ok(sign), 3, needed(flags_ok(ss_hor, ss_ver), 3, rest)),
-    )
-}
-
-fn mask_buffers(l: WMaskLengths, block: Extent, mask: Extent) -> u32
-    ensures { result ≡ need (holds_all l.tmp1 block.w block.h) 5 (need (holds_all l.tmp2 block.w block.h) 5
-        (need (holds l.dst block.stride block.w block.h) 6 (need (holds l.mask mask.stride mask.w mask.h) 6 0))) }
-{
-    let kept = held(l.mask, mask.stride, mask.w, mask.h, 6, 0);
-    let written = held(l.dst, block.stride, block.w, block.h, 6, kept);
-    let second = held(l.tmp2, block.w, block.w, block.h, 5, written);
-    held(l.tmp1, block.w, block.w, block.h, 5, second)
-}
-
+#[tactic(auto, unfolding(crate::specs::Refuse::need))]
 pub fn check_w_mask(
     deep: bool,
     l: WMaskLengths,
@@ -92,31 +71,30 @@ pub fn check_w_mask(
     sign: i32,
     ss_hor: bool,
     ss_ver: bool,
-) -> u32
-    ensures { result ≡ lowest (w_mask_tests deep l.dst block.stride l.tmp1 l.tmp2 block.w block.h l.mask mask_stride
+) -> Result<(), Refusal>
+    ensures { told result ≡ lowest (w_mask_tests deep l.dst block.stride l.tmp1 l.tmp2 block.w block.h l.mask mask_stride
         sign ss_hor ss_ver) }
 {
     let w = block.w;
     let h = block.h;
     let mw = mask_side(ss_hor, w);
     let mh = mask_side(ss_ver, h);
-    let mask = Extent {
-        stride: mask_stride,
-        w: mw,
-        h: mh,
-    };
-    let buffers = mask_buffers(l, block, mask);
-    let numbers = mask_numbers(deep, sign, ss_hor, ss_ver, buffers);
-    let strides = stride(w, block.stride, stride(mw, mask_stride, numbers));
-    let even = needed(
-        even_ok(ss_hor, w),
-        1,
-        needed(even_ok(ss_ver, h), 1, strides),
-    );
-    sizes(w, h, even)
+    needed(size_ok(64, w), Refusal::Size)?;
+    needed(size_ok(64, h), Refusal::Size)?;
+    needed(even_ok(ss_hor, w), Refusal::Size)?;
+    needed(even_ok(ss_ver, h), Refusal::Size)?;
+    needed(stride_ok(w, block.stride), Refusal::Stride)?;
+    needed(stride_ok(mw, mask_stride), Refusal::Stride)?;
+    needed(deep, Refusal::Number)?;
+    needed(sign_ok(sign), Refusal::Number)?;
+    needed(flags_ok(ss_hor, ss_ver), Refusal::Number)?;
+    needed(holds_rows(l.tmp1, w, w, h), Refusal::Read)?;
+    needed(holds_rows(l.tmp2, w, w, h), Refusal::Read)?;
+    needed(holds_rows(l.dst, block.stride, w, h), Refusal::Written)?;
+    needed(holds_rows(l.mask, mask_stride, mw, mh), Refusal::Written)
 }
 
-// The mask doesn't depend on the pixels' type, so it is written on its own, by one text for both sets. Where it doesn't keep each weight,
+// The mask doesn't depend on the pixels' type, so it is written on its own, by functions that aren't generic. Where it doesn't keep each weight,
 // the weights are made again for the pixels.
 
 // Without ss_hor: it keeps each weight.
@@ -310,9 +288,9 @@ pub fn hv_w_mask<P: Sample>(
     sign: i32,
     ss_hor: bool,
     ss_ver: bool,
-) -> u32
+) -> Result<(), Refusal>
     ensures { WMaskAnswer (P.depth_ok depth) (up depth) (P.values dst.old) dst_stride tmp1.now tmp2.now w h mask.old
-        mask_stride sign ss_hor ss_ver result (P.values dst.new) mask.new }
+        mask_stride sign ss_hor ss_ver (told result) (P.values dst.new) mask.new }
 {
     let block = Extent {
         stride: dst_stride,
@@ -325,7 +303,7 @@ pub fn hv_w_mask<P: Sample>(
         tmp2: tmp2.len(),
         mask: mask.len(),
     };
-    let number = check_w_mask(
+    check_w_mask(
         P::depth_ok(depth),
         lengths,
         block,
@@ -333,16 +311,14 @@ pub fn hv_w_mask<P: Sample>(
         sign,
         ss_hor,
         ss_ver,
-    );
-    if number == 0 {
-        let d = P::depth_numbers(depth);
-        let form = MaskForm {
-            stride: mask_stride,
-            ss_hor,
-            ss_ver,
-        };
-        let s = up32(sign);
-        w_mask_rows(d, dst, block, tmp1, tmp2, mask, form, s, up32(depth));
-    }
-    number
+    )?;
+    let d = P::depth_numbers(depth);
+    let form = MaskForm {
+        stride: mask_stride,
+        ss_hor,
+        ss_ver,
+    };
+    let s = up32(sign);
+    w_mask_rows(d, dst, block, tmp1, tmp2, mask, form, s, up32(depth));
+    Ok(())
 }

@@ -1,17 +1,16 @@
-// Warp's shears, tests and second pass into intermediates, for both sets of pixels.
 // warp_affine_8x8 and 8x8t: blocks of eight by eight, each pixel with filters of its own.
 ghost use Rattle.std.specs.Prelude.{◌≡◌, suc, ◌+◌, ◌*◌, ◌/◌, ◌^◌, ◌≤◌, pos, nat_abs, length, ◌-◌};
 ghost use Rattle.rows.specs.Numbers.{at, low16, minus16, px, clip, up};
 ghost use Rattle.rows.specs.Places.{fill};
 ghost use Rattle.rows.specs.Warp.{filter_no, is_there, every, all_there, warped, warp_put, warp_prep};
-ghost use Rattle.blocks.specs.Refuse.{need, lowest, stride_ok, holds, reads, whole_filters};
+ghost use Rattle.blocks.specs.Refuse.{told, lowest, reads};
 ghost use Rattle.blocks.specs.inner.Ready.{Rows, Pass, Margins, Warps};
-ghost use Rattle.blocks.specs.Warp.{warp_place_ok, warp_tests, WarpAnswer, WarpTAnswer};
+ghost use Rattle.blocks.specs.Warp.{warp_tests, WarpAnswer, WarpTAnswer};
 ghost use Rattle.blocks.specs.inner.Source.{around_in, pixel_in, Stood};
 ghost use Rattle.blocks.specs.inner.Warp.{first_in};
 
 use crate::numbers::within;
-use crate::refuse::{DepthNumbers, held, needed, stride};
+use crate::refuse::{DepthNumbers, Refusal, holds_rows, needed, stride_ok};
 use crate::sample::Sample;
 use crate::source::{Stand, corner, row_first, top_down};
 use rows::copy::numbers_row;
@@ -67,53 +66,7 @@ fn margins_held(sl: usize, o: usize, s: usize) -> bool
     }
 }
 
-fn check_numbers(deep: bool, dst_stride: usize, src_stride: usize, mx: i32, my: i32) -> u32
-    ensures { result ≡ need (stride_ok 8 dst_stride) 2 (need (stride_ok 8 src_stride) 2
-        (need deep 3 (need (warp_place_ok mx) 3 (need (warp_place_ok my) 3 0)))) }
-{
-    stride(
-        8,
-        dst_stride,
-        stride(
-            8,
-            src_stride,
-            needed(
-                deep,
-                3,
-                needed(within(mx, 1048576), 3, needed(within(my, 1048576), 3, 0)),
-            ),
-        ),
-    )
-}
-
-fn check_buffers(
-    dl: usize,
-    dst_stride: usize,
-    sl: usize,
-    src_stride: usize,
-    src_off: usize,
-    m: Shears,
-    tl: usize,
-) -> u32
-    requires { (src_stride ≤ 32768) × (nat_abs m.mx ≤ 2 ^ 20) × (nat_abs m.my ≤ 2 ^ 20) }
-    ensures { result ≡ need (whole_filters tl) 4 (need (all_there (tl / 8) m.mx m.my m.a m.b m.c m.d) 4
-        (need (reads sl src_off src_stride 8 8 3 4 3 4) 5 (need (holds dl dst_stride 8 8) 6 0))) }
-{
-    needed(
-        tl % 8 == 0,
-        4,
-        needed(
-            filters_there(m, tl / 8),
-            4,
-            needed(
-                margins_held(sl, src_off, src_stride),
-                5,
-                held(dl, dst_stride, 8, 8, 6, 0),
-            ),
-        ),
-    )
-}
-
+#[tactic(auto, using(crate::proofs::Laws::Calls::Refuse::stride_met, crate::proofs::Laws::Warp::Ready::place_met), unfolding(crate::specs::Refuse::need, crate::specs::Refuse::whole_filters, crate::specs::Warp::warp_place_ok))]
 pub fn check_warp(
     deep: bool,
     dl: usize,
@@ -123,15 +76,19 @@ pub fn check_warp(
     src_off: usize,
     m: Shears,
     tl: usize,
-) -> u32
-    ensures { result ≡ lowest (warp_tests deep dl dst_stride sl src_stride src_off
+) -> Result<(), Refusal>
+    ensures { told result ≡ lowest (warp_tests deep dl dst_stride sl src_stride src_off
         m.a m.b m.c m.d m.mx m.my tl) }
 {
-    let number = check_numbers(deep, dst_stride, src_stride, m.mx, m.my);
-    if number != 0 {
-        return number;
-    }
-    check_buffers(dl, dst_stride, sl, src_stride, src_off, m, tl)
+    needed(stride_ok(8, dst_stride), Refusal::Stride)?;
+    needed(stride_ok(8, src_stride), Refusal::Stride)?;
+    needed(deep, Refusal::Number)?;
+    needed(within(m.mx, 1048576), Refusal::Number)?;
+    needed(within(m.my, 1048576), Refusal::Number)?;
+    needed(tl % 8 == 0, Refusal::Table)?;
+    needed(filters_there(m, tl / 8), Refusal::Table)?;
+    needed(margins_held(sl, src_off, src_stride), Refusal::Read)?;
+    needed(holds_rows(dl, dst_stride, 8, 8), Refusal::Written)
 }
 
 // The second pass, as 8x8t has it.
@@ -301,8 +258,9 @@ pub fn warp_prep<P: Sample>(
         a: m.c,
         b: m.d,
     };
-    let p = P::bias_of(d.bias);
-    warp_prep_rows(tmp, tmp_stride, &mid, warp, second, p);
+    // Asked for its bound alone: where the bias is the constant that bytes have, the rows are compiled to a third more instructions.
+    let _bounded = P::bias_of(d.bias);
+    warp_prep_rows(tmp, tmp_stride, &mid, warp, second, d.bias);
 }
 
 pub fn hv_warp_affine_8x8<P: Sample>(
@@ -319,12 +277,12 @@ pub fn hv_warp_affine_8x8<P: Sample>(
     mx: i32,
     my: i32,
     warp: &[i8],
-) -> u32
+) -> Result<(), Refusal>
     ensures { WarpAnswer (P.depth_ok depth) (up depth) (P.values dst.old) dst_stride (P.values src.now) src_stride src_off a b c d mx my
-        warp.now result (P.values dst.new) }
+        warp.now (told result) (P.values dst.new) }
 {
     let m = Shears { a, b, c, d, mx, my };
-    let number = check_warp(
+    check_warp(
         P::depth_ok(depth),
         dst.len(),
         dst_stride,
@@ -333,12 +291,10 @@ pub fn hv_warp_affine_8x8<P: Sample>(
         src_off,
         m,
         warp.len(),
-    );
-    if number == 0 {
-        let s = top_down(src_off, src_stride);
-        warp_put(P::depth_numbers(depth), dst, dst_stride, src, s, m, warp);
-    }
-    number
+    )?;
+    let s = top_down(src_off, src_stride);
+    warp_put(P::depth_numbers(depth), dst, dst_stride, src, s, m, warp);
+    Ok(())
 }
 
 pub fn hv_warp_affine_8x8t<P: Sample>(
@@ -355,12 +311,12 @@ pub fn hv_warp_affine_8x8t<P: Sample>(
     mx: i32,
     my: i32,
     warp: &[i8],
-) -> u32
+) -> Result<(), Refusal>
     ensures { WarpTAnswer (P.depth_ok depth) (up depth) tmp.old tmp_stride (P.values src.now) src_stride src_off a b c d mx my
-        warp.now result tmp.new }
+        warp.now (told result) tmp.new }
 {
     let m = Shears { a, b, c, d, mx, my };
-    let number = check_warp(
+    check_warp(
         P::depth_ok(depth),
         tmp.len(),
         tmp_stride,
@@ -369,10 +325,8 @@ pub fn hv_warp_affine_8x8t<P: Sample>(
         src_off,
         m,
         warp.len(),
-    );
-    if number == 0 {
-        let s = top_down(src_off, src_stride);
-        warp_prep(P::depth_numbers(depth), tmp, tmp_stride, src, s, m, warp);
-    }
-    number
+    )?;
+    let s = top_down(src_off, src_stride);
+    warp_prep(P::depth_numbers(depth), tmp, tmp_stride, src, s, m, warp);
+    Ok(())
 }

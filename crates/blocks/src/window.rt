@@ -1,19 +1,18 @@
-// Windows: their tests, and where a block's pixels with its margins lie, in the plane or in scratch, for both sets of pixels.
 // Windows: where a block's pixels with its margins lie, in the plane or in scratch.
-ghost use Rattle.std.specs.Prelude.{◌≡◌, List, ℕ, ◌+◌, ◌^◌, ◌≤◌, leb, nat_abs, length};
-ghost use Rattle.blocks.specs.Refuse.{need, lowest, size_ok, block_side, stride_ok, part_len, holds, holds_all};
+ghost use Rattle.std.specs.Prelude.{◌≡◌, List, ℕ, ◌+◌, ◌^◌, ◌≤◌, nat_abs, length};
+ghost use Rattle.blocks.specs.Refuse.{told, lowest, size_ok, stride_ok, part_len};
 ghost use Rattle.blocks.specs.Edge.{place_ok};
 ghost use Rattle.blocks.specs.inner.Ready.{Ranged, Fetch, PartIn};
 ghost use Rattle.blocks.specs.Window.{plane_w, plane_h, frame_sizes_ok, frame_names_ok, window_side, window_tests, inside, is_planes, no_part, window_of, scratch_of, part_of, WindowAnswer};
 ghost use Rattle.blocks.specs.inner.Window.{lent_of, asked, area_at, area_fetched};
 ghost use Rattle.blocks.specs.inner.Source.{top_down};
 
-use crate::edge::{edge_rows, places};
+use crate::edge::{edge_rows, place_ok};
 use crate::frame::{
     Area, Frame, Reference, area_of, frame_names_ok, frame_sizes_ok, plane_h, plane_w, window_side,
 };
 use crate::numbers::up64;
-use crate::refuse::{held, needed, sizes, stride};
+use crate::refuse::{Refusal, holds_rows, needed, size_ok, stride_ok};
 use crate::sample::Sample;
 use crate::source::top_down;
 
@@ -27,55 +26,7 @@ pub struct Part {
     pub len: usize,
 }
 
-// The links of a window's tests: the sizes and the stride, on which the later ones rely; the other numbers; the buffers.
-fn window_sizes(lent: Reference, w: usize, h: usize) -> u32
-    ensures { result
-        ≡ need (frame_sizes_ok lent.frame lent.plane_no) 1 (need (size_ok block_side w) 1
-        (need (size_ok block_side h) 1 (need (stride_ok (plane_w lent.frame lent.plane_no) lent.stride) 2 0))) }
-{
-    let f = lent.frame;
-    needed(
-        frame_sizes_ok(f, lent.plane_no),
-        1,
-        sizes(w, h, stride(plane_w(f, lent.plane_no), lent.stride, 0)),
-    )
-}
-
-fn window_numbers(lent: Reference, kind: u32, x: i64, y: i64, mode: u32, rest: u32) -> u32
-    ensures { result
-        ≡ need (frame_names_ok lent.frame lent.plane_no) 3 (need (leb kind 3) 3 (need (place_ok x) 3 (need (place_ok y) 3 (need (leb mode 1) 3 rest)))) }
-{
-    let f = lent.frame;
-    needed(
-        frame_names_ok(f, lent.plane_no),
-        3,
-        needed(kind <= 3, 3, places(x, y, needed(mode <= 1, 3, rest))),
-    )
-}
-
-pub fn window_held(
-    lent: Reference,
-    pl: usize,
-    kind: u32,
-    w: usize,
-    h: usize,
-    sl: usize,
-    rest: u32,
-) -> u32
-    requires { (w ≤ 64) × (h ≤ 64) }
-    ensures { result
-        ≡ need (holds pl lent.stride (plane_w lent.frame lent.plane_no) (plane_h lent.frame lent.plane_no)) 5
-        (need (holds_all sl (window_side kind w) (window_side kind h)) 6 rest) }
-{
-    let f = lent.frame;
-    let ww = window_side(kind, w);
-    let wh = window_side(kind, h);
-    let scratch = held(sl, ww, ww, wh, 6, rest);
-    let iw = plane_w(f, lent.plane_no);
-    let ih = plane_h(f, lent.plane_no);
-    held(pl, lent.stride, iw, ih, 5, scratch)
-}
-
+#[tactic(auto, using(crate::proofs::Laws::Calls::Refuse::size_met), unfolding(crate::specs::Refuse::need))]
 pub fn check_window(
     lent: Reference,
     pl: usize,
@@ -86,15 +37,27 @@ pub fn check_window(
     y: i64,
     mode: u32,
     sl: usize,
-) -> u32
-    ensures { (plane : List ℕ) → length plane ≡ pl → result ≡ lowest (window_tests (lent_of lent plane) (asked kind w h x y mode) sl) }
+) -> Result<(), Refusal>
+    ensures { (plane : List ℕ) → length plane ≡ pl → told result ≡ lowest (window_tests (lent_of lent plane) (asked kind w h x y mode) sl) }
 {
-    let number = window_sizes(lent, w, h);
-    if number != 0 {
-        return number;
-    }
-    let buffers = window_held(lent, pl, kind, w, h, sl, 0);
-    window_numbers(lent, kind, x, y, mode, buffers)
+    let f = lent.frame;
+    let n = lent.plane_no;
+    needed(frame_sizes_ok(f, n), Refusal::Size)?;
+    needed(size_ok(64, w), Refusal::Size)?;
+    needed(size_ok(64, h), Refusal::Size)?;
+    needed(stride_ok(plane_w(f, n), lent.stride), Refusal::Stride)?;
+    needed(frame_names_ok(f, n), Refusal::Number)?;
+    needed(kind <= 3, Refusal::Number)?;
+    needed(place_ok(x), Refusal::Number)?;
+    needed(place_ok(y), Refusal::Number)?;
+    needed(mode <= 1, Refusal::Number)?;
+    let ww = window_side(kind, w);
+    let wh = window_side(kind, h);
+    needed(
+        holds_rows(pl, lent.stride, plane_w(f, n), plane_h(f, n)),
+        Refusal::Read,
+    )?;
+    needed(holds_rows(sl, ww, ww, wh), Refusal::Written)
 }
 
 // n columns from x on lie inside a side.
@@ -179,9 +142,8 @@ pub fn find_window(
 ) -> Part
     ensures { (plane : List ℕ) → length plane ≡ pl → result ≡ window_of (lent_of lent plane) (asked kind w h x y mode) sl }
 {
-    let number = check_window(lent, pl, kind, w, h, x, y, mode, sl);
-    if number != 0 {
-        return no_part(number);
+    if let Err(why) = check_window(lent, pl, kind, w, h, x, y, mode, sl) {
+        return no_part(why.number());
     }
     let a = area_of(lent, kind, w, h, x, y);
     locate(a, mode, lent.stride)
@@ -222,9 +184,8 @@ pub fn window<P: Sample>(
     ensures { (result ≡ window_of (lent_of lent (P.values plane.now)) (asked kind w h x y mode) (length scratch.old))
         × (P.values scratch.new ≡ scratch_of result.number (lent_of lent (P.values plane.now)) (asked kind w h x y mode) (P.values scratch.old)) }
 {
-    let number = check_window(lent, plane.len(), kind, w, h, x, y, mode, scratch.len());
-    if number != 0 {
-        return no_part(number);
+    if let Err(why) = check_window(lent, plane.len(), kind, w, h, x, y, mode, scratch.len()) {
+        return no_part(why.number());
     }
     let a = area_of(lent, kind, w, h, x, y);
     fetch(a, plane, lent.stride, mode, scratch)

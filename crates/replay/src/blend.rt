@@ -13,13 +13,13 @@ pub(crate) fn blend<P: Set>(alloc: Global, r: &[u8]) -> Result<bool, AllocError>
     let mut row = UNSET_PLACE;
     let mut col = UNSET_PLACE;
     let s = sizes_at(r, 0);
-    let number = hv_blend(&mut dst, s.a, &tmp, s.b, s.c, &mask, &mut row, &mut col);
-    Ok(told(r, number) & same(r, 0, &dst) & (row == s.d) & (col == size(r, 4)))
+    let answer = hv_blend(&mut dst, s.a, &tmp, s.b, s.c, &mask, &mut row, &mut col);
+    Ok(told(r, answer) & same(r, 0, &dst) & (row == s.d) & (col == size(r, 4)))
 }
 
 pub(crate) fn morph<P: Set>(r: &[u8], dst: &mut [P]) -> bool {
     let m = ints_at(r, P::after() + 1);
-    let number = hv_morph(
+    let answer = hv_morph(
         P::depth(r),
         dst,
         size(r, P::after()),
@@ -28,5 +28,5 @@ pub(crate) fn morph<P: Set>(r: &[u8], dst: &mut [P]) -> bool {
         size(r, P::after() + 3),
         size(r, P::after() + 4),
     );
-    told(r, number)
+    told(r, answer)
 }

@@ -5,13 +5,13 @@ use blocks::combine::{hv_avg, hv_mask, hv_w_avg};
 
 pub(crate) fn avg<P: Set>(r: &[u8], dst: &mut [P], tmp1: &[i16], tmp2: &[i16]) -> bool {
     let s = sizes_at(r, P::after());
-    let number = hv_avg(P::depth(r), dst, s.a, tmp1, tmp2, s.b, s.c);
-    told(r, number)
+    let answer = hv_avg(P::depth(r), dst, s.a, tmp1, tmp2, s.b, s.c);
+    told(r, answer)
 }
 
 pub(crate) fn w_avg<P: Set>(r: &[u8], dst: &mut [P], tmp1: &[i16], tmp2: &[i16]) -> bool {
     let s = sizes_at(r, P::after());
-    let number = hv_w_avg(
+    let answer = hv_w_avg(
         P::depth(r),
         dst,
         s.a,
@@ -21,7 +21,7 @@ pub(crate) fn w_avg<P: Set>(r: &[u8], dst: &mut [P], tmp1: &[i16], tmp2: &[i16])
         s.c,
         int(r, P::after() + 3),
     );
-    told(r, number)
+    told(r, answer)
 }
 
 pub(crate) fn mask<P: Set>(
@@ -32,6 +32,6 @@ pub(crate) fn mask<P: Set>(
     mask: &[u8],
 ) -> bool {
     let s = sizes_at(r, P::after());
-    let number = hv_mask(P::depth(r), dst, s.a, tmp1, tmp2, s.b, s.c, mask);
-    told(r, number)
+    let answer = hv_mask(P::depth(r), dst, s.a, tmp1, tmp2, s.b, s.c, mask);
+    told(r, answer)
 }

@@ -10,6 +10,6 @@ pub(crate) fn put<P: Set>(r: &[u8], dst: &mut [P], src: &[P]) -> bool {
 
 pub(crate) fn prep<P: Set>(r: &[u8], tmp: &mut [i16], src: &[P]) -> bool {
     let s = sizes_at(r, P::after());
-    let number = hv_prep(P::depth(r), tmp, s.a, src, s.b, s.c, s.d);
-    told(r, number)
+    let answer = hv_prep(P::depth(r), tmp, s.a, src, s.b, s.c, s.d);
+    told(r, answer)
 }

@@ -5,7 +5,7 @@ use blocks::edge::hv_emu_edge;
 
 pub(crate) fn emu_edge<P: Set>(r: &[u8], dst: &mut [P], plane: &[P]) -> bool {
     let s = sizes_at(r, 0);
-    let number = hv_emu_edge(
+    let answer = hv_emu_edge(
         s.a,
         s.b,
         s.c,
@@ -17,5 +17,5 @@ pub(crate) fn emu_edge<P: Set>(r: &[u8], dst: &mut [P], plane: &[P]) -> bool {
         plane,
         size(r, 7),
     );
-    told(r, number)
+    told(r, answer)
 }

@@ -1,6 +1,7 @@
 // Numbers and contents of one record of the list, read at their places. Past the record's end stand zeros.
 ghost use Rattle.std.specs.Prelude.{◌≤◌};
 
+use blocks::refuse::{Refusal, number_told};
 use rows::numbers::{keep16, keep32};
 
 // Places of the longest buffer.
@@ -63,30 +64,36 @@ pub(crate) fn byte(r: &[u8], p: usize) -> u8 {
     if p < r.len() { r[p] } else { 0 }
 }
 
-// The number of two bytes.
-pub(crate) fn joined(low: u8, high: u8) -> u16 {
-    low as u16 + 256 * (high as u16)
-}
-
 fn half(r: &[u8], p: usize) -> u16 {
     if p < r.len() {
-        joined(byte(r, p), byte(r, p + 1))
+        u16::from_le_bytes([byte(r, p), byte(r, p + 1)])
     } else {
         0
     }
 }
 
+// The bytes of number k of the record.
+fn bytes_of(r: &[u8], k: u8) -> [u8; 8] {
+    let p = 60 + 8 * (k as usize);
+    [
+        byte(r, p),
+        byte(r, p + 1),
+        byte(r, p + 2),
+        byte(r, p + 3),
+        byte(r, p + 4),
+        byte(r, p + 5),
+        byte(r, p + 6),
+        byte(r, p + 7),
+    ]
+}
+
 // Number k of the record, without sign and with it.
 pub(crate) fn size(r: &[u8], k: u8) -> usize {
-    let p = 60 + 8 * (k as usize);
-    let low = half(r, p) as usize | (half(r, p + 2) as usize) << 16;
-    low | (half(r, p + 4) as usize) << 32 | (half(r, p + 6) as usize) << 48
+    usize::from_le_bytes(bytes_of(r, k))
 }
 
 pub(crate) fn wide(r: &[u8], k: u8) -> i64 {
-    let p = 60 + 8 * (k as usize);
-    let low = half(r, p) as i64 | (half(r, p + 2) as i64) << 16;
-    low | (half(r, p + 4) as i64) << 32 | (half(r, p + 6) as i64) << 48
+    i64::from_le_bytes(bytes_of(r, k))
 }
 
 pub(crate) fn int(r: &[u8], k: u8) -> i32 {
@@ -102,8 +109,8 @@ pub(crate) fn flag(r: &[u8], k: u8) -> bool {
 }
 
 pub(crate) fn word(r: &[u8], k: u8) -> u32 {
-    let p = 60 + 8 * (k as usize);
-    half(r, p) as u32 | (half(r, p + 2) as u32) << 16
+    let b = bytes_of(r, k);
+    u32::from_le_bytes([b[0], b[1], b[2], b[3]])
 }
 
 // The record's numbers from number k on.
@@ -139,8 +146,8 @@ pub(crate) fn shorts_at(r: &[u8], k: u8) -> Shorts
     }
 }
 
-// Which function the record calls, and the number that it is to answer.
-pub(crate) fn called(r: &[u8]) -> u16 {
+// The number of the function that the record calls, and the number that it is to answer.
+pub(crate) fn number(r: &[u8]) -> u16 {
     half(r, 0)
 }
 
@@ -149,7 +156,11 @@ pub(crate) fn due(r: &[u8]) -> u16 {
 }
 
 // Whether a call answered the number that is due.
-pub(crate) fn told(r: &[u8], number: u32) -> bool {
+pub(crate) fn told(r: &[u8], answer: Result<(), Refusal>) -> bool {
+    is_due(r, number_told(answer))
+}
+
+pub(crate) fn is_due(r: &[u8], number: u32) -> bool {
     number == due(r) as u32
 }
 

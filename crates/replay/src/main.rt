@@ -15,19 +15,21 @@
 
 ghost use Rattle.std.specs.Prelude.{◌≡◌, ◌<◌, ◌≤◌, IfOk, OnErr, length};
 
-use crate::list::{byte, called, due, joined};
+use crate::called::Called;
+use crate::list::{byte, due, number};
 use crate::tally::{count, print_all, print_end};
 use std::alloc::{AllocError, Global};
 use std::io::{self, Read};
 
 mod bilinear;
 mod blend;
+mod called;
 mod combine;
 mod copy;
 mod edge;
+mod kernels;
 mod list;
 mod mask;
-mod numbered;
 mod rooms;
 mod scaled;
 mod search;
@@ -37,16 +39,17 @@ mod subpel;
 mod tally;
 mod warp;
 
-// Replays a call: whether it answered as the record says.
+// Replays a call: whether it answered as the record says. A number that no function has answers nothing.
 fn replayed(alloc: Global, id: u16, r: &[u8]) -> Result<bool, AllocError> {
-    match id {
-        35 => shear::resolve_divisor_32(alloc, r),
-        36 => shear::get_shear_params(alloc, r),
-        37 => Ok(shear::set_affine_mv2d(r)),
-        18..=34 => numbered::replayed::<u16>(alloc, id - 17, r),
-        38..=41 => numbered::replayed::<u8>(alloc, id - 20, r),
-        42..=45 => numbered::replayed::<u16>(alloc, id - 24, r),
-        _ => numbered::replayed::<u8>(alloc, id, r),
+    let Ok(called) = Called::try_from(id) else {
+        return Ok(false);
+    };
+    match called {
+        Called::Bytes(kernel) => kernels::replayed::<u8>(alloc, kernel, r),
+        Called::Words(kernel) => kernels::replayed::<u16>(alloc, kernel, r),
+        Called::ResolveDivisor32 => shear::resolve_divisor_32(alloc, r),
+        Called::GetShearParams => shear::get_shear_params(alloc, r),
+        Called::SetAffineMv2d => Ok(shear::set_affine_mv2d(r)),
     }
 }
 
@@ -70,7 +73,7 @@ fn read_full(input: &mut impl Read, room: &mut [u8]) -> io::Result<usize>
 fn ahead(input: &mut impl Read) -> io::Result<u16> {
     let mut b = [0u8; 2];
     if read_full(input, &mut b)? == 2 {
-        Ok(joined(b[0], b[1]))
+        Ok(u16::from_le_bytes(b))
     } else {
         Ok(0)
     }
@@ -106,7 +109,7 @@ fn step(alloc: Global, input: &mut impl Read, tally: &mut [u32; 141], sum: u32) 
     let len = next(input, &mut room)?;
     let n = (len as usize).min(room.len());
     let r = &room[..n];
-    let id = called(r);
+    let id = number(r);
     let same = replayed(alloc, id, r)?;
     count(tally, id, due(r) == 0, same);
     Ok(mixed(sum, r))

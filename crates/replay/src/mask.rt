@@ -11,7 +11,7 @@ pub(crate) fn w_mask<P: Set>(
     mask: &mut [u8],
 ) -> bool {
     let s = sizes_at(r, P::after());
-    let number = hv_w_mask(
+    let answer = hv_w_mask(
         P::depth(r),
         dst,
         s.a,
@@ -25,5 +25,5 @@ pub(crate) fn w_mask<P: Set>(
         flag(r, P::after() + 5),
         flag(r, P::after() + 6),
     );
-    told(r, number)
+    told(r, answer)
 }

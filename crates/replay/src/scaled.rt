@@ -8,7 +8,7 @@ use blocks::scaled::kernels::{
 pub(crate) fn put_8tap_scaled<P: Set>(r: &[u8], dst: &mut [P], src: &[P], subpel: &[i8]) -> bool {
     let s = sizes_at(r, P::after());
     let m = ints_at(r, P::after() + 5);
-    let number = hv_put_8tap_scaled(
+    let answer = hv_put_8tap_scaled(
         P::depth(r),
         dst,
         s.a,
@@ -24,7 +24,7 @@ pub(crate) fn put_8tap_scaled<P: Set>(r: &[u8], dst: &mut [P], src: &[P], subpel
         int(r, P::after() + 9),
         subpel,
     );
-    told(r, number)
+    told(r, answer)
 }
 
 pub(crate) fn prep_8tap_scaled<P: Set>(
@@ -35,7 +35,7 @@ pub(crate) fn prep_8tap_scaled<P: Set>(
 ) -> bool {
     let s = sizes_at(r, P::after());
     let m = ints_at(r, P::after() + 5);
-    let number = hv_prep_8tap_scaled(
+    let answer = hv_prep_8tap_scaled(
         P::depth(r),
         tmp,
         s.a,
@@ -51,13 +51,13 @@ pub(crate) fn prep_8tap_scaled<P: Set>(
         int(r, P::after() + 9),
         subpel,
     );
-    told(r, number)
+    told(r, answer)
 }
 
 pub(crate) fn put_bilin_scaled<P: Set>(r: &[u8], dst: &mut [P], src: &[P]) -> bool {
     let s = sizes_at(r, P::after());
     let m = ints_at(r, P::after() + 5);
-    let number = hv_put_bilin_scaled(
+    let answer = hv_put_bilin_scaled(
         P::depth(r),
         dst,
         s.a,
@@ -71,13 +71,13 @@ pub(crate) fn put_bilin_scaled<P: Set>(r: &[u8], dst: &mut [P], src: &[P]) -> bo
         m.c,
         int(r, P::after() + 8),
     );
-    told(r, number)
+    told(r, answer)
 }
 
 pub(crate) fn prep_bilin_scaled<P: Set>(r: &[u8], tmp: &mut [i16], src: &[P]) -> bool {
     let s = sizes_at(r, P::after());
     let m = ints_at(r, P::after() + 5);
-    let number = hv_prep_bilin_scaled(
+    let answer = hv_prep_bilin_scaled(
         P::depth(r),
         tmp,
         s.a,
@@ -91,5 +91,5 @@ pub(crate) fn prep_bilin_scaled<P: Set>(r: &[u8], tmp: &mut [i16], src: &[P]) ->
         m.c,
         int(r, P::after() + 8),
     );
-    told(r, number)
+    told(r, answer)
 }

@@ -1,7 +1,7 @@
 // Replays calls of resolve_divisor_32, get_shear_params and set_affine_mv2d.
 ghost use Rattle.std.specs.Prelude.{◌≤◌};
 
-use crate::list::{UNSET, int, short, told, word};
+use crate::list::{UNSET, int, is_due, short, word};
 use crate::rooms::filled;
 use blocks::shear::{hv_get_shear_params, hv_resolve_divisor_32, hv_set_affine_mv2d};
 use std::alloc::{AllocError, Global};
@@ -25,7 +25,7 @@ pub(crate) fn resolve_divisor_32(alloc: Global, r: &[u8]) -> Result<bool, AllocE
     let mut y = UNSET;
     let mut shift = UNSET;
     let number = hv_resolve_divisor_32(word(r, 0), &recip, &mut y, &mut shift);
-    Ok(told(r, number) & (y == int(r, 1)) & (shift == int(r, 2)))
+    Ok(is_due(r, number) & (y == int(r, 1)) & (shift == int(r, 2)))
 }
 
 pub(crate) fn get_shear_params(alloc: Global, r: &[u8]) -> Result<bool, AllocError> {
@@ -36,7 +36,7 @@ pub(crate) fn get_shear_params(alloc: Global, r: &[u8]) -> Result<bool, AllocErr
     let number = hv_get_shear_params(&mut matrix, &mut abcd, &mut affine, &recip);
     let shears = [short(r, 17), short(r, 18), short(r, 19), short(r, 20)];
     let record = (matrix == matrix_at(r, 11)) & (abcd == shears);
-    Ok(told(r, number) & record & (affine == int(r, 21)))
+    Ok(is_due(r, number) & record & (affine == int(r, 21)))
 }
 
 pub(crate) fn set_affine_mv2d(r: &[u8]) -> bool {
@@ -50,5 +50,5 @@ pub(crate) fn set_affine_mv2d(r: &[u8]) -> bool {
         int(r, 10),
         int(r, 11),
     );
-    told(r, number) & (matrix == matrix_at(r, 12))
+    is_due(r, number) & (matrix == matrix_at(r, 12))
 }

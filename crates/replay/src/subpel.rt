@@ -12,7 +12,7 @@ pub(crate) fn put_8tap<P: Set>(
 ) -> bool {
     let s = sizes_at(r, P::after());
     let m = ints_at(r, P::after() + 5);
-    let number = hv_put_8tap(
+    let answer = hv_put_8tap(
         P::depth(r),
         dst,
         s.a,
@@ -27,7 +27,7 @@ pub(crate) fn put_8tap<P: Set>(
         subpel,
         ext,
     );
-    told(r, number)
+    told(r, answer)
 }
 
 pub(crate) fn prep_8tap<P: Set>(
@@ -39,7 +39,7 @@ pub(crate) fn prep_8tap<P: Set>(
 ) -> bool {
     let s = sizes_at(r, P::after());
     let m = ints_at(r, P::after() + 5);
-    let number = hv_prep_8tap(
+    let answer = hv_prep_8tap(
         P::depth(r),
         tmp,
         s.a,
@@ -54,5 +54,5 @@ pub(crate) fn prep_8tap<P: Set>(
         subpel,
         ext,
     );
-    told(r, number)
+    told(r, answer)
 }

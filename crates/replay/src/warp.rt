@@ -7,7 +7,7 @@ pub(crate) fn warp_affine_8x8<P: Set>(r: &[u8], dst: &mut [P], src: &[P], filter
     let s = sizes_at(r, P::after());
     let shears = shorts_at(r, P::after() + 3);
     let m = ints_at(r, P::after() + 7);
-    let number = hv_warp_affine_8x8(
+    let answer = hv_warp_affine_8x8(
         P::depth(r),
         dst,
         s.a,
@@ -22,7 +22,7 @@ pub(crate) fn warp_affine_8x8<P: Set>(r: &[u8], dst: &mut [P], src: &[P], filter
         m.b,
         filters,
     );
-    told(r, number)
+    told(r, answer)
 }
 
 pub(crate) fn warp_affine_8x8t<P: Set>(
@@ -34,7 +34,7 @@ pub(crate) fn warp_affine_8x8t<P: Set>(
     let s = sizes_at(r, P::after());
     let shears = shorts_at(r, P::after() + 3);
     let m = ints_at(r, P::after() + 7);
-    let number = hv_warp_affine_8x8t(
+    let answer = hv_warp_affine_8x8t(
         P::depth(r),
         tmp,
         s.a,
@@ -49,5 +49,5 @@ pub(crate) fn warp_affine_8x8t<P: Set>(
         m.b,
         filters,
     );
-    told(r, number)
+    told(r, answer)
 }

@@ -7,3 +7,4 @@ pub mod Answer
 pub mod Ready
 pub mod Told
 pub mod Given
+pub mod Why

@@ -20,7 +20,7 @@ pub fn order_window<P: Sample>(
 ) -> Part
     ensures { OrderWindow deep named lent (P.values plane.now) o t (P.values scratch.old) dl dst_stride result (P.values scratch.new) }
 {
-    let number = check_order(
+    let tested = check_order(
         deep,
         named,
         lent,
@@ -31,8 +31,8 @@ pub fn order_window<P: Sample>(
         dl,
         dst_stride,
     );
-    if number != 0 {
-        return no_part(number);
+    if let Err(why) = tested {
+        return no_part(why.number());
     }
     let k = o.kind;
     let n = kind_number(k);

@@ -1,5 +1,6 @@
 // put_8tap_scaled, prep_8tap_scaled, put_bilin_scaled and prep_bilin_scaled: blocks from a reference of another size. The source's rows are filtered along, one
 // after the other; the last eight of them, two for bilinear, are kept, and each row of the block is made of those.
+ghost use Rattle.blocks.specs.Refuse.{told};
 ghost use Rattle.std.specs.Prelude.{◌≡◌, ◌+◌, ◌-◌, ◌*◌, ◌≤◌, pos, length, get_or};
 ghost use Rattle.rows.specs.Numbers.{up, at, clip, low16, minus16};
 ghost use Rattle.rows.specs.Places.{row_of, fill};
@@ -10,6 +11,7 @@ ghost use Rattle.blocks.specs.inner.Ready.{Block, Rows};
 ghost use Rattle.blocks.specs.Scaled.{Put8ScaledAnswer, Prep8ScaledAnswer, PutBilinScaledAnswer, PrepBilinScaledAnswer};
 ghost use Rattle.blocks.specs.inner.Scaled.{line_of, pair_line_of, LastEight, LastTwo, Turned, Filtered, Paired};
 
+use crate::refuse::Refusal;
 use crate::sample::Sample;
 use crate::scaled::{
     Lent, ScaledMotion, ScaledPlan, by_parity, by_rows, check_scaled, no_rows, prep_scaled_line,
@@ -262,9 +264,9 @@ pub fn hv_put_8tap_scaled<P: Sample>(
     dy: i32,
     filter_type: i32,
     subpel: &[i8],
-) -> u32
+) -> Result<(), Refusal>
     ensures { Put8ScaledAnswer (P.depth_ok depth) (up depth) (P.values dst.old) dst_stride (P.values src.now) src_off src_stride w h mx my dx dy
-        filter_type subpel.now result (P.values dst.new) }
+        filter_type subpel.now (told result) (P.values dst.new) }
 {
     let m = ScaledMotion { mx, my, dx, dy };
     let l = Lent {
@@ -274,7 +276,7 @@ pub fn hv_put_8tap_scaled<P: Sample>(
         src_off,
         src_stride,
     };
-    let number = check_scaled(
+    check_scaled(
         true,
         P::depth_ok(depth),
         scaled_type_ok(filter_type),
@@ -283,14 +285,12 @@ pub fn hv_put_8tap_scaled<P: Sample>(
         w,
         h,
         m,
-    );
-    if number == 0 {
-        let d = P::depth_numbers(depth);
-        let s = top_down(src_off - 3 * src_stride, src_stride); // from three rows above
-        let p = scaled_plan(s, m, filter_type, w, h, d.bits);
-        put_8tap_scaled_rows(dst, dst_stride, src, subpel, p, d.max, w, h);
-    }
-    number
+    )?;
+    let d = P::depth_numbers(depth);
+    let s = top_down(src_off - 3 * src_stride, src_stride); // from three rows above
+    let p = scaled_plan(s, m, filter_type, w, h, d.bits);
+    put_8tap_scaled_rows(dst, dst_stride, src, subpel, p, d.max, w, h);
+    Ok(())
 }
 
 pub fn hv_prep_8tap_scaled<P: Sample>(
@@ -308,9 +308,9 @@ pub fn hv_prep_8tap_scaled<P: Sample>(
     dy: i32,
     filter_type: i32,
     subpel: &[i8],
-) -> u32
+) -> Result<(), Refusal>
     ensures { Prep8ScaledAnswer (P.depth_ok depth) (up depth) tmp.old tmp_stride (P.values src.now) src_off src_stride w h mx my dx dy
-        filter_type subpel.now result tmp.new }
+        filter_type subpel.now (told result) tmp.new }
 {
     let m = ScaledMotion { mx, my, dx, dy };
     let l = Lent {
@@ -320,7 +320,7 @@ pub fn hv_prep_8tap_scaled<P: Sample>(
         src_off,
         src_stride,
     };
-    let number = check_scaled(
+    check_scaled(
         true,
         P::depth_ok(depth),
         scaled_type_ok(filter_type),
@@ -329,14 +329,12 @@ pub fn hv_prep_8tap_scaled<P: Sample>(
         w,
         h,
         m,
-    );
-    if number == 0 {
-        let d = P::depth_numbers(depth);
-        let s = top_down(src_off - 3 * src_stride, src_stride);
-        let p = scaled_plan(s, m, filter_type, w, h, d.bits);
-        prep_8tap_scaled_rows(tmp, tmp_stride, src, subpel, p, d.bias, w, h);
-    }
-    number
+    )?;
+    let d = P::depth_numbers(depth);
+    let s = top_down(src_off - 3 * src_stride, src_stride);
+    let p = scaled_plan(s, m, filter_type, w, h, d.bits);
+    prep_8tap_scaled_rows(tmp, tmp_stride, src, subpel, p, d.bias, w, h);
+    Ok(())
 }
 
 pub fn hv_put_bilin_scaled<P: Sample>(
@@ -352,8 +350,8 @@ pub fn hv_put_bilin_scaled<P: Sample>(
     my: i32,
     dx: i32,
     dy: i32,
-) -> u32
-    ensures { PutBilinScaledAnswer (P.depth_ok depth) (up depth) (P.values dst.old) dst_stride (P.values src.now) src_off src_stride w h mx my dx dy result
+) -> Result<(), Refusal>
+    ensures { PutBilinScaledAnswer (P.depth_ok depth) (up depth) (P.values dst.old) dst_stride (P.values src.now) src_off src_stride w h mx my dx dy (told result)
         (P.values dst.new) }
 {
     let m = ScaledMotion { mx, my, dx, dy };
@@ -364,14 +362,12 @@ pub fn hv_put_bilin_scaled<P: Sample>(
         src_off,
         src_stride,
     };
-    let number = check_scaled(false, P::depth_ok(depth), true, true, l, w, h, m);
-    if number == 0 {
-        let d = P::depth_numbers(depth);
-        let s = top_down(src_off, src_stride);
-        let p = scaled_plan(s, m, 0, w, h, d.bits);
-        put_bilin_scaled_rows(dst, dst_stride, src, p, d.max, w, h);
-    }
-    number
+    check_scaled(false, P::depth_ok(depth), true, true, l, w, h, m)?;
+    let d = P::depth_numbers(depth);
+    let s = top_down(src_off, src_stride);
+    let p = scaled_plan(s, m, 0, w, h, d.bits);
+    put_bilin_scaled_rows(dst, dst_stride, src, p, d.max, w, h);
+    Ok(())
 }
 
 pub fn hv_prep_bilin_scaled<P: Sample>(
@@ -387,9 +383,9 @@ pub fn hv_prep_bilin_scaled<P: Sample>(
     my: i32,
     dx: i32,
     dy: i32,
-) -> u32
+) -> Result<(), Refusal>
     ensures { PrepBilinScaledAnswer (P.depth_ok depth) (up depth) tmp.old tmp_stride (P.values src.now) src_off src_stride w h mx my dx dy
-        result tmp.new }
+        (told result) tmp.new }
 {
     let m = ScaledMotion { mx, my, dx, dy };
     let l = Lent {
@@ -399,12 +395,10 @@ pub fn hv_prep_bilin_scaled<P: Sample>(
         src_off,
         src_stride,
     };
-    let number = check_scaled(false, P::depth_ok(depth), true, true, l, w, h, m);
-    if number == 0 {
-        let d = P::depth_numbers(depth);
-        let s = top_down(src_off, src_stride);
-        let p = scaled_plan(s, m, 0, w, h, d.bits);
-        prep_bilin_scaled_rows(tmp, tmp_stride, src, p, d.bias, w, h);
-    }
-    number
+    check_scaled(false, P::depth_ok(depth), true, true, l, w, h, m)?;
+    let d = P::depth_numbers(depth);
+    let s = top_down(src_off, src_stride);
+    let p = scaled_plan(s, m, 0, w, h, d.bits);
+    prep_bilin_scaled_rows(tmp, tmp_stride, src, p, d.bias, w, h);
+    Ok(())
 }

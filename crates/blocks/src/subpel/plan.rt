@@ -2,12 +2,12 @@
 ghost use Rattle.std.specs.Prelude.{◌≡◌, ◌+◌, ◌*◌, ◌^◌, ◌≤◌, ◌<◌, length};
 ghost use Rattle.rows.specs.Numbers.{up};
 ghost use Rattle.rows.specs.Subpel.{filter_bits};
-ghost use Rattle.blocks.specs.Refuse.{need, lowest, reads, whole_filters};
-ghost use Rattle.blocks.specs.Subpel.{type_ok, fraction_ok, subpel_ok, filter_in, on, subpel_tests};
+ghost use Rattle.blocks.specs.Refuse.{told, lowest, reads};
+ghost use Rattle.blocks.specs.Subpel.{type_ok, fraction_ok, filter_in, on, subpel_tests};
 ghost use Rattle.blocks.specs.inner.Subpel.{axis_of, filter_of, Held, taps_of, in_memory, by_one, plan_of, plan_from};
 
 use crate::numbers::{on_axis, up32};
-use crate::refuse::{Layout, held, needed, reads_around, sizes, stride};
+use crate::refuse::{Layout, Refusal, holds_rows, needed, reads_around, size_ok, stride_ok};
 use crate::source::{Stand, row_first, stand_at};
 use rows::numbers::half_power;
 use rows::subpel::eight;
@@ -49,33 +49,7 @@ fn reads_taps(sl: usize, o: usize, s: usize, w: usize, h: usize, x: usize, y: us
     reads_around(sl, o, s, w, h, 3 * x, 4 * x, 3 * y, 4 * y)
 }
 
-// The tests of the motion and of the tables, as links of the chain.
-fn motion(m: SubpelMotion, rest: u32) -> u32
-    ensures { result ≡ need (type_ok m.filter_type) 3 (need (fraction_ok m.filter_type m.mx) 3
-        (need (fraction_ok m.filter_type m.my) 3 rest)) }
-{
-    let t = m.filter_type;
-    let fractions = needed(
-        fraction_ok(t, m.mx),
-        3,
-        needed(fraction_ok(t, m.my), 3, rest),
-    );
-    needed(type_ok(t), 3, fractions)
-}
-
-fn tables(m: SubpelMotion, tl: usize, el: usize, rest: u32) -> u32
-    ensures { result ≡ need (subpel_ok tl) 4 (need (whole_filters el) 4
-        (need (filter_in m.filter_type m.mx el) 4 (need (filter_in m.filter_type m.my el) 4 rest))) }
-{
-    let t = m.filter_type;
-    let there = needed(
-        filter_in(t, m.mx, el),
-        4,
-        needed(filter_in(t, m.my, el), 4, rest),
-    );
-    needed(tl == 600, 4, needed(el % 8 == 0, 4, there))
-}
-
+#[tactic(auto, using(crate::proofs::Laws::Calls::Refuse::size_met, crate::proofs::Laws::Calls::Refuse::stride_met), unfolding(crate::specs::Refuse::need, crate::specs::Refuse::whole_filters, crate::specs::Subpel::subpel_ok))]
 pub fn check_8tap(
     deep: bool,
     dl: usize,
@@ -85,27 +59,32 @@ pub fn check_8tap(
     m: SubpelMotion,
     tl: usize,
     el: usize,
-) -> u32
-    ensures { result ≡ lowest (subpel_tests deep dl l.dst_stride sl src_off l.src_stride l.w l.h
+) -> Result<(), Refusal>
+    ensures { told result ≡ lowest (subpel_tests deep dl l.dst_stride sl src_off l.src_stride l.w l.h
         m.mx m.my m.filter_type tl el) }
 {
     let w = l.w;
     let h = l.h;
-    let shape = sizes(w, h, stride(w, l.dst_stride, stride(w, l.src_stride, 0)));
-    if shape != 0 {
-        return shape;
-    }
-    let reads = reads_taps(
-        sl,
-        src_off,
-        l.src_stride,
-        w,
-        h,
-        on_axis(m.mx),
-        on_axis(m.my),
-    );
-    let buffers = needed(reads, 5, held(dl, l.dst_stride, w, h, 6, 0));
-    needed(deep, 3, motion(m, tables(m, tl, el, buffers)))
+    let t = m.filter_type;
+    needed(size_ok(64, w), Refusal::Size)?;
+    needed(size_ok(64, h), Refusal::Size)?;
+    needed(stride_ok(w, l.dst_stride), Refusal::Stride)?;
+    needed(stride_ok(w, l.src_stride), Refusal::Stride)?;
+    needed(deep, Refusal::Number)?;
+    needed(type_ok(t), Refusal::Number)?;
+    needed(fraction_ok(t, m.mx), Refusal::Number)?;
+    needed(fraction_ok(t, m.my), Refusal::Number)?;
+    needed(tl == 600, Refusal::Table)?;
+    needed(el % 8 == 0, Refusal::Table)?;
+    needed(filter_in(t, m.mx, el), Refusal::Table)?;
+    needed(filter_in(t, m.my, el), Refusal::Table)?;
+    let x = on_axis(m.mx);
+    let y = on_axis(m.my);
+    needed(
+        reads_taps(sl, src_off, l.src_stride, w, h, x, y),
+        Refusal::Read,
+    )?;
+    needed(holds_rows(dl, l.dst_stride, w, h), Refusal::Written)
 }
 
 // The filter of an axis: none, or the number of one in a lent table.

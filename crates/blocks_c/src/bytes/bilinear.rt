@@ -3,6 +3,7 @@ ghost use Rattle.std.specs.Prelude.{true};
 ghost use Rattle.blocks.specs.Bilinear.{PutBilinAnswer, PrepBilinAnswer};
 
 use blocks::bilinear;
+use blocks::refuse::number_told;
 
 #[unsafe(no_mangle)]
 #[tactic(auto, unfolding(blocks::specs::bytes::Depth::depth_ok))]
@@ -18,7 +19,7 @@ pub extern "C" fn hv_put_bilin_8bpc(
 ) -> u32
     ensures { PutBilinAnswer true 8 dst.old dst_stride src.now src_stride w h mx my result dst.new }
 {
-    bilinear::hv_put_bilin(8, dst, dst_stride, src, src_stride, w, h, mx, my)
+    number_told(bilinear::hv_put_bilin(8, dst, dst_stride, src, src_stride, w, h, mx, my))
 }
 
 #[unsafe(no_mangle)]
@@ -36,5 +37,5 @@ pub extern "C" fn hv_prep_bilin_8bpc(
     ensures { PrepBilinAnswer true 8 tmp.old tmp_stride src.now src_stride w h mx my result
         tmp.new }
 {
-    bilinear::hv_prep_bilin(8, tmp, tmp_stride, src, src_stride, w, h, mx, my)
+    number_told(bilinear::hv_prep_bilin(8, tmp, tmp_stride, src, src_stride, w, h, mx, my))
 }

@@ -3,6 +3,7 @@ ghost use Rattle.std.specs.Prelude.{true};
 ghost use Rattle.blocks.specs.Blend.{BlendAnswer, MorphAnswer};
 
 use blocks::blend;
+use blocks::refuse::number_told;
 
 #[unsafe(no_mangle)]
 pub extern "C" fn hv_blend_8bpc(
@@ -18,7 +19,7 @@ pub extern "C" fn hv_blend_8bpc(
     ensures { BlendAnswer dst.old dst_stride tmp.now w h mask.now result dst.new row.new
         col.new }
 {
-    blend::hv_blend(dst, dst_stride, tmp, w, h, mask, row, col)
+    number_told(blend::hv_blend(dst, dst_stride, tmp, w, h, mask, row, col))
 }
 
 #[unsafe(no_mangle)]
@@ -33,5 +34,5 @@ pub extern "C" fn hv_morph_8bpc(
 ) -> u32
     ensures { MorphAnswer true 8 dst.old dst_stride alpha beta w h result dst.new }
 {
-    blend::hv_morph(8, dst, dst_stride, alpha, beta, w, h)
+    number_told(blend::hv_morph(8, dst, dst_stride, alpha, beta, w, h))
 }

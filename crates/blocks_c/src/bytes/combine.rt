@@ -3,6 +3,7 @@ ghost use Rattle.std.specs.Prelude.{true};
 ghost use Rattle.blocks.specs.Combine.{AvgAnswer, WAvgAnswer, MaskAnswer};
 
 use blocks::combine;
+use blocks::refuse::number_told;
 
 #[unsafe(no_mangle)]
 #[tactic(auto, unfolding(blocks::specs::bytes::Depth::depth_ok))]
@@ -16,7 +17,7 @@ pub extern "C" fn hv_avg_8bpc(
 ) -> u32
     ensures { AvgAnswer true 8 dst.old dst_stride tmp1.now tmp2.now w h result dst.new }
 {
-    combine::hv_avg(8, dst, dst_stride, tmp1, tmp2, w, h)
+    number_told(combine::hv_avg(8, dst, dst_stride, tmp1, tmp2, w, h))
 }
 
 #[unsafe(no_mangle)]
@@ -33,7 +34,7 @@ pub extern "C" fn hv_w_avg_8bpc(
     ensures { WAvgAnswer true 8 dst.old dst_stride tmp1.now tmp2.now w h weight result
         dst.new }
 {
-    combine::hv_w_avg(8, dst, dst_stride, tmp1, tmp2, w, h, weight)
+    number_told(combine::hv_w_avg(8, dst, dst_stride, tmp1, tmp2, w, h, weight))
 }
 
 #[unsafe(no_mangle)]
@@ -50,5 +51,5 @@ pub extern "C" fn hv_mask_8bpc(
     ensures { MaskAnswer true 8 dst.old dst_stride tmp1.now tmp2.now w h mask.now result
         dst.new }
 {
-    combine::hv_mask(8, dst, dst_stride, tmp1, tmp2, w, h, mask)
+    number_told(combine::hv_mask(8, dst, dst_stride, tmp1, tmp2, w, h, mask))
 }

@@ -3,6 +3,7 @@ ghost use Rattle.std.specs.Prelude.{true};
 ghost use Rattle.blocks.specs.Copy.{PutAnswer, PrepAnswer};
 
 use blocks::copy;
+use blocks::refuse::number_told;
 
 #[unsafe(no_mangle)]
 pub extern "C" fn hv_put_8bpc(
@@ -15,7 +16,7 @@ pub extern "C" fn hv_put_8bpc(
 ) -> u32
     ensures { PutAnswer dst.old dst_stride src.now src_stride w h result dst.new }
 {
-    copy::hv_put(dst, dst_stride, src, src_stride, w, h)
+    number_told(copy::hv_put(dst, dst_stride, src, src_stride, w, h))
 }
 
 #[unsafe(no_mangle)]
@@ -30,5 +31,5 @@ pub extern "C" fn hv_prep_8bpc(
 ) -> u32
     ensures { PrepAnswer true 8 tmp.old tmp_stride src.now src_stride w h result tmp.new }
 {
-    copy::hv_prep(8, tmp, tmp_stride, src, src_stride, w, h)
+    number_told(copy::hv_prep(8, tmp, tmp_stride, src, src_stride, w, h))
 }

@@ -2,6 +2,7 @@
 ghost use Rattle.std.specs.Prelude.{true};
 ghost use Rattle.blocks.specs.Scaled.{Put8ScaledAnswer, Prep8ScaledAnswer, PutBilinScaledAnswer, PrepBilinScaledAnswer};
 
+use blocks::refuse::number_told;
 use blocks::scaled::kernels;
 
 #[unsafe(no_mangle)]
@@ -24,7 +25,7 @@ pub extern "C" fn hv_put_8tap_scaled_8bpc(
     ensures { Put8ScaledAnswer true 8 dst.old dst_stride src.now src_off src_stride w h mx my dx dy
         filter_type subpel.now result dst.new }
 {
-    kernels::hv_put_8tap_scaled(
+    number_told(kernels::hv_put_8tap_scaled(
         8,
         dst,
         dst_stride,
@@ -39,7 +40,7 @@ pub extern "C" fn hv_put_8tap_scaled_8bpc(
         dy,
         filter_type,
         subpel,
-    )
+    ))
 }
 
 #[unsafe(no_mangle)]
@@ -62,7 +63,7 @@ pub extern "C" fn hv_prep_8tap_scaled_8bpc(
     ensures { Prep8ScaledAnswer true 8 tmp.old tmp_stride src.now src_off src_stride w h mx my dx dy
         filter_type subpel.now result tmp.new }
 {
-    kernels::hv_prep_8tap_scaled(
+    number_told(kernels::hv_prep_8tap_scaled(
         8,
         tmp,
         tmp_stride,
@@ -77,7 +78,7 @@ pub extern "C" fn hv_prep_8tap_scaled_8bpc(
         dy,
         filter_type,
         subpel,
-    )
+    ))
 }
 
 #[unsafe(no_mangle)]
@@ -98,9 +99,9 @@ pub extern "C" fn hv_put_bilin_scaled_8bpc(
     ensures { PutBilinScaledAnswer true 8 dst.old dst_stride src.now src_off src_stride w h mx my dx dy result
         dst.new }
 {
-    kernels::hv_put_bilin_scaled(
+    number_told(kernels::hv_put_bilin_scaled(
         8, dst, dst_stride, src, src_off, src_stride, w, h, mx, my, dx, dy,
-    )
+    ))
 }
 
 #[unsafe(no_mangle)]
@@ -121,7 +122,7 @@ pub extern "C" fn hv_prep_bilin_scaled_8bpc(
     ensures { PrepBilinScaledAnswer true 8 tmp.old tmp_stride src.now src_off src_stride w h mx my dx dy
         result tmp.new }
 {
-    kernels::hv_prep_bilin_scaled(
+    number_told(kernels::hv_prep_bilin_scaled(
         8, tmp, tmp_stride, src, src_off, src_stride, w, h, mx, my, dx, dy,
-    )
+    ))
 }

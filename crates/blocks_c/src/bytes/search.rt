@@ -2,6 +2,7 @@
 ghost use Rattle.std.specs.Prelude.{true};
 ghost use Rattle.blocks.specs.Search.{SadAnswer, RefineAnswer};
 
+use blocks::refuse::number_told;
 use blocks::search;
 
 #[unsafe(no_mangle)]
@@ -17,7 +18,7 @@ pub extern "C" fn hv_sad_nxn_8bpc(
 ) -> u32
     ensures { SadAnswer true 8 p0.now p0_stride p1.now p1_stride w h result sum.new }
 {
-    search::hv_sad_nxn(8, p0, p0_stride, p1, p1_stride, w, h, sum)
+    number_told(search::hv_sad_nxn(8, p0, p0_stride, p1, p1_stride, w, h, sum))
 }
 
 #[unsafe(no_mangle)]
@@ -36,5 +37,16 @@ pub extern "C" fn hv_sad_refine_mv_8bpc(
     ensures { RefineAnswer true 8 p0.now p0_stride p1.now p1_stride w h is_implicit result dx.new
         dy.new }
 {
-    search::hv_sad_refine_mv(8, p0, p0_stride, p1, p1_stride, w, h, is_implicit, dx, dy)
+    number_told(search::hv_sad_refine_mv(
+        8,
+        p0,
+        p0_stride,
+        p1,
+        p1_stride,
+        w,
+        h,
+        is_implicit,
+        dx,
+        dy,
+    ))
 }

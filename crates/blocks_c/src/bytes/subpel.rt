@@ -2,6 +2,7 @@
 ghost use Rattle.std.specs.Prelude.{true};
 ghost use Rattle.blocks.specs.Subpel.{Put8Answer, Prep8Answer};
 
+use blocks::refuse::number_told;
 use blocks::subpel;
 
 #[unsafe(no_mangle)]
@@ -23,7 +24,7 @@ pub extern "C" fn hv_put_8tap_8bpc(
     ensures { Put8Answer true 8 dst.old dst_stride src.now src_off src_stride w h mx my filter_type
         subpel.now ext.now result dst.new }
 {
-    subpel::hv_put_8tap(
+    number_told(subpel::hv_put_8tap(
         8,
         dst,
         dst_stride,
@@ -37,7 +38,7 @@ pub extern "C" fn hv_put_8tap_8bpc(
         filter_type,
         subpel,
         ext,
-    )
+    ))
 }
 
 #[unsafe(no_mangle)]
@@ -59,7 +60,7 @@ pub extern "C" fn hv_prep_8tap_8bpc(
     ensures { Prep8Answer true 8 tmp.old tmp_stride src.now src_off src_stride w h mx my filter_type
         subpel.now ext.now result tmp.new }
 {
-    subpel::hv_prep_8tap(
+    number_told(subpel::hv_prep_8tap(
         8,
         tmp,
         tmp_stride,
@@ -73,5 +74,5 @@ pub extern "C" fn hv_prep_8tap_8bpc(
         filter_type,
         subpel,
         ext,
-    )
+    ))
 }

@@ -2,6 +2,7 @@
 ghost use Rattle.std.specs.Prelude.{true};
 ghost use Rattle.blocks.specs.WMask.{WMaskAnswer};
 
+use blocks::refuse::number_told;
 use blocks::w_mask;
 
 #[unsafe(no_mangle)]
@@ -22,7 +23,7 @@ pub extern "C" fn hv_w_mask_8bpc(
     ensures { WMaskAnswer true 8 dst.old dst_stride tmp1.now tmp2.now w h mask.old
         mask_stride sign ss_hor ss_ver result dst.new mask.new }
 {
-    w_mask::hv_w_mask(
+    number_told(w_mask::hv_w_mask(
         8,
         dst,
         dst_stride,
@@ -35,5 +36,5 @@ pub extern "C" fn hv_w_mask_8bpc(
         sign,
         ss_hor,
         ss_ver,
-    )
+    ))
 }

@@ -2,6 +2,7 @@
 ghost use Rattle.std.specs.Prelude.{true};
 ghost use Rattle.blocks.specs.Warp.{WarpAnswer, WarpTAnswer};
 
+use blocks::refuse::number_told;
 use blocks::warp;
 
 #[unsafe(no_mangle)]
@@ -23,9 +24,9 @@ pub extern "C" fn hv_warp_affine_8x8_8bpc(
     ensures { WarpAnswer true 8 dst.old dst_stride src.now src_stride src_off a b c d mx my
         warp.now result dst.new }
 {
-    warp::hv_warp_affine_8x8(
+    number_told(warp::hv_warp_affine_8x8(
         8, dst, dst_stride, src, src_stride, src_off, a, b, c, d, mx, my, warp,
-    )
+    ))
 }
 
 #[unsafe(no_mangle)]
@@ -47,7 +48,7 @@ pub extern "C" fn hv_warp_affine_8x8t_8bpc(
     ensures { WarpTAnswer true 8 tmp.old tmp_stride src.now src_stride src_off a b c d mx my
         warp.now result tmp.new }
 {
-    warp::hv_warp_affine_8x8t(
+    number_told(warp::hv_warp_affine_8x8t(
         8, tmp, tmp_stride, src, src_stride, src_off, a, b, c, d, mx, my, warp,
-    )
+    ))
 }

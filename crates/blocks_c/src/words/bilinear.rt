@@ -4,6 +4,7 @@ ghost use Rattle.blocks.specs.words.Depth.{depth_ok};
 ghost use Rattle.rows.specs.Numbers.{up};
 
 use blocks::bilinear;
+use blocks::refuse::number_told;
 
 #[unsafe(no_mangle)]
 pub extern "C" fn hv_put_bilin_16bpc(
@@ -19,7 +20,7 @@ pub extern "C" fn hv_put_bilin_16bpc(
 ) -> u32
     ensures { PutBilinAnswer (depth_ok depth) (up depth) dst.old dst_stride src.now src_stride w h mx my result dst.new }
 {
-    bilinear::hv_put_bilin(depth, dst, dst_stride, src, src_stride, w, h, mx, my)
+    number_told(bilinear::hv_put_bilin(depth, dst, dst_stride, src, src_stride, w, h, mx, my))
 }
 
 #[unsafe(no_mangle)]
@@ -37,5 +38,5 @@ pub extern "C" fn hv_prep_bilin_16bpc(
     ensures { PrepBilinAnswer (depth_ok depth) (up depth) tmp.old tmp_stride src.now src_stride w h mx my result
         tmp.new }
 {
-    bilinear::hv_prep_bilin(depth, tmp, tmp_stride, src, src_stride, w, h, mx, my)
+    number_told(bilinear::hv_prep_bilin(depth, tmp, tmp_stride, src, src_stride, w, h, mx, my))
 }

@@ -4,6 +4,7 @@ ghost use Rattle.blocks.specs.words.Depth.{depth_ok};
 ghost use Rattle.rows.specs.Numbers.{up};
 
 use blocks::blend;
+use blocks::refuse::number_told;
 
 #[unsafe(no_mangle)]
 pub extern "C" fn hv_blend_16bpc(
@@ -19,7 +20,7 @@ pub extern "C" fn hv_blend_16bpc(
     ensures { BlendAnswer dst.old dst_stride tmp.now w h mask.now result dst.new row.new
         col.new }
 {
-    blend::hv_blend(dst, dst_stride, tmp, w, h, mask, row, col)
+    number_told(blend::hv_blend(dst, dst_stride, tmp, w, h, mask, row, col))
 }
 
 #[unsafe(no_mangle)]
@@ -34,5 +35,5 @@ pub extern "C" fn hv_morph_16bpc(
 ) -> u32
     ensures { MorphAnswer (depth_ok depth) (up depth) dst.old dst_stride alpha beta w h result dst.new }
 {
-    blend::hv_morph(depth, dst, dst_stride, alpha, beta, w, h)
+    number_told(blend::hv_morph(depth, dst, dst_stride, alpha, beta, w, h))
 }

@@ -4,6 +4,7 @@ ghost use Rattle.blocks.specs.words.Depth.{depth_ok};
 ghost use Rattle.rows.specs.Numbers.{up};
 
 use blocks::combine;
+use blocks::refuse::number_told;
 
 #[unsafe(no_mangle)]
 pub extern "C" fn hv_avg_16bpc(
@@ -17,7 +18,7 @@ pub extern "C" fn hv_avg_16bpc(
 ) -> u32
     ensures { AvgAnswer (depth_ok depth) (up depth) dst.old dst_stride tmp1.now tmp2.now w h result dst.new }
 {
-    combine::hv_avg(depth, dst, dst_stride, tmp1, tmp2, w, h)
+    number_told(combine::hv_avg(depth, dst, dst_stride, tmp1, tmp2, w, h))
 }
 
 #[unsafe(no_mangle)]
@@ -34,7 +35,7 @@ pub extern "C" fn hv_w_avg_16bpc(
     ensures { WAvgAnswer (depth_ok depth) (up depth) dst.old dst_stride tmp1.now tmp2.now w h weight result
         dst.new }
 {
-    combine::hv_w_avg(depth, dst, dst_stride, tmp1, tmp2, w, h, weight)
+    number_told(combine::hv_w_avg(depth, dst, dst_stride, tmp1, tmp2, w, h, weight))
 }
 
 #[unsafe(no_mangle)]
@@ -51,5 +52,5 @@ pub extern "C" fn hv_mask_16bpc(
     ensures { MaskAnswer (depth_ok depth) (up depth) dst.old dst_stride tmp1.now tmp2.now w h mask.now result
         dst.new }
 {
-    combine::hv_mask(depth, dst, dst_stride, tmp1, tmp2, w, h, mask)
+    number_told(combine::hv_mask(depth, dst, dst_stride, tmp1, tmp2, w, h, mask))
 }

@@ -4,6 +4,7 @@ ghost use Rattle.blocks.specs.words.Depth.{depth_ok};
 ghost use Rattle.rows.specs.Numbers.{up};
 
 use blocks::copy;
+use blocks::refuse::number_told;
 
 #[unsafe(no_mangle)]
 pub extern "C" fn hv_put_16bpc(
@@ -16,7 +17,7 @@ pub extern "C" fn hv_put_16bpc(
 ) -> u32
     ensures { PutAnswer dst.old dst_stride src.now src_stride w h result dst.new }
 {
-    copy::hv_put(dst, dst_stride, src, src_stride, w, h)
+    number_told(copy::hv_put(dst, dst_stride, src, src_stride, w, h))
 }
 
 #[unsafe(no_mangle)]
@@ -31,5 +32,5 @@ pub extern "C" fn hv_prep_16bpc(
 ) -> u32
     ensures { PrepAnswer (depth_ok depth) (up depth) tmp.old tmp_stride src.now src_stride w h result tmp.new }
 {
-    copy::hv_prep(depth, tmp, tmp_stride, src, src_stride, w, h)
+    number_told(copy::hv_prep(depth, tmp, tmp_stride, src, src_stride, w, h))
 }

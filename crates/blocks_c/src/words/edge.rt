@@ -2,6 +2,7 @@
 ghost use Rattle.blocks.specs.Edge.{EdgeAnswer};
 
 use blocks::edge;
+use blocks::refuse::number_told;
 
 #[unsafe(no_mangle)]
 pub extern "C" fn hv_emu_edge_16bpc(
@@ -18,5 +19,5 @@ pub extern "C" fn hv_emu_edge_16bpc(
 ) -> u32
     ensures { EdgeAnswer bw bh iw ih x y dst.old dst_stride plane.now plane_stride result dst.new }
 {
-    edge::hv_emu_edge(bw, bh, iw, ih, x, y, dst, dst_stride, plane, plane_stride)
+    number_told(edge::hv_emu_edge(bw, bh, iw, ih, x, y, dst, dst_stride, plane, plane_stride))
 }

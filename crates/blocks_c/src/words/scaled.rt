@@ -3,6 +3,7 @@ ghost use Rattle.blocks.specs.Scaled.{Put8ScaledAnswer, Prep8ScaledAnswer, PutBi
 ghost use Rattle.blocks.specs.words.Depth.{depth_ok};
 ghost use Rattle.rows.specs.Numbers.{up};
 
+use blocks::refuse::number_told;
 use blocks::scaled::kernels;
 
 #[unsafe(no_mangle)]
@@ -25,7 +26,7 @@ pub extern "C" fn hv_put_8tap_scaled_16bpc(
     ensures { Put8ScaledAnswer (depth_ok depth) (up depth) dst.old dst_stride src.now src_off src_stride w h mx my dx dy
         filter_type subpel.now result dst.new }
 {
-    kernels::hv_put_8tap_scaled(
+    number_told(kernels::hv_put_8tap_scaled(
         depth,
         dst,
         dst_stride,
@@ -40,7 +41,7 @@ pub extern "C" fn hv_put_8tap_scaled_16bpc(
         dy,
         filter_type,
         subpel,
-    )
+    ))
 }
 
 #[unsafe(no_mangle)]
@@ -63,7 +64,7 @@ pub extern "C" fn hv_prep_8tap_scaled_16bpc(
     ensures { Prep8ScaledAnswer (depth_ok depth) (up depth) tmp.old tmp_stride src.now src_off src_stride w h mx my dx dy
         filter_type subpel.now result tmp.new }
 {
-    kernels::hv_prep_8tap_scaled(
+    number_told(kernels::hv_prep_8tap_scaled(
         depth,
         tmp,
         tmp_stride,
@@ -78,7 +79,7 @@ pub extern "C" fn hv_prep_8tap_scaled_16bpc(
         dy,
         filter_type,
         subpel,
-    )
+    ))
 }
 
 #[unsafe(no_mangle)]
@@ -99,9 +100,9 @@ pub extern "C" fn hv_put_bilin_scaled_16bpc(
     ensures { PutBilinScaledAnswer (depth_ok depth) (up depth) dst.old dst_stride src.now src_off src_stride w h mx my dx dy result
         dst.new }
 {
-    kernels::hv_put_bilin_scaled(
+    number_told(kernels::hv_put_bilin_scaled(
         depth, dst, dst_stride, src, src_off, src_stride, w, h, mx, my, dx, dy,
-    )
+    ))
 }
 
 #[unsafe(no_mangle)]
@@ -122,7 +123,7 @@ pub extern "C" fn hv_prep_bilin_scaled_16bpc(
     ensures { PrepBilinScaledAnswer (depth_ok depth) (up depth) tmp.old tmp_stride src.now src_off src_stride w h mx my dx dy
         result tmp.new }
 {
-    kernels::hv_prep_bilin_scaled(
+    number_told(kernels::hv_prep_bilin_scaled(
         depth, tmp, tmp_stride, src, src_off, src_stride, w, h, mx, my, dx, dy,
-    )
+    ))
 }

@@ -3,6 +3,7 @@ ghost use Rattle.blocks.specs.Search.{SadAnswer, RefineAnswer};
 ghost use Rattle.blocks.specs.words.Depth.{depth_ok};
 ghost use Rattle.rows.specs.Numbers.{up};
 
+use blocks::refuse::number_told;
 use blocks::search;
 
 #[unsafe(no_mangle)]
@@ -18,7 +19,7 @@ pub extern "C" fn hv_sad_nxn_16bpc(
 ) -> u32
     ensures { SadAnswer (depth_ok depth) (up depth) p0.now p0_stride p1.now p1_stride w h result sum.new }
 {
-    search::hv_sad_nxn(depth, p0, p0_stride, p1, p1_stride, w, h, sum)
+    number_told(search::hv_sad_nxn(depth, p0, p0_stride, p1, p1_stride, w, h, sum))
 }
 
 #[unsafe(no_mangle)]
@@ -37,7 +38,7 @@ pub extern "C" fn hv_sad_refine_mv_16bpc(
     ensures { RefineAnswer (depth_ok depth) (up depth) p0.now p0_stride p1.now p1_stride w h is_implicit result dx.new
         dy.new }
 {
-    search::hv_sad_refine_mv(
+    number_told(search::hv_sad_refine_mv(
         depth,
         p0,
         p0_stride,
@@ -48,5 +49,5 @@ pub extern "C" fn hv_sad_refine_mv_16bpc(
         is_implicit,
         dx,
         dy,
-    )
+    ))
 }

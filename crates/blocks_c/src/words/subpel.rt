@@ -3,6 +3,7 @@ ghost use Rattle.blocks.specs.Subpel.{Put8Answer, Prep8Answer};
 ghost use Rattle.blocks.specs.words.Depth.{depth_ok};
 ghost use Rattle.rows.specs.Numbers.{up};
 
+use blocks::refuse::number_told;
 use blocks::subpel;
 
 #[unsafe(no_mangle)]
@@ -24,7 +25,7 @@ pub extern "C" fn hv_put_8tap_16bpc(
     ensures { Put8Answer (depth_ok depth) (up depth) dst.old dst_stride src.now src_off src_stride w h mx my filter_type
         subpel.now ext.now result dst.new }
 {
-    subpel::hv_put_8tap(
+    number_told(subpel::hv_put_8tap(
         depth,
         dst,
         dst_stride,
@@ -38,7 +39,7 @@ pub extern "C" fn hv_put_8tap_16bpc(
         filter_type,
         subpel,
         ext,
-    )
+    ))
 }
 
 #[unsafe(no_mangle)]
@@ -60,7 +61,7 @@ pub extern "C" fn hv_prep_8tap_16bpc(
     ensures { Prep8Answer (depth_ok depth) (up depth) tmp.old tmp_stride src.now src_off src_stride w h mx my filter_type
         subpel.now ext.now result tmp.new }
 {
-    subpel::hv_prep_8tap(
+    number_told(subpel::hv_prep_8tap(
         depth,
         tmp,
         tmp_stride,
@@ -74,5 +75,5 @@ pub extern "C" fn hv_prep_8tap_16bpc(
         filter_type,
         subpel,
         ext,
-    )
+    ))
 }

@@ -3,6 +3,7 @@ ghost use Rattle.blocks.specs.WMask.{WMaskAnswer};
 ghost use Rattle.blocks.specs.words.Depth.{depth_ok};
 ghost use Rattle.rows.specs.Numbers.{up};
 
+use blocks::refuse::number_told;
 use blocks::w_mask;
 
 #[unsafe(no_mangle)]
@@ -23,7 +24,7 @@ pub extern "C" fn hv_w_mask_16bpc(
     ensures { WMaskAnswer (depth_ok depth) (up depth) dst.old dst_stride tmp1.now tmp2.now w h mask.old
         mask_stride sign ss_hor ss_ver result dst.new mask.new }
 {
-    w_mask::hv_w_mask(
+    number_told(w_mask::hv_w_mask(
         depth,
         dst,
         dst_stride,
@@ -36,5 +37,5 @@ pub extern "C" fn hv_w_mask_16bpc(
         sign,
         ss_hor,
         ss_ver,
-    )
+    ))
 }

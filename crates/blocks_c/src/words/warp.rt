@@ -3,6 +3,7 @@ ghost use Rattle.blocks.specs.Warp.{WarpAnswer, WarpTAnswer};
 ghost use Rattle.blocks.specs.words.Depth.{depth_ok};
 ghost use Rattle.rows.specs.Numbers.{up};
 
+use blocks::refuse::number_told;
 use blocks::warp;
 
 #[unsafe(no_mangle)]
@@ -24,9 +25,9 @@ pub extern "C" fn hv_warp_affine_8x8_16bpc(
     ensures { WarpAnswer (depth_ok depth) (up depth) dst.old dst_stride src.now src_stride src_off a b c d mx my
         warp.now result dst.new }
 {
-    warp::hv_warp_affine_8x8(
+    number_told(warp::hv_warp_affine_8x8(
         depth, dst, dst_stride, src, src_stride, src_off, a, b, c, d, mx, my, warp,
-    )
+    ))
 }
 
 #[unsafe(no_mangle)]
@@ -48,7 +49,7 @@ pub extern "C" fn hv_warp_affine_8x8t_16bpc(
     ensures { WarpTAnswer (depth_ok depth) (up depth) tmp.old tmp_stride src.now src_stride src_off a b c d mx my
         warp.now result tmp.new }
 {
-    warp::hv_warp_affine_8x8t(
+    number_told(warp::hv_warp_affine_8x8t(
         depth, tmp, tmp_stride, src, src_stride, src_off, a, b, c, d, mx, my, warp,
-    )
+    ))
 }

@@ -1,9 +1,8 @@
 -- Tests that are met give what the rows rely on. Assumes nothing.
-use Rattle.rows.proofs.Usual.{true, Bool, ◌≡◌, ℕ}
-use mathlib.Core.List.{[], ◌∷◌}
-use Rattle.blocks.specs.Refuse.{size, ◌asks◌, need, block_side, size_ok, stride_ok, holds}
+use Rattle.rows.proofs.Usual.{true, ◌≡◌, ℕ}
+use Rattle.blocks.specs.Refuse.{size_ok, stride_ok, holds}
 use Rattle.blocks.specs.inner.Ready.{Block, Rows}
-use Rattle.blocks.proofs.Laws.Calls.Refuse.{all_met, later, sooner, size_met, stride_met, holds_met}
+use Rattle.blocks.proofs.Laws.Calls.Refuse.{size_met, stride_met, holds_met}
 
 pub block_met : (w h : ℕ) → size_ok 64 w ≡ true → size_ok 64 h ≡ true → Block w h
 block_met w h a b = let p = size_met 64 w a in let q = size_met 64 h b in record { w1 = p.0; w64 = p.1; h1 = q.0; h64 = q.1 }
@@ -12,11 +11,3 @@ pub rows_met : (l s w h : ℕ) → stride_ok w s ≡ true → holds l s w h ≡ 
 rows_met l s w h a b = let p = stride_met w s a in record { wide = p.0; most = p.1; fits = holds_met l s w h b }
 
 -- ---- the sizes first, then the rest
-pub sizes_stop : (a b : Bool) (rest : ℕ) → (need a 1 (need b 1 0) ≡ 0 → ⊥) → need a 1 (need b 1 0) ≡ need a 1 (need b 1 rest)
-sizes_stop a b rest h = sooner (size asks a ∷ size asks b ∷ []) rest h
-
-pub sizes_pass : (a b : Bool) (rest : ℕ) → need a 1 (need b 1 0) ≡ 0 → rest ≡ need a 1 (need b 1 rest)
-sizes_pass a b rest e = later (size asks a ∷ size asks b ∷ []) rest e
-
-pub sizes_block : (w h : ℕ) → need (size_ok block_side w) 1 (need (size_ok block_side h) 1 0) ≡ 0 → Block w h
-sizes_block w h e = let m = all_met (size asks size_ok block_side w ∷ size asks size_ok block_side h ∷ []) e in block_met w h m.0 m.1.0

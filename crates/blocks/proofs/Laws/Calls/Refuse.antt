@@ -1,10 +1,13 @@
 -- What a number tells: 0, that every test is met. What a buffer holds then, and otherwise. Assumes nothing.
 use Rattle.rows.proofs.Usual.{true, Bool, false, List, ◌≡◌, refl, ◌-◌, ◌+◌, ◌*◌, ◌≤◌, ◌<◌, ℕ, suc, zero, arith, ltb-true, ltb}
+use mathlib.Core.Path.{sym, ◌∙◌}
 use mathlib.Core.List.{[], ◌∷◌}
+use Rattle.std.proofs.Common.{Result}
+use Rattle.blocks.specs.declared.refuse.Refusal.{Refusal}
 use borrow.Author.Tests.{leb-true, le-leb, lt-ltb, le-ltb}
 use lib.Dec.{leb}
 use Rattle.rows.proofs.Laws.Blocks.Fill.{and_true, and_false}
-use Rattle.blocks.specs.Refuse.{Reason, size, stride, number, table, read, written, above64, matrix, number_of, Test, need, lowest, or_same, size_ok, stride_ok, holds, reads}
+use Rattle.blocks.specs.Refuse.{Reason, size, stride, number, table, read, written, above64, matrix, number_of, reason_of, told, Test, need, lowest, or_same, size_ok, stride_ok, holds, reads}
 
 -- each test of the list is met: a product, one part for each test
 abbrev pub Met : List Test → Type 0
@@ -12,7 +15,7 @@ Met [] = Unit {0}
 Met (t ∷ ts) = (t.meets ≡ true) × Met ts
 
 -- no reason has the number 0
-not_zero : (r : Reason) → number_of r ≡ 0 → ⊥
+pub not_zero : (r : Reason) → number_of r ≡ 0 → ⊥
 not_zero size e = omega arith
 not_zero stride e = omega arith
 not_zero number e = omega arith
@@ -106,3 +109,10 @@ module _ {A : Type 0} where
   unfolding or_same
   refused zero new old h = absurd (h refl)
   refused (suc n) new old h = refl
+
+-- what a call that is done makes, and that everything stays in one that is refused: its answer has a number
+pub made : {A : Type 0} (new old : A) → new ≡ or_same 0 new old
+made new old = sym (done 0 new old refl)
+
+pub stays : {A : Type 0} (r : Result Unit Refusal) (why : Refusal) (new old : A) → told r ≡ number_of (reason_of why) → old ≡ or_same (told r) new old
+stays r why new old e = sym (refused (told r) new old λ z. not_zero (reason_of why) (sym e ∙ z))

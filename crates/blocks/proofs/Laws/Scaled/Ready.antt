@@ -1,4 +1,4 @@
--- Scaled blocks: the tests in two parts, as the code makes them, and what they tell where none refuses. Assumes nothing.
+-- Scaled blocks: the tests in two parts, of numbers and of buffers, and what they tell where none refuses. Assumes nothing.
 use Rattle.blocks.proofs.Usual.{true, Bool, false, List, [], ◌∷◌, ◌≡◌, refl, ℕ, ◌≤◌, ◌*◌, ◌+◌, ◌-◌, ◌<◌, ◌%◌, min, mul-le-mul_right, add-mul}
 use Rattle.blocks.proofs.Usual.{arith, leb-true, eqb-true, leb, eqb, pos, ℤ, negsuc, bits_of, up, lowest, Test, ◌asks◌, block_side, stride, size, number}
 use Rattle.blocks.proofs.Usual.{read, written, holds, stride_ok, size_ok, Rows, Block, and_true, rows_met, block_met, all_met, stride_met}

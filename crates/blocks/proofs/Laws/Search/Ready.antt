@@ -1,8 +1,8 @@
 -- `sad_nxn` and `sad_refine_mv`: what their numbers give, sums, and the search. Assumes nothing.
 use Rattle.blocks.proofs.Usual.{true, Bool, false, ◌&&◌, List, [], ◌∷◌, ◌≡◌, ◌∙◌, refl, sym, ap, ap₂, ℕ, ◌≤◌, ◌*◌, ◌+◌, ◌-◌, ◌<◌, ◌^◌, ◌/◌, suc, zero}
-use Rattle.blocks.proofs.Usual.{mul-le-mul_right, add-mul, arith, le-ltb, eqb-true, lt-ltb, ne_eqb, ltb, eqb, pos, ℤ, negsuc, nat_abs, ◌+ℤ◌, ◌-ℤ◌, length, get_or}
+use Rattle.blocks.proofs.Usual.{mul-le-mul_right, add-mul, arith, eqb-true, ne_eqb, ltb, eqb, pos, ℤ, negsuc, nat_abs, ◌+ℤ◌, ◌-ℤ◌, length, get_or}
 use Rattle.blocks.proofs.Usual.{w32, w64, SFits, to_z, of_z, up, dn, px, pixel, lowest, or_same, Rows, Block, back, backn, fit_abs, one-part, add_parts}
-use Rattle.blocks.proofs.Usual.{sub_parts, rows_met, block_met, done, all_met}
+use Rattle.blocks.proofs.Usual.{sub_parts, rows_met, block_met, all_met}
 use native.Mathlib.Nat.{add-zero, le_trans, div-le_self}
 use borrow.Author.Tests.{eqb-false, eq-eqb}
 use lib.Dec.{T}
@@ -13,10 +13,10 @@ use Rattle.rows.specs.Places.{pick}
 use Rattle.rows.specs.Search.{row_apart, sad, sad_at, Offset, Best, none, best, better, visit, through, steps, search, answer, centre, refine}
 use Rattle.rows.proofs.Laws.Numbers.Signed.{abs_parts, non_neg_of}
 use Rattle.blocks.specs.inner.Ready.{Blocks, Wider}
-use Rattle.blocks.specs.declared.search.Best as code
 use Rattle.blocks.specs.Search.{sads_tests, refine_tests, RefineAnswer}
-use Rattle.blocks.specs.inner.Search.{best_of, stand_at}
+use Rattle.blocks.specs.inner.Search.{stand_at}
 use Rattle.blocks.specs.inner.Source.{top_down, row_first, pixel_in, Stood}
+use Rattle.blocks.proofs.Laws.Calls.Refuse.{made}
 use Rattle.blocks.proofs.Laws.Loops.Stands.{StoodRow, stood_row, stood_rows, pixels-down}
 use Rattle.blocks.specs.declared.source.Stand.{Stand}
 
@@ -68,13 +68,13 @@ sad_blocks {l0} {s0} {l1} {s1} {w} {h} b r t =
     let q : Rows l1 s1 w h = rw (add-zero w, add-zero h) at t in
     record { w68 = omega (arith, b); h1 = b.h1; h68 = omega (arith, b); first = stood_rows p; second = stood_rows q }
 
-pub sad-done : (depth : ℕ) (p : List ℕ) (s : ℕ) (q : List ℕ) (s' w h : ℕ) {number n : ℕ} → number ≡ 0
+pub sad-done : (depth : ℕ) (p : List ℕ) (s : ℕ) (q : List ℕ) (s' w h : ℕ) {n : ℕ}
     → (n ≡ sad depth (pixel_in p (top_down 0 s)) (pixel_in q (top_down 0 s')) w h) × (n ≤ 2 ^ 28)
-    → to_z w32 n ≡ or_same number (pos (sad depth (pixel p s) (pixel q s') w h)) (pos 0)
-sad-done depth p s q s' w h {number} {n} z e =
+    → to_z w32 n ≡ or_same 0 (pos (sad depth (pixel p s) (pixel q s') w h)) (pos 0)
+sad-done depth p s q s' w h {n} e =
     backn w32 n (omega (arith, e.1))
     ∙ ap pos (e.0 ∙ ap₂ (λ (a b : ℕ → ℕ → ℕ). sad depth a b w h) (pixels-down (λ x. x) p s) (pixels-down (λ x. x) q s'))
-    ∙ sym (done _ _ _ z)
+    ∙ made _ _
 
 -- ---- offsets
 -- column or row z of 0 to 4
@@ -165,20 +165,6 @@ centre-is x y f g = go (eqb (of_z w32 x) 0) (eqb (of_z w32 y) 0) refl refl where
   go true false p q = sym (ne_eqb (nat_abs x + nat_abs y) 0 λ e. eqb-false _ _ q (bits_zero y (omega arith)))
   go false b p q = sym (ne_eqb (nat_abs x + nat_abs y) 0 λ e. eqb-false _ _ p (bits_zero x (omega arith)))
 
--- ---- the best so far
-module _ (b : code.Best) (s : ℕ) (o : Offset) where
-  pub better-first : b.found ≡ false → best s o ≡ better (best_of b) s o
-  unfolding best_of better
-  better-first e = rw e refl
-
-  pub better_less : b.found ≡ true → s < b.sum → best s o ≡ better (best_of b) s o
-  unfolding best_of better
-  better_less e h = rw (e, lt-ltb s b.sum h) refl
-
-  pub better_stays : b.found ≡ true → b.sum ≤ s → best_of b ≡ better (best_of b) s o
-  unfolding best_of better
-  better_stays e h = rw (e, le-ltb s b.sum h) refl
-
 -- ---- the search
 module _ (s : Offset → ℕ) (dx dy : ℤ) where
   pub visit-centre : (b : Best) → eqb (nat_abs dx + nat_abs dy) 0 ≡ true → b ≡ visit s dy dx b
@@ -195,15 +181,6 @@ pub five : (f : ℤ → Best → Best) {a b c d e g : Best} → b ≡ f (negsuc 
     → g ≡ through steps f a
 unfolding through
 five f p q r s t = t ∙ ap (f (pos 2)) (s ∙ ap (f (pos 1)) (r ∙ ap (f (pos 0)) (q ∙ ap (f (negsuc 0)) p)))
-
--- ---- the answer of a search
-pub answer_found : (b : code.Best) → b.found ≡ true → record { dx = b.dx; dy = b.dy } ≡ answer (best_of b)
-unfolding answer best_of
-answer_found b e = rw e refl
-
-pub answer-none : (b : code.Best) → b.found ≡ false → centre ≡ answer (best_of b)
-unfolding answer best_of
-answer-none b e = rw e refl
 
 -- 2 (w + 4) (h + 4) is small
 pub enough-fits : {w h : ℕ} → Block w h → 2 * (w + 4) * (h + 4) ≤ 2 * 68 * 68
@@ -237,9 +214,9 @@ pub refine-down : (depth : ℕ) (isImplicit : Bool) (p : List ℕ) (s : ℕ) (q 
 refine-down depth isImplicit p s q s' w h e =
     e ∙ ap₂ (λ (a b : ℕ → ℕ → ℕ). refine depth isImplicit a b w h) (pixels-down (λ x. x) p s) (pixels-down (λ x. x) q s')
 
-pub refine-done : {number : ℕ} {x y : ℤ} {o : Offset} → number ≡ 0 → SFits w32 x → SFits w32 y → record { dx = x; dy = y } ≡ o
-    → record { dx = to_z w32 (of_z w32 x); dy = to_z w32 (of_z w32 y) } ≡ or_same number o centre
-refine-done z f g e = rw (back f, back g) (e ∙ sym (done _ _ _ z))
+pub refine-done : {x y : ℤ} {o : Offset} → SFits w32 x → SFits w32 y → record { dx = x; dy = y } ≡ o
+    → record { dx = to_z w32 (of_z w32 x); dy = to_z w32 (of_z w32 y) } ≡ or_same 0 o centre
+refine-done f g e = rw (back f, back g) (e ∙ made _ _)
 
 -- ---- explicit refinement never answers (0, 0): the first offset visited is taken, the centre never is, so what is found is off the centre
 abbrev Off : Best → Type 0

@@ -1,7 +1,6 @@
--- 8-tap: the tests in two parts, as the code makes them, and what they tell where none refuses. Assumes nothing.
-use Rattle.blocks.proofs.Usual.{true, Bool, false, ◌&&◌, List, [], ◌∷◌, ◌≡◌, ◌∙◌, refl, sym, ℕ, ◌≤◌, ◌*◌, ◌+◌, ◌-◌, ◌<◌, suc, zero, arith, leb-true, le-ltb}
-use Rattle.blocks.proofs.Usual.{eqb-true, ltb-true, leb, ltb, pos, ℤ, negsuc, le_z, up, lowest, Test, ◌asks◌, block_side, stride, size, stride_ok, size_ok}
-use Rattle.blocks.proofs.Usual.{reads, Rows, Block, and_true, by-lt, rows_met, block_met, all_met, stride_met}
+-- 8-tap: what the tests tell where none refuses. Assumes nothing.
+use Rattle.blocks.proofs.Usual.{true, Bool, false, ◌&&◌, ◌≡◌, ◌∙◌, refl, sym, ℕ, ◌≤◌, ◌*◌, ◌+◌, ◌-◌, ◌<◌, suc, zero, arith, leb-true, le-ltb, eqb-true, ltb-true}
+use Rattle.blocks.proofs.Usual.{leb, ltb, pos, ℤ, negsuc, le_z, up, lowest, reads, Rows, Block, and_true, by-lt, rows_met, block_met, all_met, stride_met}
 use mathlib.Core.Bool.{◌||◌}
 use Rattle.rows.specs.Subpel.{family}
 use Rattle.blocks.specs.inner.Ready.{Taps}
@@ -9,20 +8,6 @@ use Rattle.blocks.specs.inner.Source.{top_down}
 use Rattle.blocks.specs.Subpel.{type_ok, sixteenth_ok, fraction_ok, subpel_ok, filter_in, on, subpel_tests}
 use Rattle.blocks.specs.inner.Subpel.{filter_of, Held}
 use Rattle.blocks.proofs.Laws.Subpel.Choice.{family-low, family-high}
-
-abbrev pub shape_tests : (ds ss w h : ℕ) → List Test
-shape_tests ds ss w h = size asks size_ok block_side w ∷ size asks size_ok block_side h ∷ stride asks stride_ok w ds ∷ stride asks stride_ok w ss ∷ []
-
-pub record Shape (ss w h : ℕ) : Type 0 where
-  pub block : Block w h
-  pub wide : w ≤ ss
-  pub most : ss ≤ 32768
-
-pub shape_met : (ds ss w h : ℕ) → lowest (shape_tests ds ss w h) ≡ 0 → Shape ss w h
-shape_met ds ss w h e =
-    let m = all_met (shape_tests ds ss w h) e in
-    let p = stride_met w ss m.1.1.1.0 in
-    record { block = block_met w h m.0 m.1.0; wide = p.0; most = p.1 }
 
 -- ---- the filter that passed its tests is in its table
 pub family-le : (t side : ℕ) → t ≤ 2 → family t side ≤ 4

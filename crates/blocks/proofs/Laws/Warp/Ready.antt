@@ -1,54 +1,16 @@
--- Warp's number 0 gives what its passes rely on; its tests in two parts. Assumes nothing.
-use Rattle.blocks.proofs.Usual.{true, Bool, List, [], ◌∷◌, ◌≡◌, sym, ℕ, ◌≤◌, ◌*◌, ◌+◌, ◌^◌, ◌/◌, leb-true, ltb-true, leb, ltb, ℤ, nat_abs, lowest, Test}
-use Rattle.blocks.proofs.Usual.{◌asks◌, stride, number, read, written, holds, stride_ok, reads, whole_filters, and_true, rows_met, all_met, later, sooner}
-use Rattle.blocks.proofs.Usual.{stride_met, arith}
+-- Warp's number 0 gives what its passes rely on. Assumes nothing.
+use Rattle.blocks.proofs.Usual.{true, Bool, ◌≡◌, ℕ, ◌≤◌, ◌*◌, ◌+◌, ◌^◌, ◌/◌, leb-true, ltb-true, leb, ltb, ℤ, nat_abs, lowest, stride_ok, reads, and_true}
+use Rattle.blocks.proofs.Usual.{rows_met, all_met, stride_met, arith}
 use Rattle.rows.specs.Warp.{filter_no, is_there, every, all_there}
-use Rattle.blocks.specs.Refuse.{table}
 use Rattle.blocks.specs.inner.Ready.{Pass, Margins, Warps}
 use Rattle.blocks.specs.inner.Source.{top_down}
 use Rattle.blocks.specs.Warp.{warp_place_ok, warp_tests}
 use Rattle.blocks.proofs.Laws.Warp.Corners.{every-at}
 
--- ---- the first part of warp's tests
-abbrev pub number_tests : (deep : Bool) (dstStride srcStride : ℕ) (mx my : ℤ) → List Test
-number_tests deep dstStride srcStride mx my =
-    stride asks stride_ok 8 dstStride
-    ∷ stride asks stride_ok 8 srcStride
-    ∷ number asks deep
-    ∷ number asks warp_place_ok mx
-    ∷ number asks warp_place_ok my
-    ∷ []
-
 pub place_met : (m : ℤ) → warp_place_ok m ≡ true → nat_abs m ≤ 2 ^ 20
 unfolding warp_place_ok
 place_met m e = leb-true _ _ e
 
-pub numbers_ready : (deep : Bool) (ds ss : ℕ) (mx my : ℤ) → lowest (number_tests deep ds ss mx my) ≡ 0
-    → (ss ≤ 32768) × (nat_abs mx ≤ 2 ^ 20) × (nat_abs my ≤ 2 ^ 20)
-numbers_ready deep ds ss mx my e =
-    let m = all_met (number_tests deep ds ss mx my) e in
-    let p = m.1.1.1 in
-    ((stride_met 8 ss m.1.0).1, place_met mx p.0, place_met my p.1.0)
-
--- and the second
-abbrev buffer_tests : (dl dstStride sl srcStride srcOff : ℕ) (a b c d mx my : ℤ) (tl : ℕ) → List Test
-buffer_tests dl dstStride sl srcStride srcOff a b c d mx my tl =
-    table asks whole_filters tl
-    ∷ table asks all_there (tl / 8) mx my a b c d
-    ∷ read asks reads sl srcOff srcStride 8 8 3 4 3 4
-    ∷ written asks holds dl dstStride 8 8
-    ∷ []
-
-module _ (deep : Bool) (dl ds sl ss off : ℕ) (a b c d mx my : ℤ) (tl : ℕ) where
-  pub warp_stop : (lowest (number_tests deep ds ss mx my) ≡ 0 → ⊥)
-      → lowest (warp_tests deep dl ds sl ss off a b c d mx my tl) ≡ lowest (number_tests deep ds ss mx my)
-  warp_stop h = sym (sooner (number_tests deep ds ss mx my) (lowest (buffer_tests dl ds sl ss off a b c d mx my tl)) h)
-
-  pub warp_go : lowest (number_tests deep ds ss mx my) ≡ 0
-      → lowest (warp_tests deep dl ds sl ss off a b c d mx my tl) ≡ lowest (buffer_tests dl ds sl ss off a b c d mx my tl)
-  warp_go e = sym (later (number_tests deep ds ss mx my) (lowest (buffer_tests dl ds sl ss off a b c d mx my tl)) e)
-
--- ---- all of them
 margins_met : (sl o s : ℕ) → stride_ok 8 s ≡ true → reads sl o s 8 8 3 4 3 4 ≡ true → Margins sl (top_down o s)
 unfolding reads
 margins_met sl o s a b =

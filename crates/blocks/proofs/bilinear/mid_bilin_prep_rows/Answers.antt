@@ -1,4 +1,4 @@
-use Rattle.blocks.proofs.Usual.{arith, pos, length, back, filled_none, filled_all, block-loop}
+use Rattle.blocks.proofs.Usual.{arith, pos, length, filled_none, block-loop}
 use Rattle.blocks.proofs.Laws.Bilinear.Ready.{Turn, turn}
 use Rattle.blocks.proofs.bilinear.mid_bilin_prep_rows.Goals as goal
 use Rattle.blocks.proofs.bilinear.mid_bilin_prep_rows.Goals.{In-loop-y}
@@ -10,11 +10,5 @@ row c = turn (pos 0) c.requires c.loop-y.invariant c.loop-y-test.true
 pub loop-y-init : goal.loop-y-init
 loop-y-init c = filled_none (pos 0) _ _ _ _ _ (omega (arith, c.requires))
 
-pub mid_bilin_prep_row-requires : goal.mid_bilin_prep_row-requires
-mid_bilin_prep_row-requires c = omega (arith, row (goal.at.mid_bilin_prep_row-requires c).In-loop-y, c.requires)
-
 pub loop-y-preserved : goal.loop-y-preserved
 loop-y-preserved c = search block-loop
-
-pub returns : goal.returns
-returns c = rw (← back c.ranges.bias) (filled_all c.loop-y.invariant c.loop-y-test.false)

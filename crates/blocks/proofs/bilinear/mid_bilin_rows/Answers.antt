@@ -1,4 +1,4 @@
-use Rattle.blocks.proofs.Usual.{arith, length, filled_all}
+use Rattle.blocks.proofs.Usual.{arith, length}
 use Rattle.blocks.proofs.Laws.Loops.Shown.{shown_none, shown_more}
 use Rattle.blocks.proofs.Laws.Bilinear.Ready.{Turn}
 use Rattle.blocks.proofs.Laws.Bilinear.Shown.{turn_shown}
@@ -15,11 +15,3 @@ loop-y-init g c = shown_none g.met.P.Pixel.each _ _ (omega (arith, c.requires))
 pub loop-y-preserved : goal.loop-y-preserved
 loop-y-preserved g c =
     let p = c.requires.0 in shown_more g.met.P.Pixel.each _ c.loop-y.invariant p.w1 p.dst c.loop-y-test.true c.mid_bilin_row.ensures
-
-pub mid_bilin_row-requires : goal.mid_bilin_row-requires
-mid_bilin_row-requires g c =
-    let r = row g (goal.at.mid_bilin_row-requires g c).In-loop-y in let p = c.requires.0 in
-    (omega (arith, r), omega (arith, p), p.n8, c.requires.1)
-
-pub returns : goal.returns
-returns g c = filled_all c.loop-y.invariant (omega arith)

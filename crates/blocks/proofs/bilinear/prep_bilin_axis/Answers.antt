@@ -1,4 +1,4 @@
-use Rattle.blocks.proofs.Usual.{arith, pos, length, back, filled_none, filled_more, filled_all}
+use Rattle.blocks.proofs.Usual.{arith, pos, length, filled_none, filled_more}
 use Rattle.blocks.proofs.Laws.Bilinear.Ready.{TurnIn, turn_in}
 use Rattle.blocks.proofs.bilinear.prep_bilin_axis.Goals as goal
 use Rattle.blocks.proofs.bilinear.prep_bilin_axis.Goals.{In-loop-y}
@@ -10,9 +10,6 @@ row g c = turn_in (pos 0) c.requires.0 c.loop-y.invariant c.loop-y-test.true
 pub loop-y-init : goal.loop-y-init
 loop-y-init g c = filled_none (pos 0) _ _ _ _ _ (omega (arith, c.requires))
 
-pub row_first-o-requires : goal.row_first-o-requires
-row_first-o-requires g c = let r = (row g c).src in (r.before, omega (arith, r))
-
 pub loop-y-preserved : goal.loop-y-preserved
 loop-y-preserved g c =
     let p = c.requires.0 in
@@ -20,6 +17,3 @@ loop-y-preserved g c =
 
 pub prep_bilin_row-requires : goal.prep_bilin_row-requires
 prep_bilin_row-requires g c = omega (arith, row g (goal.at.prep_bilin_row-requires g c).In-loop-y, c.row_first-o.ensures, c.requires)
-
-pub returns : goal.returns
-returns g c = rw (← back c.ranges.bias) (filled_all c.loop-y.invariant (omega arith))

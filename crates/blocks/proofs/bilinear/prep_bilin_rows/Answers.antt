@@ -1,6 +1,5 @@
 use Rattle.blocks.proofs.Usual.{◌≡◌, ◌∙◌, ap, arith, pos, length, w16, to_z, backn}
 use Rattle.blocks.specs.inner.Ready.{Bilin}
-use Rattle.blocks.proofs.Laws.Bilinear.Ready.{across}
 use Rattle.blocks.proofs.Laws.Bilinear.Rule.{prep_copied, prep-across, prep_downward}
 use Rattle.blocks.proofs.Laws.Bilinear.Shown.{bilin_read}
 use Rattle.blocks.proofs.bilinear.prep_bilin_rows.Goals as goal
@@ -12,9 +11,6 @@ block g c = bilin_read g.met.P.Pixel.each c.args.src.now c.requires.0
 -- the bias, as the rows take it
 bias : (g : _) (c : After-bias_of-p g) → to_z w16 c.bias_of-p.result ≡ pos c.args.d.bias
 bias g c = let p = c.bias_of-p in backn w16 p.result (omega (arith, p.ensures.fits)) ∙ ap pos p.ensures.is
-
-pub prep_bilin_axis-requires : goal.prep_bilin_axis-requires
-prep_bilin_axis-requires g c = (across c.requires.0 _ (omega arith) (omega (arith, c.if-f-ne0)) c.if-g-ne0.false, omega arith)
 
 pub returns-else-g-ne0 : goal.returns-else-g-ne0
 returns-else-g-ne0 g c =

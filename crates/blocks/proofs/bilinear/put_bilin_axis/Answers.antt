@@ -1,4 +1,4 @@
-use Rattle.blocks.proofs.Usual.{arith, length, filled_all}
+use Rattle.blocks.proofs.Usual.{arith, length}
 use Rattle.blocks.proofs.Laws.Loops.Shown.{shown_none, shown_more}
 use Rattle.blocks.proofs.Laws.Bilinear.Ready.{TurnIn}
 use Rattle.blocks.proofs.Laws.Bilinear.Shown.{turn-in_shown}
@@ -12,9 +12,6 @@ row g c = turn-in_shown g.met.P.Pixel.each c.requires.0 c.loop-y.invariant c.loo
 pub loop-y-init : goal.loop-y-init
 loop-y-init g c = shown_none g.met.P.Pixel.each _ _ (omega (arith, c.requires))
 
-pub row_first-o-requires : goal.row_first-o-requires
-row_first-o-requires g c = let r = (row g c).src in (r.before, omega (arith, r))
-
 pub loop-y-preserved : goal.loop-y-preserved
 loop-y-preserved g c =
     let p = c.requires.0 in
@@ -24,6 +21,3 @@ pub put_bilin_row-requires : goal.put_bilin_row-requires
 put_bilin_row-requires g c =
     let r = row g (goal.at.put_bilin_row-requires g c).In-loop-y in
     (omega (arith, r, c.row_first-o.ensures), c.requires.0.f15, c.requires.1, c.requires.2, c.requires.3)
-
-pub returns : goal.returns
-returns g c = filled_all c.loop-y.invariant (omega arith)

@@ -1,4 +1,4 @@
-use Rattle.blocks.proofs.Usual.{◌≤◌, ◌*◌, ◌+◌, arith, length, pixel, row_in, Turn, filled_all}
+use Rattle.blocks.proofs.Usual.{◌≤◌, ◌*◌, ◌+◌, arith, length, pixel, row_in, Turn}
 use Rattle.rows.specs.Combine.{blend}
 use Rattle.blocks.proofs.Laws.Loops.Shown.{shown_none, shown_turn}
 use Rattle.blocks.proofs.Laws.Blend.Above.{at-most-row}
@@ -28,6 +28,3 @@ blend_row-requires g c =
     let p = c.requires in
     let r = row g (goal.at.blend_row-requires g c).In-loop-y in
     (omega (arith, r), omega (arith, r), at-most-row 64 c.args.mask.now p.4 c.loop-y-test.true r.0.long)
-
-pub returns : goal.returns
-returns g c = filled_all c.loop-y.invariant (omega arith)

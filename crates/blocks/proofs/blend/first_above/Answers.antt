@@ -1,23 +1,13 @@
 use Rattle.blocks.proofs.Usual.{◌≡◌, ◌≤◌, ◌*◌, ◌+◌, mul_comm, arith, length, row_in}
-use native.Mathlib.Nat.{suc-mul, zero-mul}
+use native.Mathlib.Nat.{suc-mul}
 use Rattle.rows.specs.inner.Combine.{AtMost}
-use Rattle.blocks.proofs.Laws.Blend.Above.{at-most_more, at-most_wider, at-most_join, spot_found, spot_none}
+use Rattle.blocks.proofs.Laws.Blend.Above.{at-most_wider, at-most_join, spot_found, spot_none}
 use Rattle.blocks.proofs.blend.first_above.Goals as goal
 use Rattle.blocks.proofs.blend.first_above.Goals.{In-loop-row, Joined-largest-gt64, then-largest-gt64+else-loop-col-test, else-largest-gt64}
 
 -- the row that a turn of the search looks at is within the mask
 row : (c : In-loop-row) → let a = c.args in c.loop-row.row * a.w + a.w ≤ length a.mask.now
 row c = row_in c.loop-row.row c.requires.1 c.loop-row-test.true
-
-pub loop-row-init : goal.loop-row-init
-loop-row-init c i b = absurd (omega (arith, zero-mul c.args.w))
-
-pub loop-col-init : goal.loop-col-init
-loop-col-init c i b = absurd (omega arith)
-
-pub loop-col-preserved : goal.loop-col-preserved
-loop-col-preserved c =
-    let a = c.args in at-most_more 64 a.mask.now (c.loop-row.row * a.w) c.loop-col.col c.loop-col.invariant c.if-mask-row-gt64.false
 
 -- after its columns, or where its largest value is at most 64, the row's values all are
 row_done : (c : Joined-largest-gt64) → let a = c.args in AtMost 64 a.mask.now (c.loop-row.row * a.w) a.w

@@ -1,4 +1,4 @@
-use Rattle.blocks.proofs.Usual.{arith, w32, to_z, of_z, back, Turn, filled_all}
+use Rattle.blocks.proofs.Usual.{arith, w32, to_z, of_z, Turn}
 use Rattle.rows.specs.Combine.{morph}
 use Rattle.blocks.proofs.Laws.Loops.Shown.{shown_none, shown_turn}
 use Rattle.blocks.proofs.Laws.Blend.Shown.{shown_over}
@@ -18,9 +18,3 @@ loop-y-preserved g c =
     let p = c.requires in
     shown_over g.met.P.Pixel.each (λ i j d. morph a.max (to_z w32 (of_z w32 a.alpha)) (to_z w32 (of_z w32 a.beta)) d) _
     c.loop-y.invariant p.0.w1 p.1 c.loop-y-test.true c.morph_row.ensures
-
-pub morph_row-requires : goal.morph_row-requires
-morph_row-requires g c = rw (back c.ranges.alpha, back c.ranges.beta) (c.requires.2, c.requires.3, c.requires.4)
-
-pub returns : goal.returns
-returns g c = simp (back c.ranges.alpha, back c.ranges.beta) at (filled_all c.loop-y.invariant (omega arith))

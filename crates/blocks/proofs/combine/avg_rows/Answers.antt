@@ -1,4 +1,4 @@
-use Rattle.blocks.proofs.Usual.{◌≤◌, ◌*◌, ◌+◌, arith, length, row_in, Turn, filled_all}
+use Rattle.blocks.proofs.Usual.{◌≤◌, ◌*◌, ◌+◌, arith, length, row_in, Turn}
 use Rattle.blocks.proofs.Laws.Loops.Shown.{shown_none, shown_more, shown_turn}
 use Rattle.blocks.proofs.combine.avg_rows.Goals as goal
 use Rattle.blocks.proofs.combine.avg_rows.Goals.{In-loop-y}
@@ -16,12 +16,3 @@ pub loop-y-preserved : goal.loop-y-preserved
 loop-y-preserved g c =
     let p = c.requires in
     shown_more g.met.P.Pixel.each _ c.loop-y.invariant p.0.w1 p.1 c.loop-y-test.true c.avg_row.ensures
-
-pub avg_row-requires : goal.avg_row-requires
-avg_row-requires g c =
-    let p = c.requires in
-    let r = row g (goal.at.avg_row-requires g c).In-loop-y in
-    (omega (arith, r), omega (arith, r), p.4, p.5, p.6)
-
-pub returns : goal.returns
-returns g c = filled_all c.loop-y.invariant (omega arith)

@@ -1,15 +1,17 @@
-use Rattle.blocks.proofs.Usual.{◌≡◌, ◌∙◌, sym, length, up, lowest, numbers_of, back, done, refused}
+use Rattle.blocks.proofs.Usual.{◌≡◌, ◌∙◌, sym, rules, length, up, lowest, numbers_of, back}
 use Rattle.rows.proofs.Laws.Pixels.Values.{values-length}
+use Rattle.blocks.specs.Refuse.{told, number_of, reason_of}
 use Rattle.blocks.specs.Combine.{avg_tests}
+use Rattle.blocks.proofs.Laws.Calls.Refuse.{made, stays}
 use Rattle.blocks.proofs.Laws.Combine.Numbers.{numbers_given}
 use Rattle.blocks.proofs.Laws.Combine.Ready.{avg_ready}
 use Rattle.blocks.proofs.combine.hv_avg.Goals as goal
-use Rattle.blocks.proofs.combine.hv_avg.Goals.{After-check_combine-number, After-depth_numbers-d}
+use Rattle.blocks.proofs.combine.hv_avg.Goals.{After-check_combine, After-depth_numbers-d}
 
-number : (g : _) (c : After-check_combine-number g) → let a = c.args in
+number : (g : _) (c : After-check_combine g) → let a = c.args in
     let t1 = length a.tmp1.now in let t2 = length a.tmp2.now in
-    c.check_combine-number.result ≡ lowest (avg_tests (g.P.Sample.depth_ok a.depth) (length a.dst.now) a.dst_stride t1 t2 a.w a.h)
-number g c = rw (c.depth_ok.ensures.is, back c.ranges.depth) at c.check_combine-number.ensures
+    told c.check_combine.result ≡ lowest (avg_tests (g.P.Sample.depth_ok a.depth) (length a.dst.now) a.dst_stride t1 t2 a.w a.h)
+number g c = rw (c.depth_ok.ensures.is, back c.ranges.depth) at c.check_combine.ensures
 
 depth : (g : _) (c : After-depth_numbers-d g) → c.depth_numbers-d.result ≡ numbers_of (up c.args.depth)
 depth g c = rw (back c.ranges.depth) at c.depth_numbers-d.ensures.is
@@ -22,25 +24,25 @@ numbers g c =
 
 pub depth_numbers-d-requires : goal.depth_numbers-d-requires
 depth_numbers-d-requires g c =
-    let n = number g (goal.at.depth_numbers-d-requires g c).After-check_combine-number in
-    rw (back c.ranges.depth) (avg_ready (sym n ∙ c.if-number-eq0.true)).0
+    let n = rw c.in_ok-check_combine.was at (number g (goal.at.depth_numbers-d-requires g c).After-check_combine) in
+    rw (back c.ranges.depth) (avg_ready (sym n)).0
 
 pub avg_rows-requires : goal.avg_rows-requires
 avg_rows-requires g c =
     let at = goal.at.avg_rows-requires g c in
-    let p = (avg_ready (sym (number g at.After-check_combine-number) ∙ c.if-number-eq0.true)).1 in
+    let p = (avg_ready (sym (rw c.in_ok-check_combine.was at (number g at.After-check_combine)))).1 in
     let n = numbers g at.After-depth_numbers-d in
     (p.0, p.1, p.2, p.3, n.0, n.1, n.2)
 
-pub returns-then-number-eq0 : goal.returns-then-number-eq0
-returns-then-number-eq0 g c =
-    let at = goal.at.returns-then-number-eq0 g c in
-    let new = rw (depth g at.After-depth_numbers-d) at c.avg_rows.ensures in (
-      rw (values-length g.met.P.Pixel.each c.args.dst.now) (number g at.After-check_combine-number),
-      new ∙ sym (done _ _ _ c.if-number-eq0.true),
-    )
+pub returns : goal.returns
+returns g c =
+    let at = goal.at.returns g c in
+    let n = rw c.in_ok-check_combine.was at (number g at.After-check_combine) in
+    let new = rw (depth g at.After-depth_numbers-d) at c.avg_rows.ensures in
+    (rw (values-length g.met.P.Pixel.each c.args.dst.now) n, new ∙ made _ _)
 
-pub returns-else-number-eq0 : goal.returns-else-number-eq0
-returns-else-number-eq0 g c =
-    let n = number g (goal.at.returns-else-number-eq0 g c).After-check_combine-number in
-    (rw (values-length g.met.P.Pixel.each c.args.dst.now) n, sym (refused _ _ _ c.if-number-eq0.false))
+pub returns-in_err-check_combine : goal.returns-in_err-check_combine
+returns-in_err-check_combine g c =
+    let n = rw c.in_err-check_combine.was at (number g (goal.at.returns-in_err-check_combine g c).After-check_combine) in
+    let r : told c.from_residual.result ≡ number_of (reason_of c.in_err-check_combine.field-0.0) = search rules in
+    (rw (values-length g.met.P.Pixel.each c.args.dst.now) (r ∙ n), stays _ c.in_err-check_combine.field-0.0 _ _ r)

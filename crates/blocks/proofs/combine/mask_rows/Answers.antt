@@ -1,4 +1,4 @@
-use Rattle.blocks.proofs.Usual.{◌≤◌, ◌*◌, ◌+◌, arith, length, row_fits, row_in, Turn, filled_all}
+use Rattle.blocks.proofs.Usual.{◌≤◌, ◌*◌, ◌+◌, arith, length, row_fits, row_in, Turn}
 use Rattle.blocks.proofs.Laws.Loops.Shown.{shown_none, shown_more, shown_turn}
 use Rattle.blocks.proofs.combine.mask_rows.Goals as goal
 use Rattle.blocks.proofs.combine.mask_rows.Goals.{In-loop-y}
@@ -17,12 +17,3 @@ pub loop-y-preserved : goal.loop-y-preserved
 loop-y-preserved g c =
     let p = c.requires in
     shown_more g.met.P.Pixel.each _ c.loop-y.invariant p.0.w1 p.1 c.loop-y-test.true c.mask_row.ensures
-
-pub mask_row-requires : goal.mask_row-requires
-mask_row-requires g c =
-    let p = c.requires in
-    let r = row g (goal.at.mask_row-requires g c).In-loop-y in
-    record { dst_in_bounds = omega (arith, r); bits_ok = (p.5, p.6, p.7) }
-
-pub returns : goal.returns
-returns g c = filled_all c.loop-y.invariant (omega arith)

@@ -13,15 +13,6 @@ below g c = weight_below c.args.weight (rw (back c.ranges.weight) at c.if-weight
 above : (g : _) (c : Else-weight-lt0 g) → let k = c.args.weight in (dn k ≡ 0) × (up k < 64)
 above g c = weight_above c.args.weight (rw (back c.ranges.weight) at c.if-weight-lt0.false) c.requires.4
 
-pub overflow_sub-weight : goal.overflow_sub-weight
-overflow_sub-weight g c = simp (back c.ranges.weight) (fits c.args.weight c.requires.4)
-
-pub mask_of-m-requires : goal.mask_of-m-requires
-mask_of-m-requires g c = simp (back c.ranges.weight, back (fits c.args.weight c.requires.4)) (below g (goal.at.mask_of-m-requires g c).Then-weight-lt0)
-
-pub mask_of-m-requires-else-weight-lt0 : goal.mask_of-m-requires-else-weight-lt0
-mask_of-m-requires-else-weight-lt0 g c = simp (back c.ranges.weight) (above g (goal.at.mask_of-m-requires-else-weight-lt0 g c).Else-weight-lt0)
-
 pub returns-then-weight-lt0 : goal.returns-then-weight-lt0
 returns-then-weight-lt0 g c =
     let a = c.args in

@@ -1,4 +1,4 @@
-use Rattle.blocks.proofs.Usual.{arith, length, pos, Turn, turn, filled_none, filled_more, filled_all}
+use Rattle.blocks.proofs.Usual.{arith, length, pos, Turn, turn, filled_none, filled_more}
 use Rattle.blocks.proofs.Laws.Loops.Stands.{StoodRow, stood_row}
 use Rattle.blocks.proofs.copy.prep_rows.Goals as goal
 use Rattle.blocks.proofs.copy.prep_rows.Goals.{In-loop-y}
@@ -19,6 +19,3 @@ loop-y-preserved g c =
 
 pub prep_row-requires : goal.prep_row-requires
 prep_row-requires g c = (omega (arith, row g (goal.at.prep_row-requires g c).In-loop-y, c.row_first-o.ensures), c.requires.3, c.requires.4)
-
-pub returns : goal.returns
-returns g c = filled_all c.loop-y.invariant (omega arith)

@@ -1,4 +1,4 @@
-use Rattle.blocks.proofs.Usual.{arith, length, Turn, filled_all}
+use Rattle.blocks.proofs.Usual.{arith, length, Turn}
 use Rattle.blocks.proofs.Laws.Loops.Stands.{StoodRow, stood_row}
 use Rattle.blocks.proofs.Laws.Loops.Shown.{shown_none, shown_more, shown_turn}
 use Rattle.blocks.proofs.copy.put_rows.Goals as goal
@@ -17,9 +17,6 @@ pub loop-y-preserved : goal.loop-y-preserved
 loop-y-preserved g c =
     let p = c.requires in
     shown_more g.met.P.Pixel.each _ c.loop-y.invariant p.0.w1 p.1 c.loop-y-test.true (rw c.row_first-o.ensures at c.copy_row.ensures)
-
-pub returns : goal.returns
-returns g c = filled_all c.loop-y.invariant (omega arith)
 
 pub copy_row-requires : goal.copy_row-requires
 copy_row-requires g c = omega (arith, row g (goal.at.copy_row-requires g c).In-loop-y, c.row_first-o.ensures)

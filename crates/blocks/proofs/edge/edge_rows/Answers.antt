@@ -1,4 +1,4 @@
-use Rattle.blocks.proofs.Usual.{arith, length, Turn, filled_all}
+use Rattle.blocks.proofs.Usual.{arith, length, Turn}
 use Rattle.blocks.specs.inner.Source.{edge_in}
 use Rattle.blocks.proofs.Laws.Loops.Stands.{StoodRow}
 use Rattle.blocks.proofs.Laws.Loops.Shown.{shown_none, shown_more, shown_turn}
@@ -16,11 +16,6 @@ row g c =
     let f = edge_in (g.P.Pixel.values s.plane.now) s.s s.a.iw s.a.ih s.a.left s.a.top in
     (shown_turn g.met.P.Pixel.each {f = f} c.loop-j.invariant p.dst lt, (turn p lt c.nearest_row-k.ensures.1).1)
 
-pub nearest_row-k-requires : goal.nearest_row-k-requires
-nearest_row-k-requires g c =
-    let p = c.requires.area in
-    (rw (top_passed c.args.a c.type_inv.a) p.top, omega (arith, p, c.loop-j-test.true), p.ih1, p.ih14)
-
 pub edge_row-requires : goal.edge_row-requires
 edge_row-requires g c =
     let p = c.requires in
@@ -36,11 +31,5 @@ loop-j-preserved g c =
     shown_more g.met.P.Pixel.each _ c.loop-j.invariant p.area.ww1 p.dst c.loop-j-test.true
     (row_is _ _ _ _ _ _ _ _ (rw y at c.nearest_row-k.ensures.0) c.row_first-o.ensures (rw x at c.edge_row.ensures))
 
-pub returns : goal.returns
-returns g c = filled_all c.loop-j.invariant (omega arith)
-
 pub loop-j-init : goal.loop-j-init
 loop-j-init g c = shown_none g.met.P.Pixel.each _ _ (omega (arith, c.requires.dst))
-
-pub row_first-o-requires : goal.row_first-o-requires
-row_first-o-requires g c = let r = row g c in (r.1.before, omega (arith, r.1))

@@ -8,6 +8,3 @@ returns-then-plane_no-flag c = rw c.if-plane_no-flag.true (omega arith)
 pub returns-else-plane_no-flag : goal.returns-else-plane_no-flag
 unfolding plane_side
 returns-else-plane_no-flag c = rw c.if-plane_no-flag.false refl
-
-pub overflow_add-result : goal.overflow_add-result
-overflow_add-result c = omega (arith, c.ranges.luma)

@@ -1,4 +1,4 @@
-use Rattle.blocks.proofs.Usual.{refl, arith}
+use Rattle.blocks.proofs.Usual.{arith}
 use Rattle.blocks.proofs.Laws.Window.Ready.{margins}
 use Rattle.blocks.proofs.frame.window_side.Goals as goal
 
@@ -7,6 +7,3 @@ overflow_add-result c = omega (arith, c.before-2.ensures, margins c.args.kind)
 
 pub overflow_add-result-2 : goal.overflow_add-result-2
 overflow_add-result-2 c = omega (arith, c.before-2.ensures, c.after.ensures, margins c.args.kind)
-
-pub returns : goal.returns
-returns c = rw (c.after.ensures, c.before-2.ensures) refl

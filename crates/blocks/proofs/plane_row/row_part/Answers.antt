@@ -1,7 +1,6 @@
-use Rattle.blocks.proofs.Usual.{[], ◌≡◌, ◌∙◌, ap, part_of, row_at, lent_of, back}
+use Rattle.blocks.proofs.Usual.{◌≡◌, row_at, lent_of, back}
 use Rattle.rows.proofs.Laws.Pixels.Values.{values-length}
 use Rattle.blocks.proofs.Laws.Window.Rows.{row_in_plane}
-use Rattle.blocks.specs.declared.window.Part.{Part}
 use Rattle.blocks.proofs.plane_row.row_part.Goals as goal
 use Rattle.blocks.proofs.plane_row.row_part.Goals.{After-row_at-part}
 
@@ -10,12 +9,6 @@ answer : (g : _) (c : After-row_at-part g) → let a = c.args in
 answer g c =
     let plane = c.args.plane.now in
     rw (back c.ranges.row) at (c.row_at-part.ensures (g.P.Pixel.values plane) (values-length g.met.P.Pixel.each plane))
-
-pub returns : goal.returns
-returns g c =
-    let plane = g.P.Pixel.values c.args.plane.now in
-    let e = rw (g.met.P.Pixel.each []) at c.pick.ensures in
-    e ∙ ap (λ (p : Part). part_of p plane []) (answer g (goal.at.returns g c).After-row_at-part)
 
 pub pick-requires : goal.pick-requires
 pick-requires g c =

@@ -50,6 +50,3 @@ unfolding holds
 returns c =
     let a = c.args in
     share a.l a.s a.w (a.h - 1) (omega arith) (omega arith)
-
-pub overflow_mul-result : goal.overflow_mul-result
-overflow_mul-result c = let a = c.args in omega (arith, small a.s a.h c.if-s-h.true)

@@ -29,15 +29,3 @@ unfolding reads
 returns c =
     let a = c.args in
     rw (le-leb (a.c * a.s + a.b) a.o (omega arith)) (moved ((a.h - 1 + a.d) * a.s) (a.w - 1 + a.e) a.o a.sl (omega arith))
-
-pub overflow_mul-last : goal.overflow_mul-last
-overflow_mul-last c = omega (arith, small c)
-
-pub overflow_add-last-3 : goal.overflow_add-last-3
-overflow_add-last-3 c = omega (arith, small c)
-
-pub overflow_mul-c : goal.overflow_mul-c
-overflow_mul-c c = omega (arith, small c)
-
-pub overflow_add-c : goal.overflow_add-c
-overflow_add-c c = omega (arith, small c)

@@ -10,6 +10,3 @@ returns g c =
     let a = c.args in let v = g.P.Pixel.values in
     rw c.if-is_implicit.false
     (c.offset_of-2.ensures ∙ refine_explicit a.n.depth (pixel_in (v a.p0.now) a.n.s0) (pixel_in (v a.p1.now) a.n.s1) a.n.w a.n.h c.search.ensures)
-
-pub returns-then-is_implicit : goal.returns-then-is_implicit
-returns-then-is_implicit g c = rw c.if-is_implicit.true (c.offset_of.ensures ∙ c.implicit.ensures)

@@ -1,17 +1,7 @@
-use Rattle.blocks.proofs.Usual.{arith, back}
+use Rattle.blocks.proofs.Usual.{back}
 use Rattle.rows.proofs.Laws.Pixels.Values.{values-length}
-use Rattle.blocks.proofs.Laws.Search.Ready.{starts_in, offset_blocks, offset_sad}
+use Rattle.blocks.proofs.Laws.Search.Ready.{offset_blocks, offset_sad}
 use Rattle.blocks.proofs.search.sad_at.Goals as goal
-
-pub first_place-s0-requires : goal.first_place-s0-requires
-first_place-s0-requires g c =
-    let p = c.requires in let r = starts_in _ _ p.0.first in
-    (r.0, omega (arith, r.1), rw (back c.ranges.dx) p.1, rw (back c.ranges.dy) p.2)
-
-pub second_place-s1-requires : goal.second_place-s1-requires
-second_place-s1-requires g c =
-    let p = c.requires in let r = starts_in _ _ p.0.second in
-    (r.0, omega (arith, r.1), rw (back c.ranges.dx) p.1, rw (back c.ranges.dy) p.2)
 
 pub sad_sum-requires : goal.sad_sum-requires
 sad_sum-requires g c =

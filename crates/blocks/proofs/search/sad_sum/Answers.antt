@@ -20,12 +20,6 @@ loop-r-preserved g c =
     c.sad_row-s.ensures.0 in
     added_more c.loop-r.invariant c.loop-r-test.true e (omega (arith, c.requires.0))
 
-pub row_first-o0-requires : goal.row_first-o0-requires
-row_first-o0-requires g c = let r = (row g (goal.at.row_first-o0-requires g c).In-loop-r).0 in (r.before, omega (arith, r))
-
-pub row_first-o1-requires : goal.row_first-o1-requires
-row_first-o1-requires g c = let r = (row g (goal.at.row_first-o1-requires g c).In-loop-r).1 in (r.before, omega (arith, r))
-
 pub sad_row-s-requires : goal.sad_row-s-requires
 sad_row-s-requires g c =
     let r = row g (goal.at.sad_row-s-requires g c).In-loop-r in

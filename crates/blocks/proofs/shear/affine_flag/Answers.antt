@@ -1,8 +1,8 @@
-use Rattle.blocks.proofs.Usual.{true, Bool, false, ◌≡◌, refl, arith, pos, nat_abs, w32, to_z}
+use Rattle.blocks.proofs.Usual.{true, Bool, false, ◌≡◌, refl, pos, nat_abs, w32, to_z}
 use mathlib.Core.Bool.{cond}
 use mir.Val.{bool_byte}
 use Rattle.rows.specs.Shear.{affine_of}
-use Rattle.rows.proofs.Laws.Numbers.Signed.{back16, abs_mag}
+use Rattle.rows.proofs.Laws.Numbers.Signed.{back16}
 use Rattle.blocks.proofs.shear.affine_flag.Goals as goal
 use Rattle.blocks.proofs.shear.affine_flag.Goals.{After-abs32, After-abs32-2, After-abs32-3, After-abs32-4}
 
@@ -22,26 +22,6 @@ three c = rw (back16 c.ranges.c) at c.abs32-3.ensures
 four : (c : After-abs32-4) → c.abs32-4.result ≡ nat_abs c.args.d
 four c = rw (back16 c.ranges.d) at c.abs32-4.ensures
 
-pub overflow_add-second : goal.overflow_add-second
-overflow_add-second c =
-    let s = c.args in
-    omega (arith, three (goal.at.overflow_add-second c).After-abs32-3, abs_mag s.c, four c, abs_mag s.d)
-
 pub returns : goal.returns
 unfolding affine_of
 returns c = rw (flag _, one (goal.at.returns c).After-abs32, two (goal.at.returns c).After-abs32-2, three (goal.at.returns c).After-abs32-3, four c)
-
-pub overflow_mul-first : goal.overflow_mul-first
-overflow_mul-first c = omega (arith, one c, abs_mag c.args.a)
-
-pub overflow_mul-first-2 : goal.overflow_mul-first-2
-overflow_mul-first-2 c = omega (arith, two c, abs_mag c.args.b)
-
-pub overflow_add-first : goal.overflow_add-first
-overflow_add-first c = omega (arith, one (goal.at.overflow_add-first c).After-abs32, abs_mag c.args.a, two c, abs_mag c.args.b)
-
-pub overflow_mul-second : goal.overflow_mul-second
-overflow_mul-second c = omega (arith, three c, abs_mag c.args.c)
-
-pub overflow_mul-second-2 : goal.overflow_mul-second-2
-overflow_mul-second-2 c = omega (arith, four c, abs_mag c.args.d)

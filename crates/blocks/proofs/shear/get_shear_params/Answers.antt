@@ -1,12 +1,14 @@
-use Rattle.blocks.proofs.Usual.{◌∙◌, sym, done, refused}
+use Rattle.blocks.proofs.Usual.{◌∙◌, sym, length, refused}
+use Rattle.blocks.proofs.Laws.Calls.Refuse.{made}
+use Rattle.blocks.proofs.Laws.Calls.Why.{refuses}
 use Rattle.blocks.proofs.Laws.Warp.Shears.{shear_ready}
 use Rattle.blocks.proofs.shear.get_shear_params.Goals as goal
 
-pub returns : goal.returns
-returns c = (c.check_shear-number.ensures, c.with_shears-warp.ensures ∙ sym (done _ _ _ c.if-number-ne0.false))
+pub returns-in-Err : goal.returns-in-Err
+returns-in-Err c = let n = c.number.ensures in (n ∙ c.in-Err.ensures, sym (refused _ _ _ (refuses c.in-Err.why n)))
 
-pub returns-then-number-ne0 : goal.returns-then-number-ne0
-returns-then-number-ne0 c = (c.check_shear-number.ensures, sym (refused _ _ _ c.if-number-ne0.true))
+pub with_shears-requires : goal.with_shears-requires
+with_shears-requires c = shear_ready c.args.wm.matrix (length c.args.recip.now) (sym c.in-Ok.ensures)
 
-pub with_shears-warp-requires : goal.with_shears-warp-requires
-with_shears-warp-requires c = shear_ready _ _ (sym c.check_shear-number.ensures ∙ c.if-number-ne0.false)
+pub returns-in-Ok : goal.returns-in-Ok
+returns-in-Ok c = (c.in-Ok.ensures, c.with_shears.ensures ∙ made _ _)

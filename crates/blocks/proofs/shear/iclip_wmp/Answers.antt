@@ -15,15 +15,6 @@ module _ (c : Start) where
   all : SFits w64 (v +ℤ pos 32 -ℤ pos (is_neg v))
   all = omega (arith, mag-add v (pos 32), mag-sub (v +ℤ pos 32) (pos (is_neg v)), neg_small v)
 
-pub overflow_sub-v : goal.overflow_sub-v
-overflow_sub-v c = rw (back32 c.ranges.v, back (sum c), back c.ranges.v, neg_bit (v c)) (all c)
-
-pub overflow_mul-keep32 : goal.overflow_mul-keep32
-overflow_mul-keep32 c =
-    let f : SFits w32 c.keep32.result = omega arith in
-    let g : SFits w32 (shr_z c.keep32.result 64) = omega (arith, mag_shr c.keep32.result 64) in
-    rw (back f, back g) (down_fits _ f)
-
 pub returns : goal.returns
 unfolding Q
 returns c =
@@ -45,6 +36,3 @@ returns c =
       neg_bit (v s),
       back (all s),
     )
-
-pub overflow_add-v : goal.overflow_add-v
-overflow_add-v c = rw (back32 c.ranges.v) (sum c)

@@ -32,15 +32,3 @@ module _ (c : Start) where
 pub returns : goal.returns
 unfolding middle
 returns c = simp (back c.ranges.b4, back c.ranges.size4, back (a c), back (b c), back (s c), back (d c)) (refl, omega (arith, last c))
-
-pub overflow_mul-result : goal.overflow_mul-result
-overflow_mul-result c = simp (back c.ranges.b4) (a c)
-
-pub overflow_mul-result-2 : goal.overflow_mul-result-2
-overflow_mul-result-2 c = simp (back c.ranges.size4) (b c)
-
-pub overflow_add-result : goal.overflow_add-result
-overflow_add-result c = simp (back c.ranges.b4, back c.ranges.size4, back (a c), back (b c)) (s c)
-
-pub overflow_sub-result : goal.overflow_sub-result
-overflow_sub-result c = simp (back c.ranges.b4, back c.ranges.size4, back (a c), back (b c), back (s c)) (d c)

@@ -73,12 +73,3 @@ returns c =
       back (d t),
       back (e t),
     )
-
-pub overflow_mul-mv : goal.overflow_mul-mv
-overflow_mul-mv c = simp (back32 c.ranges.mv) (a c)
-
-pub overflow_mul-x : goal.overflow_mul-x
-overflow_mul-x c = simp (back32 c.ranges.x, back32 c.ranges.p) (b c)
-
-pub overflow_mul-y : goal.overflow_mul-y
-overflow_mul-y c = simp (back32 c.ranges.y, back32 c.ranges.q) (d c)

@@ -32,11 +32,5 @@ returns c =
     let q : SFits w32 c.round_shift.result = omega arith in
     rw (back r, c.iclip_wmp.ensures, back q, c.round_shift.ensures, back32 c.ranges.m4, back32 c.ranges.y, back (first_fits s), back (v-fits s))
 
-pub overflow_mul-m4 : goal.overflow_mul-m4
-overflow_mul-m4 c = rw (back32 c.ranges.m4) (first_fits c)
-
-pub overflow_mul-m4-2 : goal.overflow_mul-m4-2
-overflow_mul-m4-2 c = rw (back32 c.ranges.m4, back32 c.ranges.y, back (first_fits c)) (v-fits c)
-
 pub round_shift-requires : goal.round_shift-requires
 round_shift-requires c = rw (back32 c.ranges.m4, back32 c.ranges.y, back (first_fits c), back (v-fits c)) (omega (arith, v-le c))

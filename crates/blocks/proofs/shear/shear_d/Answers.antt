@@ -57,8 +57,5 @@ returns c =
       back (v-fits s),
     )
 
-pub overflow_mul-v : goal.overflow_mul-v
-overflow_mul-v c = rw (back32 c.ranges.m3, back32 c.ranges.m4) (first_fits c)
-
 pub overflow_mul-v-2 : goal.overflow_mul-v-2
 overflow_mul-v-2 c = rw (back32 c.ranges.m3, back32 c.ranges.m4, back32 c.ranges.y, back (first_fits c)) (v-fits c)

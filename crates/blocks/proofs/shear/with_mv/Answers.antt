@@ -39,17 +39,6 @@ module _ (c : After-m5-1) where
   g5 : SFits w32 (M 5 -ℤ pos 65536)
   g5 = fit_abs w32 _ (omega (arith, d5))
 
-pub offset_of-e0-requires : goal.offset_of-e0-requires
-offset_of-e0-requires c =
-    rw (back c.ranges.mv_x, back (fx c), back (entries c).0, back (g2 c), back (fy c), back (entries c).1)
-    (omega (arith, c.requires, d2 c, c.middle_of-x.ensures.1, c.middle_of-y.ensures.1))
-
-pub offset_of-e1-requires : goal.offset_of-e1-requires
-offset_of-e1-requires c =
-    let s = (goal.at.offset_of-e1-requires c).After-m5-1 in
-    rw (back c.ranges.mv_y, back (fx s), back (entries s).2, back (fy s), back (entries s).3, back (g5 s))
-    (omega (arith, c.requires, d5 s, c.middle_of-x.ensures.1, c.middle_of-y.ensures.1))
-
 pub returns : goal.returns
 unfolding with_mv entry0 entry1
 returns c =
@@ -73,15 +62,3 @@ returns c =
       back (g2 s),
       back (g5 s),
     )
-
-pub middle_of-x-requires : goal.middle_of-x-requires
-middle_of-x-requires c = rw (back c.ranges.bx4, back c.ranges.bw4) (omega (arith, c.requires))
-
-pub middle_of-y-requires : goal.middle_of-y-requires
-middle_of-y-requires c = rw (back c.ranges.by4, back c.ranges.bh4) (omega (arith, c.requires))
-
-pub overflow_sub-m2 : goal.overflow_sub-m2
-overflow_sub-m2 c = rw (back (entries c).0) (g2 c)
-
-pub overflow_sub-m5 : goal.overflow_sub-m5
-overflow_sub-m5 c = let s = (goal.at.overflow_sub-m5 c).After-m5-1 in rw (back (entries s).3) (g5 s)

@@ -1,15 +1,11 @@
 use Rattle.blocks.proofs.Usual.{◌∙◌, arith}
-use Rattle.blocks.proofs.Laws.Subpel.Cases.{taps_before, Planned, bits_in, one_ready, both_reach, prep-block, prep_two}
+use Rattle.blocks.proofs.Laws.Subpel.Cases.{Planned, bits_in, one_ready, both_reach, prep-block, prep_two}
 use Rattle.blocks.proofs.subpel.prep_8tap_rows.Goals as goal
 use Rattle.blocks.proofs.subpel.prep_8tap_rows.Goals.{After-plan_8tap-p}
 
 planned : (g : _) (c : After-plan_8tap-p g) → let a = c.args in
     Planned a.subpel.now a.ext.now a.s a.l.w a.l.h a.m.mx a.m.my a.m.filter_type a.d.bits c.plan_8tap-p.result
 planned g c = record { is = rw c.bits_of-bits.ensures.is at c.plan_8tap-p.ensures }
-
-pub plan_8tap-p-requires : goal.plan_8tap-p-requires
-plan_8tap-p-requires g c = let k = c.requires.2 in
-    (omega arith, taps_before k c.requires.0, omega (arith, k.last), k.across, k.down)
 
 pub prep_8tap_both-requires : goal.prep_8tap_both-requires
 prep_8tap_both-requires g c =

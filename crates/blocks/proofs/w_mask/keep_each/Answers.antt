@@ -13,11 +13,3 @@ loop-y-init c = filled_none 0 _ _ _ _ _ (omega (arith, c.requires))
 
 pub loop-y-preserved : goal.loop-y-preserved
 loop-y-preserved c = search block-loop
-
-pub weight_row-requires : goal.weight_row-requires
-weight_row-requires c =
-    let r = row (goal.at.weight_row-requires c).In-loop-y in let d = c.requires.1 in
-    record { m_in_bounds = omega (arith, r); le_depth = omega (arith, d.deep, d) }
-
-pub returns : goal.returns
-returns c = search block-loop

@@ -1,7 +1,7 @@
 use Rattle.blocks.proofs.Usual.{◌++◌, refl, ◌≤◌, ◌*◌, ◌+◌, ◌<◌, ◌/◌, arith, length, drop, filled_none, row_in}
-use Rattle.blocks.proofs.Usual.{filled_more, Turn, turn, filled_all}
+use Rattle.blocks.proofs.Usual.{filled_more, Turn, turn}
 use Rattle.rows.specs.WMask.{mask_at}
-use Rattle.blocks.proofs.Laws.WMask.Weighed.{weigh, Front, front, front_span, fours}
+use Rattle.blocks.proofs.Laws.WMask.Weighed.{weigh, Front, front, fours}
 use Rattle.blocks.proofs.w_mask.keep_fours.Goals as goal
 use Rattle.blocks.proofs.w_mask.keep_fours.Goals.{In-loop-y, After-weight_row, After-weight_row-in-loop-y}
 
@@ -46,26 +46,3 @@ loop-y-preserved c =
       m.len,
       n.len,
     )
-
-pub weight_row-requires : goal.weight_row-requires
-weight_row-requires c =
-    let p = c.requires in let d = p.2 in
-    let k = row (goal.at.weight_row-requires c).In-loop-y in
-    let n = front_span c.args.w c.loop-y.m p.0.block.w64 c.loop-y.invariant.1 in
-    record { m_in_bounds = omega (arith, k, n); le_depth = omega (arith, d.deep, d) }
-
-pub weight_row-requires-in-loop-y : goal.weight_row-requires-in-loop-y
-weight_row-requires-in-loop-y c =
-    let p = c.requires in let d = p.2 in
-    let k = row (goal.at.weight_row-requires-in-loop-y c).In-loop-y in
-    let n = front_span c.args.w c.loop-y.n p.0.block.w64 c.loop-y.invariant.2 in
-    record { m_in_bounds = omega (arith, k, n); le_depth = omega (arith, d.deep, d) }
-
-pub four_row-requires : goal.four_row-requires
-four_row-requires c =
-    let p = c.requires in let at = goal.at.four_row-requires c in
-    let k = (row at.In-loop-y).0 in let m = first at.After-weight_row in let n = second at.After-weight_row-in-loop-y in
-    (omega (arith, k, m.len, p.0.block), omega (arith, k, n.len, p.0.block), p.1)
-
-pub returns : goal.returns
-returns c = filled_all c.loop-y.invariant.0 (omega arith)

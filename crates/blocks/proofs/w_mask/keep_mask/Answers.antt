@@ -12,17 +12,8 @@ pub keep_fours-requires : goal.keep_fours-requires
 keep_fours-requires c =
     let p = c.requires in (rw (hor (goal.at.keep_fours-requires c).Then-form, c.if-form.true) at p.0, p.2, p.3)
 
-pub keep_pairs-requires : goal.keep_pairs-requires
-keep_pairs-requires c = let p = c.requires in (rw (c.if-form-2.true, c.if-form.false) at p.0, p.2, p.3)
-
-pub keep_each-requires : goal.keep_each-requires
-keep_each-requires c = let p = c.requires in (rw (c.if-form-2.false, c.if-form.false) at p.0, p.3)
-
 pub returns-then-form : goal.returns-then-form
 returns-then-form c = rw (hor (goal.at.returns-then-form c).Then-form, c.if-form.true) c.keep_fours.ensures
-
-pub returns-then-form-2 : goal.returns-then-form-2
-returns-then-form-2 c = rw (c.if-form-2.true, c.if-form.false) c.keep_pairs.ensures
 
 pub returns-else-form-2 : goal.returns-else-form-2
 unfolding mask_at

@@ -1,7 +1,7 @@
 use Rattle.blocks.proofs.Usual.{◌++◌, refl, ◌≤◌, ◌*◌, ◌+◌, ◌/◌, arith, length, drop, filled_none, row_in}
-use Rattle.blocks.proofs.Usual.{filled_more, Turn, turn, filled_all}
+use Rattle.blocks.proofs.Usual.{filled_more, Turn, turn}
 use Rattle.rows.specs.WMask.{mask_at}
-use Rattle.blocks.proofs.Laws.WMask.Weighed.{weigh, Front, front, front_span, pairs}
+use Rattle.blocks.proofs.Laws.WMask.Weighed.{weigh, Front, front, pairs}
 use Rattle.blocks.proofs.w_mask.keep_pairs.Goals as goal
 use Rattle.blocks.proofs.w_mask.keep_pairs.Goals.{In-loop-y, After-weight_row}
 
@@ -29,18 +29,3 @@ loop-y-preserved c =
           (pairs _ _ _ l (omega (arith, row at.In-loop-y)) c.pair_row.ensures),
       l.len,
     )
-
-pub weight_row-requires : goal.weight_row-requires
-weight_row-requires c =
-    let p = c.requires in let d = p.2 in
-    let k = row (goal.at.weight_row-requires c).In-loop-y in
-    let n = front_span c.args.w c.loop-y.m p.0.block.w64 c.loop-y.invariant.1 in
-    record { m_in_bounds = omega (arith, k, n); le_depth = omega (arith, d.deep, d) }
-
-pub pair_row-requires : goal.pair_row-requires
-pair_row-requires c =
-    let p = c.requires in let at = goal.at.pair_row-requires c in
-    (omega (arith, row at.In-loop-y, (line at.After-weight_row).len, p.0.block), p.1)
-
-pub returns : goal.returns
-returns c = filled_all c.loop-y.invariant.0 (omega arith)

@@ -12,21 +12,10 @@ each g c =
     let p = c.requires in
     each_met c.args.sign _ _ p.2 c.if-form.false (rw c.bits_of-bits.ensures.is at c.keep_mask.ensures) p.1.mask
 
-pub keep_mask-requires : goal.keep_mask-requires
-keep_mask-requires g c =
-    let p = c.requires in let b = c.bits_of-bits.ensures.fits in
-    (p.1, p.2, p.3, record { deep = p.4; bits2 = b.0; bits4 = b.1 })
-
-pub weighed_rows-requires : goal.weighed_rows-requires
-weighed_rows-requires g c = let p = c.requires in (p.1.block, p.0, p.1.tmp1, p.1.tmp2, p.4, p.5, p.6, p.7)
-
 pub mask_rows-requires : goal.mask_rows-requires
 mask_rows-requires g c =
     let p = c.requires in
     (p.1.block, p.0, p.1.tmp1, p.1.tmp2, kept_room (each g (goal.at.mask_rows-requires g c).Else-form), p.5, p.6, p.7)
-
-pub returns-then-form : goal.returns-then-form
-returns-then-form g c = (c.weighed_rows.ensures, rw c.bits_of-bits.ensures.is at c.keep_mask.ensures)
 
 pub returns-else-form : goal.returns-else-form
 returns-else-form g c =

@@ -1,6 +1,6 @@
-use Rattle.blocks.proofs.Usual.{◌++◌, refl, ◌≤◌, ◌*◌, ◌+◌, arith, length, drop, row_in, Turn, filled_all}
+use Rattle.blocks.proofs.Usual.{◌++◌, refl, ◌≤◌, ◌*◌, ◌+◌, arith, length, drop, row_in, Turn}
 use Rattle.blocks.proofs.Laws.Loops.Shown.{shown_none, shown_more, shown_turn}
-use Rattle.blocks.proofs.Laws.WMask.Weighed.{weigh, mixed_by, Front, front, front_span, weighed}
+use Rattle.blocks.proofs.Laws.WMask.Weighed.{weigh, mixed_by, Front, front, weighed}
 use Rattle.blocks.proofs.w_mask.weighed_rows.Goals as goal
 use Rattle.blocks.proofs.w_mask.weighed_rows.Goals.{In-loop-y, After-weight_row}
 
@@ -29,19 +29,3 @@ loop-y-preserved g c =
           (weighed rule c.loop-y.y _ _ l (omega (arith, long)) c.mask_row.ensures),
       l.len,
     )
-
-pub weight_row-requires : goal.weight_row-requires
-weight_row-requires g c =
-    let p = c.requires in
-    let r = row g (goal.at.weight_row-requires g c).In-loop-y in
-    let n = front_span c.args.w c.loop-y.m p.0.w64 c.loop-y.invariant.1 in
-    record { m_in_bounds = omega (arith, r, n); le_depth = omega (arith, p.4, c.bits_of-bits.ensures.fits) }
-
-pub mask_row-requires : goal.mask_row-requires
-mask_row-requires g c =
-    let p = c.requires in let at = goal.at.mask_row-requires g c in
-    let r = row g at.In-loop-y in
-    record { dst_in_bounds = omega (arith, r, (line g at.After-weight_row).len, p.0); bits_ok = (p.5, p.6, p.7) }
-
-pub returns : goal.returns
-returns g c = filled_all c.loop-y.invariant.0 (omega arith)

@@ -1,6 +1,5 @@
 use Rattle.blocks.proofs.Usual.{◌≡◌, ◌∙◌, sym, ap, arith, w32, SFits, back}
 use Rattle.rows.specs.Warp.{filter_no, is_there}
-use Rattle.rows.proofs.Laws.Numbers.Signed.{above, abs_mag}
 use Rattle.blocks.proofs.Laws.Warp.Corners.{in_below, in_above}
 use Rattle.blocks.proofs.warp.corner_there.Goals as goal
 use Rattle.blocks.proofs.warp.corner_there.Goals.{After-filter_no-f}
@@ -11,11 +10,6 @@ module _ (c : After-filter_no-f) where
 
   is : c.filter_no-f.result ≡ (let s = c.args in filter_no s.m s.a s.b s.r s.c)
   is = let s = c.ranges in rw (back s.m, back s.a, back s.b) at c.filter_no-f.ensures
-
-pub overflow_cast-result : goal.overflow_cast-result
-overflow_cast-result c =
-    let z = c.filter_no-f.result in let fits = back (f (goal.at.overflow_cast-result c).After-filter_no-f) in
-    rw fits (rw (above z (rw fits at c.if-f-lt0.false)) tt, omega (arith, abs_mag z, f (goal.at.overflow_cast-result c).After-filter_no-f))
 
 pub returns-then-f-lt0 : goal.returns-then-f-lt0
 returns-then-f-lt0 c =

@@ -1,4 +1,4 @@
-use Rattle.blocks.proofs.Usual.{arith, length, Turn, turn, filled_none, filled_more, filled_all}
+use Rattle.blocks.proofs.Usual.{arith, length, Turn, turn, filled_none, filled_more}
 use Rattle.blocks.proofs.Laws.Loops.Stands.{StoodRow, stood_row}
 use Rattle.blocks.proofs.Laws.Warp.Passes.{fifteen_rows}
 use Rattle.blocks.proofs.warp.upright.Goals as goal
@@ -18,6 +18,3 @@ loop-y-preserved g c =
 
 pub numbers_row-requires : goal.numbers_row-requires
 numbers_row-requires g c = omega (arith, row g (goal.at.numbers_row-requires g c).In-loop-y, c.row_first-o.ensures)
-
-pub returns : goal.returns
-returns g c = filled_all c.loop-y.invariant (omega arith)

@@ -1,17 +1,12 @@
 use Rattle.blocks.proofs.Usual.{◌∙◌, refl, length}
 use Rattle.blocks.specs.inner.Ready.{Margins}
-use Rattle.blocks.proofs.Laws.Warp.Passes.{taps_in, first_straight, first_turned}
+use Rattle.blocks.proofs.Laws.Warp.Passes.{first_straight, first_turned}
 use Rattle.blocks.proofs.Laws.Warp.Shown.{margins_shown}
 use Rattle.blocks.proofs.warp.warp_first.Goals as goal
 use Rattle.blocks.proofs.warp.warp_first.Goals.{Start}
 
 margins : (g : _) (c : Start g) → Margins (length (g.P.Pixel.values c.args.src.now)) c.args.s
 margins g c = margins_shown g.met.P.Pixel.each c.args.src.now c.requires.1
-
-pub warp_mid-requires : goal.warp_mid-requires
-warp_mid-requires g c =
-    let p = c.requires in
-    rw c.corner-first.ensures (p.0, taps_in p.1 c.if-s-eq0.true, p.2, p.3)
 
 pub returns-then-s-eq0 : goal.returns-then-s-eq0
 returns-then-s-eq0 g c =

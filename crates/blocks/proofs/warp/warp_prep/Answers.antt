@@ -3,19 +3,9 @@ use Rattle.blocks.proofs.Laws.Warp.Passes.{prep-second}
 use Rattle.blocks.proofs.Laws.Warp.Shown.{shears_passed}
 use Rattle.blocks.proofs.warp.warp_prep.Goals as goal
 
-pub warp_first-requires : goal.warp_first-requires
-warp_first-requires g c =
-    let t = shears_passed c.args.m c.struct_told-1.given in let p = c.requires in
-    rw (t.mx, t.a, t.b) (refl, p.0.src, p.0.first, p.1)
-
-pub warp_prep_rows-requires : goal.warp_prep_rows-requires
-warp_prep_rows-requires g c =
-    let t = shears_passed c.args.m c.struct_told-2-1.given in let p = c.requires in
-    rw (t.my, t.c, t.d) (p.0.dst, c.warp_first.auto.mid, p.0.second, c.bias_of-p.ensures.fits)
-
 pub returns : goal.returns
 returns g c =
     let t = shears_passed c.args.m c.struct_told-1.given in
     let first = rw (t.mx, t.a, t.b) at c.warp_first.ensures in
-    rw (t.my, t.c, t.d, c.bias_of-p.ensures.is) at c.warp_prep_rows.ensures
+    rw (t.my, t.c, t.d) at c.warp_prep_rows.ensures
     ∙ prep-second _ _ _ _ _ _ _ _ _ refl first _ _ _ _ _ _ (omega (arith, c.requires.0.dst))

@@ -1,4 +1,4 @@
-use Rattle.blocks.proofs.Usual.{arith, pos, w16, backn, filled_none, filled_all, Turn, turn}
+use Rattle.blocks.proofs.Usual.{arith, pos, w16, backn, filled_none, Turn, turn}
 use Rattle.blocks.proofs.Laws.Warp.Passes.{filled_row}
 use Rattle.blocks.proofs.warp.warp_prep_rows.Goals as goal
 use Rattle.blocks.proofs.warp.warp_prep_rows.Goals.{In-loop-y}
@@ -9,15 +9,7 @@ row c = turn (pos 0) c.loop-y.invariant c.requires.0 c.loop-y-test.true
 pub loop-y-init : goal.loop-y-init
 loop-y-init c = filled_none (pos 0) _ _ _ _ _ (omega (arith, c.requires.0))
 
-pub warp_prep_row-requires : goal.warp_prep_row-requires
-warp_prep_row-requires c =
-    let lt = c.loop-y-test.true in let t = row (goal.at.warp_prep_row-requires c).In-loop-y in
-    record { tmp_len = omega (arith, t, lt, c.requires.1, c.requires.2.bounded); row_there = c.requires.2.there c.loop-y.y lt }
-
 pub loop-y-preserved : goal.loop-y-preserved
 loop-y-preserved c =
     let e = rw (backn w16 c.args.bias (omega (arith, c.requires.3))) at c.warp_prep_row.ensures in
     filled_row (pos 0) _ c.loop-y.invariant (omega arith) c.requires.0 c.loop-y-test.true e
-
-pub returns : goal.returns
-returns c = filled_all c.loop-y.invariant (omega arith)

@@ -1,4 +1,4 @@
-use Rattle.blocks.proofs.Usual.{arith, filled_all, Turn}
+use Rattle.blocks.proofs.Usual.{arith, Turn}
 use Rattle.blocks.proofs.Laws.Loops.Shown.{shown_none, shown_turn}
 use Rattle.blocks.proofs.Laws.Warp.Shown.{shown_row}
 use Rattle.blocks.proofs.warp.warp_put_rows.Goals as goal
@@ -10,18 +10,6 @@ row g c = shown_turn g.met.P.Pixel.each c.loop-y.invariant c.requires.0 c.loop-y
 pub loop-y-init : goal.loop-y-init
 loop-y-init g c = shown_none g.met.P.Pixel.each _ _ (omega (arith, c.requires.0))
 
-pub warp_put_row-requires : goal.warp_put_row-requires
-warp_put_row-requires g c =
-    let lt = c.loop-y-test.true in let t = row g (goal.at.warp_put_row-requires g c).In-loop-y in
-    let p = c.requires in let fits = c.bits_of-b.ensures.fits in
-    record {
-      dst_len = (t.long, omega (arith, p.1), p.2.bounded, omega (arith, lt), omega arith, omega (arith, fits), p.4);
-      row_there = p.2.there c.loop-y.y lt;
-    }
-
 pub loop-y-preserved : goal.loop-y-preserved
 loop-y-preserved g c =
     shown_row g.met.P.Pixel.each _ c.loop-y.invariant (omega arith) c.requires.0 c.loop-y-test.true (rw c.bits_of-b.ensures.is at c.warp_put_row.ensures)
-
-pub returns : goal.returns
-returns g c = filled_all c.loop-y.invariant (omega arith)

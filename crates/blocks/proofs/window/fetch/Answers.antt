@@ -7,9 +7,3 @@ returns-then-part-eq2 g c =
 
 pub returns-else-part-eq2 : goal.returns-else-part-eq2
 returns-else-part-eq2 g c = (c.locate-part.ensures, area_kept _ _ _ c.locate-part.ensures _ _ c.if-part-eq2.false)
-
-pub locate-part-requires : goal.locate-part-requires
-locate-part-requires g c = let p = c.requires in (p.area, p.plane.forth)
-
-pub edge_rows-requires : goal.edge_rows-requires
-edge_rows-requires g c = rw c.top_down-s.ensures c.requires

@@ -1,4 +1,4 @@
-use Rattle.blocks.proofs.Usual.{◌≡◌, refl, arith, pos, ◌+ℤ◌, w64, SFits, to_z, of_z, back, fit, backn, fit_abs}
+use Rattle.blocks.proofs.Usual.{◌≡◌, refl, arith, pos, ◌+ℤ◌, w64, SFits, to_z, of_z, back, backn, fit_abs}
 use Rattle.rows.proofs.Laws.Numbers.Signed.{abs-add}
 use Rattle.blocks.specs.Window.{inside}
 use Rattle.blocks.proofs.window.inside.Goals as goal
@@ -14,12 +14,3 @@ fits c = fit_abs w64 _ (omega (arith, abs-add c.args.x (pos c.args.n), c.require
 pub returns : goal.returns
 unfolding inside
 returns c = rw (is c, back (fits c), back c.ranges.x, backn w64 c.args.side (omega arith)) refl
-
-pub overflow_cast-result : goal.overflow_cast-result
-overflow_cast-result c = fit w64 (omega arith)
-
-pub overflow_add-result : goal.overflow_add-result
-overflow_add-result c = rw (is c) (fits c)
-
-pub overflow_cast-result-2 : goal.overflow_cast-result-2
-overflow_cast-result-2 c = fit w64 (omega arith)

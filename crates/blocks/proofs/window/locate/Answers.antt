@@ -15,10 +15,6 @@ small : (c : After-up64) → c.up64.result * c.args.plane_stride ≤ (2 ^ 30 + 3
 small c =
     mul-le-mul_right {m = c.up64.result} {n = 2 ^ 30 + 3} c.args.plane_stride (omega (arith, row_is c, c.requires.0.top, abs_parts c.args.a.top))
 
-pub overflow_add-place : goal.overflow_add-place
-overflow_add-place c =
-    omega (arith, small (goal.at.overflow_add-place c).After-up64, column-is c, c.requires.1, c.requires.0.left, abs_parts c.args.a.left)
-
 pub returns-then-is_planes : goal.returns-then-is_planes
 returns-then-is_planes c =
     own_at _ _ _ (sym c.is_planes.ensures ∙ c.if-is_planes.true) (row_is (goal.at.returns-then-is_planes c).After-up64) (column-is (goal.at.returns-then-is_planes c).After-up64-then-is_planes) c.part_len-len.ensures
@@ -26,15 +22,3 @@ returns-then-is_planes c =
 pub returns : goal.returns
 unfolding window_at
 returns c = rw (sym c.is_planes.ensures ∙ c.if-is_planes.false, c.part_len-len-2.ensures) refl
-
-pub is_planes-requires : goal.is_planes-requires
-is_planes-requires c = c.requires.0
-
-pub overflow_mul-place : goal.overflow_mul-place
-overflow_mul-place c = omega (arith, small c, c.requires.1)
-
-pub part_len-len-requires : goal.part_len-len-requires
-part_len-len-requires c = let p = c.requires in (p.1, p.0.ww128, p.0.wh1, p.0.wh128)
-
-pub part_len-len-requires-2 : goal.part_len-len-requires-2
-part_len-len-requires-2 c = let p = c.requires.0 in (omega (arith, p), p.ww128, p.wh1, p.wh128)

@@ -1,8 +1,7 @@
-use Rattle.blocks.proofs.Usual.{◌≡◌, ◌∙◌, ap, length, window_of, part_of, lent_of, back}
+use Rattle.blocks.proofs.Usual.{◌≡◌, length, window_of, lent_of, back}
 use Rattle.rows.proofs.Laws.Pixels.Values.{values-length}
 use Rattle.blocks.specs.inner.Window.{asked}
 use Rattle.blocks.proofs.Laws.Window.Holds.{window_in}
-use Rattle.blocks.specs.declared.window.Part.{Part}
 use Rattle.blocks.proofs.window.window_part.Goals as goal
 use Rattle.blocks.proofs.window.window_part.Goals.{After-find_window-part}
 
@@ -12,11 +11,6 @@ answer : (g : _) (c : After-find_window-part g) → let a = c.args in
 answer g c =
     let plane = c.args.plane.now in
     rw (back c.ranges.x, back c.ranges.y) at (c.find_window-part.ensures (g.P.Pixel.values plane) (values-length g.met.P.Pixel.each plane))
-
-pub returns : goal.returns
-returns g c =
-    let a = c.args in let v = g.P.Pixel.values in
-    c.pick.ensures ∙ ap (λ (p : Part). part_of p (v a.plane.now) (v a.scratch.now)) (answer g (goal.at.returns g c).After-find_window-part)
 
 pub pick-requires : goal.pick-requires
 pick-requires g c =

@@ -2,15 +2,9 @@ use Rattle.blocks.proofs.Usual.{◌∙◌, ap, ◌*◌, ◌+◌, fill, before}
 use Rattle.rows.specs.Copy.{prep}
 use Rattle.blocks.specs.Order.{prep_rule}
 use Rattle.blocks.proofs.Laws.Loops.Stands.{around-down}
-use Rattle.blocks.proofs.Laws.Order.Kinds.{copy_ready, subpel_ready, bilin_ready, warp_ready}
+use Rattle.blocks.proofs.Laws.Order.Kinds.{subpel_ready, bilin_ready, warp_ready}
 use Rattle.blocks.proofs.Laws.Order.Kinds.{bilin_passed, warp-size, from_window, no_margin}
 use Rattle.blocks.proofs.order.kinds.prep_kind.Goals as goal
-
-pub prep_rows-requires : goal.prep_rows-requires
-prep_rows-requires g c =
-    let p = c.requires in
-    let r = copy_ready p.0 p.1 c.in-Copy.is in
-    rw c.top_down-first.ensures (r.0, r.1, r.2, p.2, p.3)
 
 pub prep_8tap_rows-requires : goal.prep_8tap_rows-requires
 prep_8tap_rows-requires g c =

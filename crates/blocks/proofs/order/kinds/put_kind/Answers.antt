@@ -1,14 +1,9 @@
 use Rattle.blocks.proofs.Usual.{◌∙◌, ap, ◌*◌, ◌+◌, fill, put_rule, before}
 use Rattle.rows.specs.Copy.{put}
 use Rattle.blocks.proofs.Laws.Loops.Stands.{around-down}
-use Rattle.blocks.proofs.Laws.Order.Kinds.{copy_ready, subpel_ready, bilin_ready, warp_ready}
+use Rattle.blocks.proofs.Laws.Order.Kinds.{subpel_ready, bilin_ready, warp_ready}
 use Rattle.blocks.proofs.Laws.Order.Kinds.{bilin_passed, warp-size, from_window, no_margin}
 use Rattle.blocks.proofs.order.kinds.put_kind.Goals as goal
-
-pub put_rows-requires : goal.put_rows-requires
-put_rows-requires g c =
-    let p = c.requires in
-    rw c.top_down-first.ensures (copy_ready p.0 p.1 c.in-Copy.is)
 
 pub put_8tap_rows-requires : goal.put_8tap_rows-requires
 put_8tap_rows-requires g c =

@@ -1,16 +1,18 @@
-use Rattle.blocks.proofs.Usual.{true, ◌≡◌, ◌∙◌, sym, ◌*◌, ◌-◌, arith, length, bits_of, up, lowest, numbers_of, back, done, refused}
+use Rattle.blocks.proofs.Usual.{true, ◌≡◌, ◌∙◌, sym, ap, rules, ◌*◌, ◌-◌, arith, length, bits_of, up, lowest, numbers_of, back}
 use Rattle.rows.proofs.Laws.Pixels.Values.{values-length}
+use Rattle.blocks.specs.Refuse.{told, number_of, reason_of}
 use Rattle.blocks.specs.Subpel.{subpel_ok}
 use Rattle.blocks.specs.Scaled.{scaled_type_ok, scaled_tests}
 use Rattle.blocks.specs.inner.Scaled.{scaled_plan}
 use Rattle.blocks.specs.inner.Source.{top_down}
+use Rattle.blocks.proofs.Laws.Calls.Refuse.{made, stays}
 use Rattle.blocks.proofs.Laws.Scaled.Ready.{ScaledMet, scaled_ready, taps_met}
 use Rattle.blocks.proofs.Laws.Scaled.Rule.{put_planned}
 use Rattle.blocks.proofs.scaled.kernels.hv_put_8tap_scaled.Goals as goal
-use Rattle.blocks.proofs.scaled.kernels.hv_put_8tap_scaled.Goals.{After-check_scaled-number, Then-number-eq0, After-depth_numbers-d, After-scaled_plan-p}
+use Rattle.blocks.proofs.scaled.kernels.hv_put_8tap_scaled.Goals.{After-check_scaled, In_ok-check_scaled, After-depth_numbers-d, After-scaled_plan-p}
 
-number : (g : _) (c : After-check_scaled-number g) → let a = c.args in
-    c.check_scaled-number.result ≡ lowest (scaled_tests true (g.P.Sample.depth_ok a.depth) (scaled_type_ok a.filter_type) (subpel_ok (length a.subpel.now))
+number : (g : _) (c : After-check_scaled g) → let a = c.args in
+    told c.check_scaled.result ≡ lowest (scaled_tests true (g.P.Sample.depth_ok a.depth) (scaled_type_ok a.filter_type) (subpel_ok (length a.subpel.now))
     (length a.dst.now) a.dst_stride (length a.src.now) a.src_off a.src_stride a.w a.h a.mx a.my a.dx a.dy)
 unfolding subpel_ok
 number g c =
@@ -23,21 +25,21 @@ number g c =
       back f.my,
       back f.dx,
       back f.dy,
-    ) at c.check_scaled-number.ensures
+    ) at c.check_scaled.ensures
 
-met : (g : _) (c : Then-number-eq0 g) → let a = c.args in
+met : (g : _) (c : In_ok-check_scaled g) → let a = c.args in
     ScaledMet true (g.P.Sample.depth_ok a.depth) (scaled_type_ok a.filter_type) (subpel_ok (length a.subpel.now))
     (length a.dst.now) a.dst_stride (length a.src.now) a.src_off a.src_stride a.w a.h a.mx a.my a.dx a.dy
-met g c = scaled_ready (sym (number g c.before) ∙ c.if-number-eq0.true)
+met g c = scaled_ready (sym (number g c.before.before) ∙ ap told c.in_ok-check_scaled.was)
 
 pub depth_numbers-d-requires : goal.depth_numbers-d-requires
-depth_numbers-d-requires g c = rw (back c.ranges.depth) (met g (goal.at.depth_numbers-d-requires g c).Then-number-eq0).deep
+depth_numbers-d-requires g c = rw (back c.ranges.depth) (met g (goal.at.depth_numbers-d-requires g c).In_ok-check_scaled).deep
 
 pub overflow_mul-src_stride : goal.overflow_mul-src_stride
-overflow_mul-src_stride g c = omega (arith, (met g (goal.at.overflow_mul-src_stride g c).Then-number-eq0).most)
+overflow_mul-src_stride g c = omega (arith, (met g (goal.at.overflow_mul-src_stride g c).In_ok-check_scaled).most)
 
 pub overflow_sub-src_off : goal.overflow_sub-src_off
-overflow_sub-src_off g c = (taps_met _ _ (met g (goal.at.overflow_sub-src_off g c).Then-number-eq0) 0).0
+overflow_sub-src_off g c = (taps_met _ _ (met g (goal.at.overflow_sub-src_off g c).In_ok-check_scaled) 0).0
 
 depth : (g : _) (c : After-depth_numbers-d g) → c.depth_numbers-d.result ≡ numbers_of (up c.args.depth)
 depth g c = rw (back c.ranges.depth) at c.depth_numbers-d.ensures.is
@@ -61,22 +63,23 @@ pub put_8tap_scaled_rows-requires : goal.put_8tap_scaled_rows-requires
 unfolding scaled_plan
 put_8tap_scaled_rows-requires g c =
     let at = goal.at.put_8tap_scaled_rows-requires g c in
-    let m = met g at.Then-number-eq0 in
+    let m = met g at.In_ok-check_scaled in
     let d = rw (back c.ranges.depth) at c.depth_numbers-d.ensures in
     rw (plan g at.After-scaled_plan-p, depth g at.After-depth_numbers-d) (m.block, m.rows, (taps_met _ _ m _).1, d.bits, d.max)
 
-pub returns-then-number-eq0 : goal.returns-then-number-eq0
-returns-then-number-eq0 g c =
+pub returns : goal.returns
+returns g c =
     let a = c.args in let each = g.met.P.Pixel.each in
-    let at = goal.at.returns-then-number-eq0 g c in
-    let m = met g at.Then-number-eq0 in
+    let at = goal.at.returns g c in
+    let m = met g at.In_ok-check_scaled in
     let new = rw (plan g at.After-scaled_plan-p, depth g at.After-depth_numbers-d) at c.put_8tap_scaled_rows.ensures in (
-      rw (values-length each a.dst.now, values-length each a.src.now) (number g at.After-check_scaled-number),
-      new ∙ put_planned _ _ _ _ _ _ _ _ _ _ _ _ (taps_met _ _ m 0).0 _ _ _ (omega (arith, m.rows, m.block)) ∙ sym (done _ _ _ c.if-number-eq0.true),
+      rw (values-length each a.dst.now, values-length each a.src.now) (sym (ap told c.in_ok-check_scaled.was) ∙ number g at.After-check_scaled),
+      new ∙ put_planned _ _ _ _ _ _ _ _ _ _ _ _ (taps_met _ _ m 0).0 _ _ _ (omega (arith, m.rows, m.block)) ∙ made _ _,
     )
 
-pub returns-else-number-eq0 : goal.returns-else-number-eq0
-returns-else-number-eq0 g c =
-    let a = c.args in let each = g.met.P.Pixel.each in
-    let n = number g (goal.at.returns-else-number-eq0 g c).After-check_scaled-number in
-    (rw (values-length each a.dst.now, values-length each a.src.now) n, sym (refused _ _ _ c.if-number-eq0.false))
+pub returns-in_err-check_scaled : goal.returns-in_err-check_scaled
+returns-in_err-check_scaled g c =
+    let a = c.args in let each = g.met.P.Pixel.each in let why = c.in_err-check_scaled.field-0.0 in
+    let n = number g (goal.at.returns-in_err-check_scaled g c).After-check_scaled in
+    let r : told c.from_residual.result ≡ number_of (reason_of why) = search rules in
+    (rw (values-length each a.dst.now, values-length each a.src.now) (r ∙ sym (ap told c.in_err-check_scaled.was) ∙ n), stays _ why _ _ r)

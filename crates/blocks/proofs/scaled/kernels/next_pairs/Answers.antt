@@ -1,8 +1,7 @@
-use Rattle.blocks.proofs.Usual.{◌≡◌, ◌∙◌, subst, ◌*◌, ◌+◌, ◌%◌, arith, pos, length, span}
+use Rattle.blocks.proofs.Usual.{◌≡◌, ◌∙◌, ◌*◌, ◌+◌, ◌%◌, arith, pos, length, span}
 use Rattle.rows.proofs.Laws.Blocks.Places.{span-length}
-use Rattle.blocks.specs.inner.Scaled.{LastTwo, pair_line_of}
 use Rattle.blocks.proofs.Laws.Loops.Stands.{StoodRow, stood_row}
-use Rattle.blocks.proofs.Laws.Scaled.Pairs.{two_more, pairs_fetched, tabled_line}
+use Rattle.blocks.proofs.Laws.Scaled.Pairs.{two_more, tabled_line}
 use Rattle.blocks.proofs.scaled.kernels.next_pairs.Goals as goal
 use Rattle.blocks.proofs.scaled.kernels.next_pairs.Goals.{In-loop-k}
 
@@ -15,31 +14,9 @@ long : (g : _) (c : In-loop-k g) → let q = c.loop-k.k % 2 * 64 in let w = c.ar
     length (span c.loop-k.rows q (q + w)) ≡ w
 long g c = let q = c.loop-k.k % 2 * 64 in span-length (pos 0) c.loop-k.rows q (q + c.args.w) (omega (arith, c.requires.3)) ∙ omega arith
 
-pub scaled_bilin_row-requires : goal.scaled_bilin_row-requires
-scaled_bilin_row-requires g c =
-    let s = (goal.at.scaled_bilin_row-requires g c).In-loop-k in
-    let p = c.requires in (
-      omega (arith, long g s, p.3),
-      omega (arith, row g s, c.row_first-o.ensures),
-      rw c.row_first-o.ensures (pairs_fetched p.3 p.5 c.loop-k.k _ c.loop-k-test.true (omega (arith, long g s))),
-      p.4,
-      p.3.even,
-    )
-
-pub loop-k-init : goal.loop-k-init
-loop-k-init g c = (c.requires.0, c.requires.1)
-
 pub loop-k-preserved : goal.loop-k-preserved
 loop-k-preserved g c =
     let i = c.loop-k.invariant in let p = c.requires in
     two_more i.1 p.3.w64 i.0 _
     (rw c.row_first-o.ensures at c.scaled_bilin_row.ensures
     ∙ tabled_line p.3 p.5 (g.P.Pixel.values c.args.src.now) c.loop-k.k _ (omega (arith, long g (goal.at.loop-k-preserved g c).In-loop-k)))
-
-pub returns : goal.returns
-returns g c =
-    let l = c.loop-k in let a = c.args in
-    subst (λ n. LastTwo a.w (pair_line_of (g.P.Pixel.values a.src.now) a.p) n l.rows) (omega arith) l.invariant.1
-
-pub row_first-o-requires : goal.row_first-o-requires
-row_first-o-requires g c = let r = row g (goal.at.row_first-o-requires g c).In-loop-k in (r.before, omega (arith, r))

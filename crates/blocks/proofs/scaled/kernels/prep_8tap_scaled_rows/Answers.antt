@@ -1,4 +1,4 @@
-use Rattle.blocks.proofs.Usual.{◌∙◌, arith, pos, Turn, turn, filled_none, filled_more, filled_all}
+use Rattle.blocks.proofs.Usual.{◌∙◌, arith, pos, Turn, turn, filled_none, filled_more}
 use Rattle.blocks.proofs.Laws.Scaled.Lines.{prep-down_same}
 use Rattle.blocks.proofs.Laws.Scaled.Rows.{eight_turned}
 use Rattle.blocks.proofs.Laws.Scaled.Turns.{eight_kept_none, eight_kept_next, eight_asked, eight_row}
@@ -32,6 +32,3 @@ loop-y-preserved g c =
           ∙ eight_row (pos 0) _ (prep-down_same _ _) _ c.next_rows-order.ensures _ (omega (arith, t))),
       eight_kept_next y c.next_rows-order.ensures,
     )
-
-pub returns : goal.returns
-returns g c = filled_all c.loop-y.invariant.0 (omega arith)

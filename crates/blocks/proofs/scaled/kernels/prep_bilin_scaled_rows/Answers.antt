@@ -1,4 +1,4 @@
-use Rattle.blocks.proofs.Usual.{◌≡◌, ◌∙◌, refl, ap, arith, pos, w16, to_z, low16, minus16, backn, Turn, turn, filled_none, filled_more, filled_all}
+use Rattle.blocks.proofs.Usual.{◌≡◌, ◌∙◌, refl, ap, arith, pos, w16, to_z, low16, minus16, backn, Turn, turn, filled_none, filled_more}
 use Rattle.rows.specs.Bilinear.{R}
 use Rattle.blocks.proofs.Laws.Scaled.Pairs.{two_row, parity_small}
 use Rattle.blocks.proofs.Laws.Scaled.Turns.{two_kept_none, two_kept_next, pairs_asked}
@@ -13,9 +13,6 @@ less : (g : _) (c : In-loop-y g) → to_z w16 c.bias_of-less.result ≡ pos c.ar
 less g c =
     let b = c.bias_of-less in
     backn w16 b.result (omega (arith, b.ensures.fits)) ∙ ap pos b.ensures.is
-
-pub tabulate_columns-requires : goal.tabulate_columns-requires
-tabulate_columns-requires g c = let p = c.requires in (refl, refl, p.0.w64, p.2.across)
 
 pub loop-y-init : goal.loop-y-init
 loop-y-init g c = (filled_none (pos 0) _ _ _ _ _ (omega (arith, c.requires)), two_kept_none refl)
@@ -39,6 +36,3 @@ loop-y-preserved g c =
           ∙ two_row _ c.next_pairs.ensures (pos 0) (λ v. minus16 (low16 (R 4 v)) (pos c.args.bias)) _ (row g s).long),
       two_kept_next y (omega arith) c.next_pairs.ensures,
     )
-
-pub returns : goal.returns
-returns g c = filled_all c.loop-y.invariant.0 (omega arith)

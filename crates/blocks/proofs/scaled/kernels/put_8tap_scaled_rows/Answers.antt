@@ -1,4 +1,4 @@
-use Rattle.blocks.proofs.Usual.{◌∙◌, arith, Turn, filled_all}
+use Rattle.blocks.proofs.Usual.{◌∙◌, arith, Turn}
 use Rattle.blocks.proofs.Laws.Loops.Shown.{shown_none, shown_more, shown_turn}
 use Rattle.blocks.proofs.Laws.Scaled.Lines.{put-down_same}
 use Rattle.blocks.proofs.Laws.Scaled.Rows.{eight_turned}
@@ -32,6 +32,3 @@ loop-y-preserved g c =
           (c.put_scaled_line.ensures ∙ eight_row 0 _ (put-down_same _ _ _) _ c.next_rows-order.ensures _ (omega (arith, t))),
       eight_kept_next y c.next_rows-order.ensures,
     )
-
-pub returns : goal.returns
-returns g c = filled_all c.loop-y.invariant.0 (omega arith)

@@ -1,4 +1,4 @@
-use Rattle.blocks.proofs.Usual.{◌∙◌, refl, ◌+◌, arith, rules, clip, Turn, filled_all}
+use Rattle.blocks.proofs.Usual.{◌∙◌, refl, ◌+◌, arith, rules, clip, Turn}
 use Rattle.rows.specs.Bilinear.{R}
 use Rattle.blocks.proofs.Laws.Loops.Shown.{shown_none, shown_more, shown_turn}
 use Rattle.blocks.proofs.Laws.Scaled.Pairs.{two_row, parity_small}
@@ -8,9 +8,6 @@ use Rattle.blocks.proofs.scaled.kernels.put_bilin_scaled_rows.Goals.{In-loop-y}
 
 row : (g : _) (c : In-loop-y g) → let a = c.args in Turn a.dst_stride a.w c.loop-y.y c.loop-y.dst
 row g c = shown_turn g.met.P.Pixel.each c.loop-y.invariant.0 c.requires.1 c.loop-y-test.true
-
-pub tabulate_columns-requires : goal.tabulate_columns-requires
-tabulate_columns-requires g c = let p = c.requires in (refl, refl, p.0.w64, p.2.across)
 
 pub loop-y-init : goal.loop-y-init
 loop-y-init g c = (shown_none g.met.P.Pixel.each _ _ (omega (arith, c.requires)), two_kept_none refl)
@@ -34,9 +31,6 @@ loop-y-preserved g c =
           ∙ two_row _ c.next_pairs.ensures 0 (λ v. clip c.args.max (R (4 + c.args.p.bits) v)) _ t.long),
       two_kept_next y (omega arith) c.next_pairs.ensures,
     )
-
-pub returns : goal.returns
-returns g c = filled_all c.loop-y.invariant.0 (omega arith)
 
 -- the row's first place is within dst, whose pixels fit memory
 pub offset_bounds-dst-d : goal.offset_bounds-dst-d

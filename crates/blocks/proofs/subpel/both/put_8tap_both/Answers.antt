@@ -1,17 +1,13 @@
 use Rattle.blocks.proofs.Usual.{◌+◌, ◌*◌, ◌<◌, refl, ap, arith, rules, length, clip}
 use Rattle.blocks.proofs.Laws.Loops.Groups.{holds-first}
 use Rattle.blocks.proofs.Laws.Loops.ByEight.{group_at, grouped_first, grouped_here, grouped_more, grouped_end, shown_long, shown_group}
-use Rattle.blocks.proofs.Laws.Subpel.Both.{TurnBoth, turn_both, first-held, second-held, seven_lines, first_lines, second_lines}
-use Rattle.blocks.proofs.Laws.Subpel.Lines.{told_near}
+use Rattle.blocks.proofs.Laws.Subpel.Both.{TurnBoth, turn_both, first-held, second-held, first_lines}
 use Rattle.blocks.proofs.subpel.both.put_8tap_both.Goals as goal
 use Rattle.blocks.proofs.subpel.both.put_8tap_both.Goals.{After-eight_at_most-k, then-y-k, else-y-k}
 
 turn : (g : _) (c : After-eight_at_most-k g) → let a = c.args in
     TurnBoth (length a.dst.now) a.dst_stride (length a.src.now) a.p.rows (a.w + 7 * a.p.step) a.w a.h (8 * c.loop-group.group) c.eight_at_most-k.result
 turn g c = turn_both c.requires.1 c.requires.2 c.loop-group-test.true c.eight_at_most-k.ensures
-
-pub prep_lines-requires : goal.prep_lines-requires
-prep_lines-requires g c = let p = c.requires in (seven_lines p.0 p.2, p.3, p.4, p.5, g.met.P.Pixel.no_bias)
 
 pub loop-group-init : goal.loop-group-init
 loop-group-init g c =
@@ -33,13 +29,6 @@ pub slice_bounds-mid_lines-end : goal.slice_bounds-mid_lines-end
 slice_bounds-mid_lines-end g c =
     let t = turn g (goal.at.slice_bounds-mid_lines-end g c).After-eight_at_most-k in
     omega (arith, t.to, shown_long g.met.P.Pixel.each c.loop-group.invariant.dst)
-
-pub mid_lines-requires : goal.mid_lines-requires
-mid_lines-requires g c =
-    let p = c.requires in
-    let t = turn g (goal.at.mid_lines-requires g c).After-eight_at_most-k in
-    let long = shown_long g.met.P.Pixel.each c.loop-group.invariant.dst in
-    (second_lines t.to p.0 _ p.1 long refl (search rules), told_near _ c.is_near-near.ensures, omega arith, omega arith, p.6)
 
 pub loop-group-preserved : goal.loop-group-preserved
 loop-group-preserved g c =

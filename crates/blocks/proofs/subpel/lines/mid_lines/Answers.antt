@@ -1,6 +1,5 @@
-use Rattle.blocks.proofs.Usual.{arith, filled_all}
+use Rattle.blocks.proofs.Usual.{arith}
 use Rattle.blocks.proofs.Laws.Loops.Shown.{shown_none, shown_more}
-use Rattle.blocks.proofs.Laws.Subpel.Lines.{shown_line}
 use Rattle.blocks.proofs.subpel.lines.mid_lines.Goals as goal
 
 pub loop-y-init : goal.loop-y-init
@@ -10,11 +9,3 @@ pub loop-y-preserved : goal.loop-y-preserved
 loop-y-preserved g c =
     let p = c.requires.0 in
     shown_more g.met.P.Pixel.each _ c.loop-y.invariant p.w1 p.dst c.loop-y-test.true (rw c.half_power-r.ensures.0 at c.mid_row.ensures)
-
-pub mid_row-requires : goal.mid_row-requires
-mid_row-requires g c =
-    let p = c.requires in
-    (omega (arith, shown_line g.met.P.Pixel.each p.0 c.loop-y.invariant c.loop-y-test.true), omega arith, omega (arith, p), p.1, p.4)
-
-pub returns : goal.returns
-returns g c = filled_all c.loop-y.invariant (omega arith)

@@ -1,5 +1,4 @@
-use Rattle.blocks.proofs.Usual.{arith, pos, w16, backn, filled_none, filled_more, filled_all}
-use Rattle.blocks.proofs.Laws.Subpel.Lines.{line, half-short}
+use Rattle.blocks.proofs.Usual.{arith, pos, w16, backn, filled_none, filled_more}
 use Rattle.blocks.proofs.subpel.lines.mid_prep_lines.Goals as goal
 
 pub loop-y-init : goal.loop-y-init
@@ -10,11 +9,3 @@ loop-y-preserved c =
     let p = c.requires.0 in
     filled_more (pos 0) _ c.loop-y.invariant p.w1 p.dst c.loop-y-test.true
     (rw (c.half_power-r.ensures.0, backn w16 c.args.bias (omega (arith, c.requires))) at c.mid_prep_row.ensures)
-
-pub mid_prep_row-requires : goal.mid_prep_row-requires
-mid_prep_row-requires c =
-    let p = c.requires in
-    (omega (arith, line (pos 0) p.0 c.loop-y.invariant c.loop-y-test.true), half-short c.half_power-r.ensures.0 p.2, omega (arith, p), p.1)
-
-pub returns : goal.returns
-returns c = filled_all c.loop-y.invariant (omega arith)

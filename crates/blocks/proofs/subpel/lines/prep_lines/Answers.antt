@@ -1,4 +1,4 @@
-use Rattle.blocks.proofs.Usual.{arith, pos, filled_none, filled_more, filled_all}
+use Rattle.blocks.proofs.Usual.{arith, pos, filled_none, filled_more}
 use Rattle.blocks.proofs.Laws.Subpel.Lines.{line, told_near}
 use Rattle.blocks.proofs.subpel.lines.prep_lines.Goals as goal
 
@@ -15,6 +15,3 @@ prep_line_row-requires g c =
     let p = c.requires in
     let row = line (pos 0) p.0 c.loop-y.invariant c.loop-y-test.true in
     (omega (arith, row, c.row_first-o.ensures), omega (arith, p), told_near _ c.is_near-near.ensures, p.3, p.4)
-
-pub returns : goal.returns
-returns g c = filled_all c.loop-y.invariant (omega arith)

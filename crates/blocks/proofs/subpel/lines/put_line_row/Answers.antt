@@ -10,6 +10,3 @@ returns-then-step-eq0 g c =
 pub returns-else-step-eq0 : goal.returns-else-step-eq0
 returns-else-step-eq0 g c =
     c.tap_row.ensures ∙ row_same 0 _ _ _ (λ i b. put_some _ _ _ _ _ _ (omega (arith, c.if-step-eq0.false)))
-
-pub tap_row-requires : goal.tap_row-requires
-tap_row-requires g c = c.requires

@@ -1,4 +1,4 @@
-use Rattle.blocks.proofs.Usual.{arith, filled_all}
+use Rattle.blocks.proofs.Usual.{arith}
 use Rattle.blocks.proofs.Laws.Loops.Shown.{shown_none, shown_more}
 use Rattle.blocks.proofs.Laws.Subpel.Lines.{shown_line, told_near}
 use Rattle.blocks.proofs.subpel.lines.put_lines.Goals as goal
@@ -16,6 +16,3 @@ put_line_row-requires g c =
     let p = c.requires in
     let line = shown_line g.met.P.Pixel.each p.0 c.loop-y.invariant c.loop-y-test.true in
     (omega (arith, line, c.row_first-o.ensures), p.1, omega (arith, p), told_near _ c.is_near-near.ensures, p.4)
-
-pub returns : goal.returns
-returns g c = filled_all c.loop-y.invariant (omega arith)

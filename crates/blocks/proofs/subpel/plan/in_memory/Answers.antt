@@ -1,5 +1,5 @@
-use Rattle.blocks.proofs.Usual.{◌∙◌, arith, rules, pos}
-use Rattle.rows.proofs.Laws.Blocks.Row.{upto_none, upto_more, upto_all}
+use Rattle.blocks.proofs.Usual.{◌∙◌, arith}
+use Rattle.rows.proofs.Laws.Blocks.Row.{upto_all}
 use Rattle.blocks.proofs.Laws.Subpel.Turned.{memory_same, memory_turned}
 use Rattle.blocks.proofs.subpel.plan.in_memory.Goals as goal
 
@@ -8,9 +8,3 @@ returns c = upto_all c.loop-t.invariant (omega arith) ∙ memory_turned _ _ (ome
 
 pub returns-then-back-eq0 : goal.returns-then-back-eq0
 returns-then-back-eq0 c = memory_same _ c.if-back-eq0.true
-
-pub loop-t-init : goal.loop-t-init
-loop-t-init c = upto_none (pos 0) _ _
-
-pub loop-t-preserved : goal.loop-t-preserved
-loop-t-preserved c = upto_more c.loop-t.invariant (omega arith) (search rules)

@@ -13,9 +13,3 @@ returns-in-Ext c = rw c.in-Ext.is c.eight.ensures
 pub returns-in-Subpel : goal.returns-in-Subpel
 unfolding taps_of axis_of
 returns-in-Subpel c = rw c.in-Subpel.is c.eight-in-Subpel.ensures
-
-pub eight-requires : goal.eight-requires
-eight-requires c = rw c.in-Ext.is at c.requires
-
-pub eight-requires-in-Subpel : goal.eight-requires-in-Subpel
-eight-requires-in-Subpel c = rw c.in-Subpel.is at c.requires

@@ -6,9 +6,5 @@ use Rattle.blocks.proofs.words.depth.depth_numbers.Goals.{After-up32-d}
 above-is : (c : After-up32-d) → c.up32-d.result ≡ up c.args.depth
 above-is c = c.up32-d.ensures ∙ ap up (back c.ranges.depth)
 
-pub returns : goal.returns
-returns c =
-    rw (c.intermediate_bits-bits.ensures, c.prep_bias-bias.ensures, c.bitdepth_max-max.ensures, above-is (goal.at.returns c).After-up32-d)
-
 pub bitdepth_max-max-requires : goal.bitdepth_max-max-requires  -- words
 bitdepth_max-max-requires c = rw (above-is (goal.at.bitdepth_max-max-requires c).After-up32-d) (depth-high c.args.depth c.requires)  -- words
