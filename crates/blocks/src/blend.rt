@@ -66,16 +66,19 @@ pub fn first_above(mask: &[u8], w: usize, h: usize) -> Option<Spot>
     requires { Block w h × Rows (length mask.now) w w h }
     ensures { result ≡ found_at w h (first_above mask.now 0 (w * h)) }
 {
-    for row in 0..h {
-        if largest(mask, row * w, w) > 64 {
+    let mut first = None;
+    'search: for row in 0..h {
+        let above = largest(mask, row * w, w) > 64;
+        if above {
             for col in 0..w {
                 if mask[row * w + col] > 64 {
-                    return Some(Spot { row, col });
+                    first = Some(Spot { row, col });
+                    break 'search;
                 }
             }
         }
     }
-    None
+    first
 }
 
 #[tactic(auto, unfolding(crate::specs::Refuse::need))]

@@ -163,19 +163,31 @@ fn upright<P: Sample>(rows: &mut [u16], src: &[P], s: Stand)
     }
 }
 
-// The first pass wherever the rows stand. With the last row first in memory the fifteen rows are copied before, into the picture's order.
+// The first pass of a source whose last row stands first in memory: its fifteen rows are copied before, into the picture's order. Out of line, so that the
+// stack has room for the copy only where there is one.
+#[inline(never)]
+fn warp_turned<P: Sample>(mid: &mut [i16], src: &[P], s: Stand, table: &[i8], by: Slope, bits: u32)
+    requires { (length mid.old ≡ 120) × Margins (length src.now) s × Pass (length table.now / 8) by.m by.a by.b 15 × P.bits_ok bits }
+    ensures { mid.new
+        ≡ fill mid.old 15 15 8 (first_in bits table.now by.m by.a by.b (P.values src.now) s) }
+{
+    let mut rows = [0u16; 225];
+    let first = corner(s);
+    upright(&mut rows, src, first);
+    warp_mid(mid, &rows, 0, 15, table, by, P::bits_of(bits));
+}
+
+// The first pass wherever the rows stand.
 fn warp_first<P: Sample>(mid: &mut [i16], src: &[P], s: Stand, table: &[i8], by: Slope, bits: u32)
     requires { (length mid.old ≡ 120) × Margins (length src.now) s × Pass (length table.now / 8) by.m by.a by.b 15 × P.bits_ok bits }
     ensures { mid.new
         ≡ fill mid.old 15 15 8 (first_in bits table.now by.m by.a by.b (P.values src.now) s) }
 {
-    let first = corner(s);
     if s.back == 0 {
+        let first = corner(s);
         warp_mid(mid, src, first.off, s.forth, table, by, bits);
     } else {
-        let mut rows = [0u16; 225];
-        upright(&mut rows, src, first);
-        warp_mid(mid, &rows, 0, 15, table, by, P::bits_of(bits));
+        warp_turned(mid, src, s, table, by, bits);
     }
 }
 

@@ -116,7 +116,18 @@ impl TryFrom<u16> for Called {
     }
 }
 
-// Names are the interface's, without the prefix that all have.
+impl Called {
+    // What the interface's name has behind the kernel's: the set, where there is one.
+    pub(crate) fn set(self) -> &'static str {
+        match self {
+            Called::Bytes(_) => "_8bpc",
+            Called::Words(_) => "_16bpc",
+            Called::ResolveDivisor32 | Called::GetShearParams | Called::SetAffineMv2d => "",
+        }
+    }
+}
+
+// Names are the interface's, without the prefix that all have, and a function's without its set.
 impl fmt::Display for Pixels {
     fn fmt<W: fmt::Write>(&self, f: &mut fmt::Formatter<W>) -> fmt::Result {
         f.write_str(match self {
@@ -172,8 +183,7 @@ impl fmt::Display for Kernel {
 impl fmt::Display for Called {
     fn fmt<W: fmt::Write>(&self, f: &mut fmt::Formatter<W>) -> fmt::Result {
         match self {
-            Called::Bytes(kernel) => write!(f, "{kernel}_8bpc"),
-            Called::Words(kernel) => write!(f, "{kernel}_16bpc"),
+            Called::Bytes(kernel) | Called::Words(kernel) => write!(f, "{kernel}"),
             Called::ResolveDivisor32 => f.write_str("resolve_divisor_32"),
             Called::GetShearParams => f.write_str("get_shear_params"),
             Called::SetAffineMv2d => f.write_str("set_affine_mv2d"),

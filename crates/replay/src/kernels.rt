@@ -1,9 +1,9 @@
 // The kernels of a set. Those whose buffers are of the same kinds share what fills and compares them; a buffer that a call hasn't is empty.
-use crate::called::{Combined, Kernel, Mids, Pixels};
-use crate::rooms::{filled, same};
+use crate::called::{Combined, Mids, Pixels};
+use crate::list::ROOM;
+use crate::rooms::{fill, same};
 use crate::set::Set;
 use crate::{bilinear, blend, combine, copy, edge, mask, scaled, search, subpel, warp};
-use std::alloc::{AllocError, Global};
 
 fn to_pixels<P: Set>(
     k: Pixels,
@@ -27,12 +27,14 @@ fn to_pixels<P: Set>(
     }
 }
 
-fn pixels<P: Set>(alloc: Global, k: Pixels, r: &[u8]) -> Result<bool, AllocError> {
-    let mut dst: Vec<P> = filled(alloc, r, 0)?;
-    let src: Vec<P> = filled(alloc, r, 1)?;
-    let taps: Vec<i8> = filled(alloc, r, 2)?;
-    let ext: Vec<i8> = filled(alloc, r, 3)?;
-    Ok(to_pixels(k, r, &mut dst, &src, &taps, &ext) & same(r, 0, &dst))
+pub(crate) fn pixels<P: Set>(k: Pixels, r: &[u8], dst: &mut [P], src: &mut [P]) -> bool {
+    let mut taps = [0; ROOM];
+    let mut ext = [0; ROOM];
+    let n0 = fill(r, 0, dst);
+    let n1 = fill(r, 1, src);
+    let n2 = fill(r, 2, &mut taps);
+    let n3 = fill(r, 3, &mut ext);
+    to_pixels(k, r, &mut dst[..n0], &src[..n1], &taps[..n2], &ext[..n3]) & same(r, 0, dst)
 }
 
 fn to_mids<P: Set>(k: Mids, r: &[u8], tmp: &mut [i16], src: &[P], taps: &[i8], ext: &[i8]) -> bool {
@@ -46,12 +48,15 @@ fn to_mids<P: Set>(k: Mids, r: &[u8], tmp: &mut [i16], src: &[P], taps: &[i8], e
     }
 }
 
-fn mids<P: Set>(alloc: Global, k: Mids, r: &[u8]) -> Result<bool, AllocError> {
-    let mut tmp: Vec<i16> = filled(alloc, r, 0)?;
-    let src: Vec<P> = filled(alloc, r, 1)?;
-    let taps: Vec<i8> = filled(alloc, r, 2)?;
-    let ext: Vec<i8> = filled(alloc, r, 3)?;
-    Ok(to_mids(k, r, &mut tmp, &src, &taps, &ext) & same(r, 0, &tmp))
+pub(crate) fn mids<P: Set>(k: Mids, r: &[u8], src: &mut [P]) -> bool {
+    let mut tmp = [0; ROOM];
+    let mut taps = [0; ROOM];
+    let mut ext = [0; ROOM];
+    let n0 = fill(r, 0, &mut tmp);
+    let n1 = fill(r, 1, src);
+    let n2 = fill(r, 2, &mut taps);
+    let n3 = fill(r, 3, &mut ext);
+    to_mids(k, r, &mut tmp[..n0], &src[..n1], &taps[..n2], &ext[..n3]) & same(r, 0, &tmp)
 }
 
 fn to_combined<P: Set>(
@@ -70,25 +75,21 @@ fn to_combined<P: Set>(
     }
 }
 
-fn combined<P: Set>(alloc: Global, k: Combined, r: &[u8]) -> Result<bool, AllocError> {
-    let mut dst: Vec<P> = filled(alloc, r, 0)?;
-    let tmp1: Vec<i16> = filled(alloc, r, 1)?;
-    let tmp2: Vec<i16> = filled(alloc, r, 2)?;
-    let mut mask: Vec<u8> = filled(alloc, r, 3)?;
-    let answered = to_combined(k, r, &mut dst, &tmp1, &tmp2, &mut mask);
-    Ok(answered & same(r, 0, &dst) & same(r, 3, &mask))
-}
-
-// Replays a call of a kernel of this set: whether it answered as the record says.
-pub(crate) fn replayed<P: Set>(
-    alloc: Global,
-    kernel: Kernel,
-    r: &[u8],
-) -> Result<bool, AllocError> {
-    match kernel {
-        Kernel::Pixels(k) => pixels::<P>(alloc, k, r),
-        Kernel::Mids(k) => mids::<P>(alloc, k, r),
-        Kernel::Combined(k) => combined::<P>(alloc, k, r),
-        Kernel::Blend => blend::blend::<P>(alloc, r),
-    }
+pub(crate) fn combined<P: Set>(k: Combined, r: &[u8], dst: &mut [P]) -> bool {
+    let mut tmp1 = [0; ROOM];
+    let mut tmp2 = [0; ROOM];
+    let mut mask = [0; ROOM];
+    let n0 = fill(r, 0, dst);
+    let n1 = fill(r, 1, &mut tmp1);
+    let n2 = fill(r, 2, &mut tmp2);
+    let n3 = fill(r, 3, &mut mask);
+    let answered = to_combined(
+        k,
+        r,
+        &mut dst[..n0],
+        &tmp1[..n1],
+        &tmp2[..n2],
+        &mut mask[..n3],
+    );
+    answered & same(r, 0, dst) & same(r, 3, &mask)
 }

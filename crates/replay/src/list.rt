@@ -25,7 +25,9 @@ pub(crate) struct Layout {
 }
 
 // How many places are filled: none of a buffer that is longer than the room.
-pub(crate) fn places(c: Layout, room: usize) -> u16 {
+pub(crate) fn places(c: Layout, room: usize) -> u16
+    ensures { result ≤ room }
+{
     if c.len as usize <= room { c.len } else { 0 }
 }
 

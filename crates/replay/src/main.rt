@@ -18,7 +18,6 @@ ghost use Rattle.std.specs.Prelude.{◌≡◌, ◌<◌, ◌≤◌, IfOk, OnErr, 
 use crate::called::Called;
 use crate::list::{byte, due, number};
 use crate::tally::{count, print_all, print_end};
-use std::alloc::{AllocError, Global};
 use std::io::{self, Read};
 
 mod bilinear;
@@ -30,6 +29,7 @@ mod edge;
 mod kernels;
 mod list;
 mod mask;
+mod roomed;
 mod rooms;
 mod scaled;
 mod search;
@@ -40,16 +40,16 @@ mod tally;
 mod warp;
 
 // Replays a call: whether it answered as the record says. A number that no function has answers nothing.
-fn replayed(alloc: Global, id: u16, r: &[u8]) -> Result<bool, AllocError> {
+fn replayed(id: u16, r: &[u8]) -> bool {
     let Ok(called) = Called::try_from(id) else {
-        return Ok(false);
+        return false;
     };
     match called {
-        Called::Bytes(kernel) => kernels::replayed::<u8>(alloc, kernel, r),
-        Called::Words(kernel) => kernels::replayed::<u16>(alloc, kernel, r),
-        Called::ResolveDivisor32 => shear::resolve_divisor_32(alloc, r),
-        Called::GetShearParams => shear::get_shear_params(alloc, r),
-        Called::SetAffineMv2d => Ok(shear::set_affine_mv2d(r)),
+        Called::Bytes(kernel) => roomed::replayed::<u8>(kernel, r),
+        Called::Words(kernel) => roomed::replayed::<u16>(kernel, r),
+        Called::ResolveDivisor32 => shear::resolve_divisor_32(r),
+        Called::GetShearParams => shear::get_shear_params(r),
+        Called::SetAffineMv2d => shear::set_affine_mv2d(r),
     }
 }
 
@@ -100,7 +100,7 @@ fn mixed(sum: u32, r: &[u8]) -> u32
 }
 
 // Replays the next call, counts it, and mixes its record in. Where the list can't be read, nothing is counted.
-fn step(alloc: Global, input: &mut impl Read, tally: &mut [u32; 141], sum: u32) -> io::Result<u32>
+fn step(input: &mut impl Read, tally: &mut [u32; 141], sum: u32) -> io::Result<u32>
     requires { sum < 134217689 }
     ensures below { IfOk result (λ m. m < 134217689) }
     ensures uncounted { OnErr result (tally.new ≡ tally.old) }
@@ -110,8 +110,7 @@ fn step(alloc: Global, input: &mut impl Read, tally: &mut [u32; 141], sum: u32) 
     let n = (len as usize).min(room.len());
     let r = &room[..n];
     let id = number(r);
-    let same = replayed(alloc, id, r)?;
-    count(tally, id, due(r) == 0, same);
+    count(tally, id, due(r) == 0, replayed(id, r));
     Ok(mixed(sum, r))
 }
 
@@ -121,7 +120,7 @@ fn main(rt: HostRuntime) -> io::Result<()> {
     let mut input = rt.reader();
     let n = ahead(&mut input)?;
     for _ in 0..n {
-        sum = step(rt.alloc(), &mut input, &mut tally, sum)?;
+        sum = step(&mut input, &mut tally, sum)?;
     }
     print_all(&rt, &tally)?;
     print_end(&rt, tally[0], sum)

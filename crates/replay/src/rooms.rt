@@ -1,6 +1,7 @@
 // Buffers, filled from a record and compared with it: pixels, intermediates and taps.
+ghost use Rattle.std.specs.Prelude.{◌≤◌, ◌≡◌, length};
+
 use crate::list::{ROOM, Value, came, layout_of, left, mid, places, tap, value8, value16};
-use std::alloc::{AllocError, Global};
 
 // What stands in a buffer's places, as the list writes it.
 pub(crate) trait Listed: Copy + PartialEq {
@@ -31,20 +32,26 @@ impl Listed for i8 {
     }
 }
 
-// Buffer b as the record says that it comes.
-pub(crate) fn filled<T: Listed>(alloc: Global, r: &[u8], b: u8) -> Result<Vec<T>, AllocError> {
+// Fills the first places of a room with what buffer b comes with, and answers how many. A function of its own, so that many places of one value are filled
+// some at a time; nor does `same` end at the first that differs, for the same reason.
+#[inline(never)]
+pub(crate) fn fill<T: Listed>(r: &[u8], b: u8, room: &mut [T]) -> usize
+    ensures { (result ≤ length room.new) × (length room.new ≡ length room.old) }
+{
     let c = layout_of(r, b);
-    let mut room = Vec::new(alloc);
-    for i in 0..places(c, ROOM) {
-        room.push(T::value(r, came(c, i)))?;
+    let n = places(c, room.len());
+    for i in 0..n {
+        room[i as usize] = T::value(r, came(c, i));
     }
-    Ok(room)
+    n as usize
 }
 
 // Whether each place of buffer b is left as the record says.
 pub(crate) fn same<T: Listed>(r: &[u8], b: u8, room: &[T]) -> bool {
     let c = layout_of(r, b);
-    (0..places(c, ROOM))
-        .zip(room)
-        .all(|(i, v)| *v == T::value(r, left(c, i)))
+    let mut same = true;
+    for (i, v) in (0..places(c, ROOM)).zip(room) {
+        same = same & (*v == T::value(r, left(c, i)));
+    }
+    same
 }

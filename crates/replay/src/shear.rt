@@ -1,10 +1,9 @@
 // Replays calls of resolve_divisor_32, get_shear_params and set_affine_mv2d.
 ghost use Rattle.std.specs.Prelude.{◌≤◌};
 
-use crate::list::{UNSET, int, is_due, short, word};
-use crate::rooms::filled;
+use crate::list::{ROOM, UNSET, int, is_due, short, word};
+use crate::rooms::fill;
 use blocks::shear::{hv_get_shear_params, hv_resolve_divisor_32, hv_set_affine_mv2d};
-use std::alloc::{AllocError, Global};
 
 // A matrix whose first entry is number k.
 fn matrix_at(r: &[u8], k: u8) -> [i32; 6]
@@ -20,23 +19,27 @@ fn matrix_at(r: &[u8], k: u8) -> [i32; 6]
     ]
 }
 
-pub(crate) fn resolve_divisor_32(alloc: Global, r: &[u8]) -> Result<bool, AllocError> {
-    let recip: Vec<u16> = filled(alloc, r, 0)?;
+#[inline(never)]
+pub(crate) fn resolve_divisor_32(r: &[u8]) -> bool {
+    let mut recip = [0; ROOM];
+    let n = fill(r, 0, &mut recip);
     let mut y = UNSET;
     let mut shift = UNSET;
-    let number = hv_resolve_divisor_32(word(r, 0), &recip, &mut y, &mut shift);
-    Ok(is_due(r, number) & (y == int(r, 1)) & (shift == int(r, 2)))
+    let number = hv_resolve_divisor_32(word(r, 0), &recip[..n], &mut y, &mut shift);
+    is_due(r, number) & (y == int(r, 1)) & (shift == int(r, 2))
 }
 
-pub(crate) fn get_shear_params(alloc: Global, r: &[u8]) -> Result<bool, AllocError> {
+#[inline(never)]
+pub(crate) fn get_shear_params(r: &[u8]) -> bool {
     let mut matrix = matrix_at(r, 0);
     let mut abcd = [short(r, 6), short(r, 7), short(r, 8), short(r, 9)];
     let mut affine = int(r, 10);
-    let recip: Vec<u16> = filled(alloc, r, 0)?;
-    let number = hv_get_shear_params(&mut matrix, &mut abcd, &mut affine, &recip);
+    let mut recip = [0; ROOM];
+    let n = fill(r, 0, &mut recip);
+    let number = hv_get_shear_params(&mut matrix, &mut abcd, &mut affine, &recip[..n]);
     let shears = [short(r, 17), short(r, 18), short(r, 19), short(r, 20)];
     let record = (matrix == matrix_at(r, 11)) & (abcd == shears);
-    Ok(is_due(r, number) & record & (affine == int(r, 21)))
+    is_due(r, number) & record & (affine == int(r, 21))
 }
 
 pub(crate) fn set_affine_mv2d(r: &[u8]) -> bool {

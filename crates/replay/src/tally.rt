@@ -40,15 +40,19 @@ pub(crate) fn count(tally: &mut [u32; 141], id: u16, accepted: bool, same: bool)
     count_at(tally, 138, accepted, same);
 }
 
+// A line is written in three parts: the name, the set, the counts.
 fn print_line<T: Display>(
     rt: &impl Print,
     name: &T,
+    set: &str,
     accepted: u32,
     refused: u32,
     differ: u32,
 ) -> io::Result<()> {
+    print!(rt; "{name}")?;
+    print!(rt; "{set} ")?;
     let calls = u64::from(accepted) + u64::from(refused);
-    println!(rt; "{name} {calls} calls, {accepted} accepted, {refused} refused, {differ} differ")
+    println!(rt; "{calls} calls, {accepted} accepted, {refused} refused, {differ} differ")
 }
 
 // A line for each function in the list's order, then one for all calls.
@@ -56,10 +60,17 @@ pub(crate) fn print_all(rt: &impl Print, tally: &[u32; 141]) -> io::Result<()> {
     for id in 1..46 {
         if let Ok(called) = Called::try_from(id) {
             let k = 3 * (id as usize);
-            print_line(rt, &called, tally[k], tally[k + 1], tally[k + 2])?;
+            print_line(
+                rt,
+                &called,
+                called.set(),
+                tally[k],
+                tally[k + 1],
+                tally[k + 2],
+            )?;
         }
     }
-    print_line(rt, &"all", tally[138], tally[139], tally[140])
+    print_line(rt, &"all", "", tally[138], tally[139], tally[140])
 }
 
 pub(crate) fn print_end(rt: &impl Print, bad: u32, sum: u32) -> io::Result<()> {

@@ -136,7 +136,7 @@ impl Pixel for u8 {
     ghost near_ok = { bytes_sums.NearOk };
 
     fn to_u32(self) -> u32 {
-        self as u32
+        self as u32 // a byte
     }
 
     fn from_u32(v: u32) -> u8 {
@@ -223,7 +223,7 @@ impl Pixel for u16 {
     ghost near_ok = { words_sums.NearOk };
 
     fn to_u32(self) -> u32 {
-        self as u32
+        self as u32 // sixteen bits
     }
 
     fn from_u32(v: u32) -> u16 {

@@ -1,6 +1,6 @@
 -- Demand 3 of callers who fetch by one call and predict by another: as one law of any kernel, then of each C function that copies or filters by 8-tap or
--- bilinear, called on what hv_window or hv_emu_edge of its set fetched. The premises are the functions' contracts (`Told` has them word for word) of each
--- call, each answering 0. Assumes nothing.
+-- bilinear, called on what hv_window or hv_emu_edge of its set fetched. The premises are the functions' contracts (Told/Fetch of blocks_c has them word for
+-- word) of each call, each answering 0. Assumes nothing.
 use mathlib.Core.Path.{◌≡◌, refl}
 use mathlib.Core.Bool.{true}
 use mathlib.Core.List.{List}
@@ -57,32 +57,32 @@ abbrev pub bytes : LentPlane → Tables → Setting
 bytes p t = record { deep = true; depth = 8; lent = p; tables = t }
 
 module _ (p : LentPlane) (t : Tables) (depth : ℤ) where
-  -- hv_put
+  -- hv_put_16bpc
   pub fetch_cut_put_16bpc : PutLaw (words p t depth) Copy put_kernel
   unfolding unwarped
   fetch_cut_put_16bpc = fetch_cut_put (words p t depth) Copy refl put_kernel (put_tells (words p t depth))
 
-  -- hv_prep
+  -- hv_prep_16bpc
   pub fetch_cut_prep_16bpc : PrepLaw (words p t depth) Copy (prep_kernel (words p t depth))
   unfolding unwarped
   fetch_cut_prep_16bpc = fetch_cut_prep (words p t depth) Copy refl (prep_kernel (words p t depth)) (prep_tells (words p t depth))
 
-  -- hv_put_8tap
+  -- hv_put_8tap_16bpc
   pub fetch_cut_put_8tap_16bpc : (m : SubpelMotion) → PutLaw (words p t depth) (Subpel m) (put8_kernel (words p t depth) m)
   unfolding unwarped
   fetch_cut_put_8tap_16bpc m = fetch_cut_put (words p t depth) (Subpel m) refl (put8_kernel (words p t depth) m) (put8_tells (words p t depth) m)
 
-  -- hv_prep_8tap
+  -- hv_prep_8tap_16bpc
   pub fetch_cut_prep_8tap_16bpc : (m : SubpelMotion) → PrepLaw (words p t depth) (Subpel m) (prep8_kernel (words p t depth) m)
   unfolding unwarped
   fetch_cut_prep_8tap_16bpc m = fetch_cut_prep (words p t depth) (Subpel m) refl (prep8_kernel (words p t depth) m) (prep8_tells (words p t depth) m)
 
-  -- hv_put_bilin
+  -- hv_put_bilin_16bpc
   pub fetch_cut_put-bilin_16bpc : (m : BilinMotion) → PutLaw (words p t depth) (Bilinear m) (put_bilin_kernel (words p t depth) m)
   unfolding unwarped
   fetch_cut_put-bilin_16bpc m = fetch_cut_put (words p t depth) (Bilinear m) refl (put_bilin_kernel (words p t depth) m) (put-bilin_tells (words p t depth) m)
 
-  -- hv_prep_bilin
+  -- hv_prep_bilin_16bpc
   pub fetch_cut_prep-bilin_16bpc : (m : BilinMotion) → PrepLaw (words p t depth) (Bilinear m) (prep_bilin_kernel (words p t depth) m)
   unfolding unwarped
   fetch_cut_prep-bilin_16bpc m = fetch_cut_prep (words p t depth) (Bilinear m) refl (prep_bilin_kernel (words p t depth) m) (prep-bilin_tells (words p t depth) m)

@@ -1,5 +1,5 @@
 -- The premises at work: a bilinear block across the left border of a plane of twenty different pixels, cut into four, each rectangle fetched in its own way
--- and then predicted by hv_put_bilin_8bpc, or by hv_prep_bilin at 10 bits, with the pixels worked out. Assumes nothing.
+-- and then predicted by hv_put_bilin_8bpc, or by hv_prep_bilin_16bpc at 10 bits, with the pixels worked out. Assumes nothing.
 use mathlib.Core.Path.{◌≡◌, refl}
 use mathlib.Core.Bool.{false}
 use mathlib.Core.Logic.{inl, inr}
@@ -157,7 +157,7 @@ block : fill d0 5 4 3 (block_put (bytes lent none) (Bilinear motion) x y 4 3) �
 unfolding put_picture put_rule plane_side before endless around_at fill fill_in paint in_block row_of row_from bilin R along bilin_mid put_bilin low16
 block = refl
 
--- ---- run as prep, by hv_prep_bilin at 10 bits, each into a tmp of its own
+-- ---- run as prep, by hv_prep_bilin_16bpc at 10 bits, each into a tmp of its own
 abbrev ten : Setting
 ten = words lent none (pos 10)
 

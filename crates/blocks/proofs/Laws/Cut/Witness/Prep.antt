@@ -98,7 +98,7 @@ unfolding row_of row_from prep_call
 ran t block k =
     each_both _ _ _ (cases.rects t) (λ r e l. (prep_call (cases.setting t) (cases.block t) r scratch (zeros r) e, l)) k.accepted k.runs
 
--- calls of hv_order_prep, and of hv_order_prep_8bpc
+-- calls of hv_order_prep_16bpc, and of hv_order_prep_8bpc
 abbrev pub Called16 : cases.Case → List ℤ → Type 0
 Called16 t block =
     Each

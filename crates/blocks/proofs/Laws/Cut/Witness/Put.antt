@@ -96,7 +96,7 @@ pub runs : (t : cases.Case) (left : List ℕ) → Computed t left
     → Ran (cases.setting t) (cases.block t) t.stride (cases.rects t) (cases.before t) left
 runs t left k = calls_ran (cases.setting t) (cases.block t) t.stride (cases.rects t) (cases.before t) left (ran t left k)
 
--- calls of hv_order_put, and of hv_order_put_8bpc
+-- calls of hv_order_put_16bpc, and of hv_order_put_8bpc
 abbrev pub Called16 : cases.Case → List ℕ → Type 0
 Called16 t left =
     PutCalls (functions.put16 (pos t.depth) 2 2 false false 0 (shades t.m) 2 t.kind (pos t.mx) (pos t.my) none none none none none odd [] [])
