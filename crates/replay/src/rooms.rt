@@ -33,7 +33,7 @@ impl Listed for i8 {
 }
 
 // Fills the first places of a room with what buffer b comes with, and answers how many. A function of its own, so that many places of one value are filled
-// some at a time; nor does `same` end at the first that differs, for the same reason.
+// some at a time.
 #[inline(never)]
 pub(crate) fn fill<T: Listed>(r: &[u8], b: u8, room: &mut [T]) -> usize
     ensures { (result ≤ length room.new) × (length room.new ≡ length room.old) }
@@ -46,11 +46,12 @@ pub(crate) fn fill<T: Listed>(r: &[u8], b: u8, room: &mut [T]) -> usize
     n as usize
 }
 
-// Whether each place of buffer b is left as the record says.
+// Whether the room has each place of buffer b, left as the record says. It looks at all, so that many places of one value are compared some at a time.
 pub(crate) fn same<T: Listed>(r: &[u8], b: u8, room: &[T]) -> bool {
     let c = layout_of(r, b);
-    let mut same = true;
-    for (i, v) in (0..places(c, ROOM)).zip(room) {
+    let n = places(c, ROOM);
+    let mut same = n as usize <= room.len();
+    for (i, v) in (0..n).zip(room) {
         same = same & (*v == T::value(r, left(c, i)));
     }
     same
